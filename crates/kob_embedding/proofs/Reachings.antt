@@ -1,15 +1,15 @@
 -- What a journal and the calls of two lines say of an inbox.
-use Rattle.kob_embedding.proofs.Words.{ArePrivate, AreServed, Call, Entry, Event, HasRun, IsDelivered, IsLegal, IsReaderRun, IsServiceRun, List, Place, ReachesInOrder, ReaderLeft, Retained, ServiceLeft, Settings, State, Subscription, arith, holds_a_prefix, legal_is_history, nat_tests, opened_by, served_to, state_of, subst, sym, view_after, ℕ, ◌≡◌}
+use Rattle.kob_embedding.proofs.Words.{ArePrivate, AreServed, Call, Entry, Event, HasRun, ReachesReader, IsLegal, IsReaderRun, IsSenderRun, List, Place, ReachesInOrder, ReaderLeft, Retained, ServiceLeft, Settings, State, Subscription, arith, holds_a_prefix, legal_is_history, nat_tests, opened_by, served_to, state_of, subst, sym, view_after, ℕ, ◌≡◌}
 use Rattle.kob_router.specs.Tick as router
 
 pub delivered : (opening : Settings) (journal : List Entry) (now : State Retained) (s : ServiceLeft) (r : ReaderLeft)
     → IsLegal (opened_by opening) journal now
     → AreServed s.calls (served_to s.worker journal) → AreServed r.calls (served_to r.worker journal)
     → ArePrivate s.worker r.worker r.fetcher.subscription.group r.fetcher.subscription.assignment journal
-    → HasRun s.relayed s.calls → IsReaderRun r.fetcher r.inbox r.calls → IsDelivered s r
+    → HasRun s.relayed s.calls → IsReaderRun r.fetcher r.inbox r.calls → ReachesReader s r
 delivered opening journal now s r legal sent taken private ran read = record {
   recorded = ran;
-  reaches = λ (rows : List Event) (kind id : List ℕ) (one : IsServiceRun s.relayed s.calls rows).
+  reaches = λ (rows : List Event) (kind id : List ℕ) (one : IsSenderRun s.relayed s.calls rows).
       subst (λ (all : List Event). ReachesInOrder all r.inbox kind id) (sym one.recorded)
       (holds_a_prefix s.relayed.router.target r.fetcher.subscription s.worker r.worker journal (view_after opening journal)
       one.moves (router.state_of s.relayed.router s.relayed.outbox) read.moves (state_of r.fetcher r.inbox) kind id

@@ -1,12 +1,11 @@
 -- What becomes of the runs of a service and of a consumer.
-use Rattle.kob_embedding.proofs.Words.{Call, Change, Err, Event, Fetcher, HasConsumerRun, HasRun, HasServiceRun, IsReaderRun, IsServiceRun, IsTick, List, None, Ok, OnErr, OnOk, OutboxEvent, RecordFault, RecordsNoRow, Relayed, Restarted, Result, Subscription, Target, Tick, [], after_record, arith, begins, dispatch_of, empty, false, first_bad, id_text, is_recorded, nat_tests, next_seq, records, scene_of, stored_event, subst, sym, ticks, ℕ, ◌++◌, ◌<◌, ◌^◌, ◌∷◌, ◌≡◌}
+use Rattle.kob_embedding.proofs.Words.{Call, Change, Err, Event, Fetcher, HasConsumerRun, HasRun, HasServiceRun, IsReaderRun, IsSenderRun, IsTick, List, None, Ok, OnErr, OnOk, OutboxEvent, RecordFault, RecordsNoRow, Relayed, Restarted, Result, Subscription, Target, Tick, [], after_record, arith, dispatch_of, empty, false, first_bad, id_text, is_recorded, nat_tests, next_seq, records, scene_of, stored_event, subst, sym, ticks, ℕ, ◌++◌, ◌<◌, ◌^◌, ◌∷◌, ◌≡◌}
 use Rattle.kob_router.specs.Tick.{state_of}
 use Rattle.kob_inbox.specs.Contents.{Contents as Inbox}
 use Rattle.kob_inbox.specs.Run as consumer
 use Rattle.kob_inbox.specs.Tick as taken
 use Rattle.kob_inbox.specs.declared.tick.Tick as taken_tick
 use Rattle.kob_lines.proofs.ConsumerCourses as consumer_courses
-use Rattle.kob_lines.proofs.ServiceCourses as service_courses
 
 -- a service begins
 
@@ -25,10 +24,10 @@ pub recorded : (old new : Relayed) (calls : List Call) (change : Change) (event 
     → new ≡ record old { outbox = after_record old.outbox change event }
     → first_bad change event ≡ None → is_recorded old.outbox.ids (id_text event.id) ≡ false
     → next_seq old.outbox < 2 ^ 63
-    → (rows : List Event) → IsServiceRun old calls rows
-    → IsServiceRun new calls (rows ++ stored_event (next_seq old.outbox) event ∷ [])
+    → (rows : List Event) → IsSenderRun old calls rows
+    → IsSenderRun new calls (rows ++ stored_event (next_seq old.outbox) event ∷ [])
 recorded old new calls change event is fits fresh room rows was =
-    subst (λ (r : Relayed). IsServiceRun r calls (rows ++ stored_event (next_seq old.outbox) event ∷ [])) (sym is)
+    subst (λ (r : Relayed). IsSenderRun r calls (rows ++ stored_event (next_seq old.outbox) event ∷ [])) (sym is)
     (records (dispatch_of old.router.target) (state_of old.router old.outbox) calls rows change event was
     (record { fits = fits; fresh = fresh; room = room }))
 
@@ -52,8 +51,8 @@ pub rows_of_a_record : (old new : Relayed) (calls : List Call) (change : Change)
     → OnOk result (first_bad change event ≡ None)
     → OnOk result (is_recorded old.outbox.ids (id_text event.id) ≡ false)
     → OnOk result (next_seq old.outbox < 2 ^ 63)
-    → OnOk result ((rows : List Event) → IsServiceRun old calls rows
-    → IsServiceRun new calls (rows ++ stored_event (next_seq old.outbox) event ∷ []))
+    → OnOk result ((rows : List Event) → IsSenderRun old calls rows
+    → IsSenderRun new calls (rows ++ stored_event (next_seq old.outbox) event ∷ []))
 rows_of_a_record old new calls change event (Ok seq) ok fits fresh room =
     recorded old new calls change event ok fits fresh room
 rows_of_a_record old new calls change event (Err fault) ok fits fresh room = tt

@@ -1,7 +1,6 @@
 -- The names that the lemmas cite, passed on from one place.
 pub use Rattle.kob_broker.specs.State.{State}
-pub use Rattle.kob_embedding.specs.Running.{HasRun, IsDelivered, IsReaderRun, IsServiceRun, ReaderLeft, RecordsNoRow, ServiceLeft}
-pub use Rattle.kob_embedding.specs.Serving.{IsNext, Serves}
+pub use Rattle.kob_embedding.specs.Running.{HasRun, ReachesReader, IsReaderRun, IsSenderRun, ReaderLeft, RecordsNoRow, ServiceLeft, IsNext, Serves}
 pub use Rattle.kob_inbox.specs.Rows.{placed_intake}
 pub use Rattle.kob_inbox.specs.Run.Move.{Restarted}
 pub use Rattle.kob_inbox.specs.Tick.{state_of}
@@ -9,9 +8,8 @@ pub use Rattle.kob_inbox.specs.declared.fetcher.Fetcher.{Fetcher}
 pub use Rattle.kob_inbox.specs.declared.fetcher.Subscription.{Subscription}
 pub use Rattle.kob_lines.proofs.ConsumerCourses.{begins}
 pub use Rattle.kob_lines.proofs.ServiceCourses.{records, ticks}
-pub use Rattle.kob_lines.specs.ConsumerCourse.{HasConsumerRun}
-pub use Rattle.kob_lines.specs.Relayed.{IsTick, Relayed}
-pub use Rattle.kob_lines.specs.ServiceCourse.{HasServiceRun}
+pub use Rattle.kob_lines.specs.Calls.{served_in}
+pub use Rattle.kob_lines.specs.Relayed.{HasConsumerRun, HasServiceRun, IsTick, Relayed}
 pub use Rattle.kob_names.specs.declared.settings.Settings.{Settings}
 pub use Rattle.kob_outbox.specs.Contents.{Contents, Event, empty}
 pub use Rattle.kob_outbox.specs.Events.{id_text, stored_event}
@@ -22,11 +20,11 @@ pub use Rattle.kob_outbox.specs.declared.event.OutboxEvent.{OutboxEvent}
 pub use Rattle.kob_outbox.specs.declared.fault.RecordFault.{RecordFault}
 pub use Rattle.kob_partition.specs.Retained.{Retained}
 pub use Rattle.kob_pipeline.proofs.BrokerSteps.{legal_is_history}
-pub use Rattle.kob_pipeline.proofs.DeliveryLaws.{holds_a_prefix}
-pub use Rattle.kob_pipeline.specs.BrokerView.{view_after}
+pub use Rattle.kob_pipeline.proofs.PlanLaws.{holds_a_prefix}
+pub use Rattle.kob_pipeline.specs.Delivery.{ReachesInOrder}
 pub use Rattle.kob_pipeline.specs.Premises.{ArePrivate}
-pub use Rattle.kob_pipeline.specs.Reaching.{ReachesInOrder}
-pub use Rattle.kob_pipeline.specs.Served.{served_in, served_to}
+pub use Rattle.kob_pipeline.specs.Served.{served_to}
+pub use Rattle.kob_pipeline.specs.View.{view_after}
 pub use Rattle.kob_router.specs.Dispatches.{dispatch_of}
 pub use Rattle.kob_router.specs.Served.{AreServed}
 pub use Rattle.kob_router.specs.Tick.{scene_of}
@@ -35,8 +33,7 @@ pub use Rattle.kob_router.specs.declared.line.Call.{Call}
 pub use Rattle.kob_router.specs.declared.place.Place.{Place}
 pub use Rattle.kob_router.specs.declared.sender.Sender.{Sender}
 pub use Rattle.kob_router.specs.declared.tick.Tick.{Tick}
-pub use Rattle.kob_shared.specs.Journals.{IsLegal, events_of}
-pub use Rattle.kob_shared.specs.Openings.{opened_by}
+pub use Rattle.kob_shared.specs.Journals.{IsLegal, events_of, opened_by}
 pub use Rattle.kob_shared.specs.declared.journal.Entry.{Entry}
 pub use Rattle.std.proofs.Common.{List, [], ap, arith, drop, false, get_or, length, refl, rules, subst, suc, sym, take, true, zero, ℕ, ◌++◌, ◌+◌, ◌<◌, ◌==◌, ◌^◌, ◌∙◌, ◌∷◌, ◌≡◌, ◌≤◌}
 pub use Rattle.std.proofs.lemmas.Bool.{eq-eqb, ne_eqb}

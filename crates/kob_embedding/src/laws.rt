@@ -4,10 +4,8 @@ ghost use Rattle.std.specs.Prelude.{List};
 ghost use Rattle.kob_broker.specs.State.{State};
 ghost use Rattle.kob_names.specs.declared.settings.Settings.{Settings};
 ghost use Rattle.kob_partition.specs.Retained.{Retained};
-ghost use Rattle.kob_pipeline.specs.BrokerView.{view_after};
-ghost use Rattle.kob_pipeline.specs.View.{IsHistory, opening_view};
-ghost use Rattle.kob_shared.specs.Journals.{IsLegal};
-ghost use Rattle.kob_shared.specs.Openings.{opened_by};
+ghost use Rattle.kob_pipeline.specs.View.{view_after, IsHistory, opening_view};
+ghost use Rattle.kob_shared.specs.Journals.{IsLegal, opened_by};
 ghost use Rattle.kob_shared.specs.declared.journal.Entry.{Entry};
 
 /// A legal journal is a history of what the laws of delivery see: of each partition all batches

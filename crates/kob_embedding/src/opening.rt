@@ -1,9 +1,7 @@
 //! A broker with its journal that has served its first events.
 
 ghost use Rattle.std.specs.Prelude.{◌≡◌, ◌≤◌, ◌++◌, IfOk, OnOk};
-ghost use Rattle.kob_shared.specs.Journals.{events_of};
-ghost use Rattle.kob_shared.specs.Limits.{entry_limit};
-ghost use Rattle.kob_shared.specs.Openings.{IsFresh};
+ghost use Rattle.kob_shared.specs.Journals.{events_of, entry_limit, IsFresh};
 
 use kob_broker::{Broker, OpenFault, Settings};
 use kob_lines::ProgramFault;

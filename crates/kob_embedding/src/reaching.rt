@@ -1,7 +1,7 @@
 //! The law of delivery of a service and a consumer without a plan.
 
 ghost use Rattle.std.specs.Prelude.{IsTrue};
-ghost use Rattle.kob_embedding.specs.Running.{IsDelivered};
+ghost use Rattle.kob_embedding.specs.Running.{ReachesReader};
 
 use crate::consumer_end::ConsumerEnd;
 use crate::laws::a_legal_journal_is_a_history;
@@ -15,7 +15,7 @@ use kob_shared::Recorded;
 /// events that the service recorded. They are in their order, each once, with its row's key and
 /// value.
 pub fn reaches_in_order(recorded: &Recorded, sent: &ServiceEnd, taken: &ConsumerEnd) -> bool
-    ensures { IsTrue result → IsDelivered sent.now taken.now }
+    ensures { IsTrue result → ReachesReader sent.now taken.now }
 {
     let journal = recorded.journal();
     let sender = sent.part();

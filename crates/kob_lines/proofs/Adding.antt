@@ -1,5 +1,6 @@
 -- One call of a line.
-use Rattle.kob_lines.proofs.Words.{All-cons, All-nil, Call, Delivered, Delivery, GainsAtMost, IsEntryOf, IsHeardOf, IsServedAtMostOnce, IsServedIfHeard, IsServedInSession, Journals, KeepsSeat, List, Loss, Lost, None, Option, PassesCallsOn, PassesOn, Record, Reply, Request, Seat, Some, [], after_event, ap, append-nil, arith, entry, event_by, inl, inr, nat_tests, outcome_of, refl, reply_of, sym, ℕ, ◌++◌, ◌+◌, ◌∙◌, ◌∷◌, ◌≡◌, ◌⊎◌}
+use Rattle.kob_lines.proofs.Words.{All-cons, All-nil, Call, Delivered, Delivery, Event, Fits, GainsAtMost, IsEntryOf, IsHeardOf, IsServedAtMostOnce, IsServedIfHeard, IsServedInSession, Journals, KeepsSeat, List, Loss, Lost, None, Option, PassesCallsOn, PassesOn, Record, Reply, Request, Retained, Seat, Settings, Some, [], after_event, ap, append-nil, arith, entry, event_by, false, inl, inr, nat_tests, outcome_of, refl, reply_fits, reply_of, retained_meaning, step, sym, ℕ, ◌++◌, ◌+◌, ◌∙◌, ◌∷◌, ◌≡◌, ◌⊎◌}
+use Rattle.kob_broker.specs.State.{State}
 use Rattle.kob_lines.specs.declared.lossy.Loss.TheVariants as losses
 
 -- ---- in a journal
@@ -99,3 +100,23 @@ pub heard_keeps_seat : (before now : Seat) (request : Request) (heard : Option R
     → IsServedInSession before now request heard → KeepsSeat before now
 heard_keeps_seat before now request (Some reply) served = grind (arith, nat_tests)
 heard_keeps_seat before now request None served = grind (arith, nat_tests)
+
+-- What is heard in a session.
+
+-- a reply that is there may go unheard
+pub heard_in_session : (before now : Seat) (request : Request) (there : Option Reply) (delivery : Delivery)
+    → IsServedInSession before now request there → IsHeardOf there delivery
+    → IsServedInSession before now request (reply_of delivery)
+heard_in_session before now request there (Delivered reply) served is = grind (arith, nat_tests)
+heard_in_session before now request None Lost served is = served
+heard_in_session before now request (Some reply) Lost served is = grind (arith, nat_tests)
+
+-- A reply fits its request, whatever state a broker is in.
+
+no_settings : Settings
+no_settings = record { supers = []; opening = []; everyone = false }
+
+pub step_fits : (s : State Retained) (event : Event) (reply : Reply) → reply ≡ (step retained_meaning s event).reply
+    → Fits event.request reply
+step_fits s event reply is =
+    let r : Record = record { opening = no_settings; limit = 0; journal = []; broker = s } in reply_fits r event reply is

@@ -7,7 +7,7 @@ pub joined : (t : Subscription) (one two : List Move) (old middle new : State) �
 joined t [] two old middle new first next = subst (λ (s : State). IsConsumerRun t s two new) first next
 joined t (m ∷ ms) two old middle new first next = (first.0, joined t ms two (after t old m) middle new first.1 next)
 
-calls_joined : (one two : List Move) → calls_of (one ++ two) ≡ calls_of one ++ calls_of two
+pub calls_joined : (one two : List Move) → calls_of (one ++ two) ≡ calls_of one ++ calls_of two
 calls_joined [] two = refl
 calls_joined (Restarted ∷ ms) two = calls_joined ms two
 calls_joined (Called call count ∷ ms) two = ap (λ (calls : List Call). call ∷ calls) (calls_joined ms two)

@@ -6,7 +6,7 @@ first_stays : (xs ys : List Event) (x : Event) → slice_get xs 0 ≡ Some x →
 first_stays [] ys x first = cc
 first_stays (y ∷ xs) ys x first = first
 
-first_recorded : (hand : Option Hand) (c : Contents) (change : Change) (event : OutboxEvent) → IsFirst hand c
+pub first_recorded : (hand : Option Hand) (c : Contents) (change : Change) (event : OutboxEvent) → IsFirst hand c
     → IsFirst hand (after_record c change event)
 first_recorded None c change event first = tt
 first_recorded (Some hand) c change event first = grind (arith, nat_tests, filter-append, first_stays)
@@ -15,7 +15,7 @@ first_of_one : (xs : List Event) → slice_get xs 0 ≡ slice_get (take 1 xs) 0
 first_of_one [] = refl
 first_of_one (x ∷ xs) = refl
 
-first_swept : (hand : Option Hand) (c : Contents) → IsFirst hand c → IsFirst hand (without_sent c.mark c)
+pub first_swept : (hand : Option Hand) (c : Contents) → IsFirst hand c → IsFirst hand (without_sent c.mark c)
 first_swept None c first = tt
 first_swept (Some hand) c first =
     grind (

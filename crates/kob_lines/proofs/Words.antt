@@ -6,12 +6,9 @@ pub use Rattle.kob_inbox.specs.Run.Move.{Called, Restarted}
 pub use Rattle.kob_inbox.specs.Tick.{Scene, Ticks}
 pub use Rattle.kob_inbox.specs.declared.fetcher.Subscription.{Subscription}
 pub use Rattle.kob_inbox.specs.declared.tick.Tick.{Tick}
-pub use Rattle.kob_lines.specs.Becoming.{IsEntryOf, Journals, KeepsSeat, PassesCallsOn}
-pub use Rattle.kob_lines.specs.ConsumerCourse.{HasConsumerRun}
-pub use Rattle.kob_lines.specs.Heard.{GainsAtMost, IsHeardOf, IsServedAtMostOnce, IsServedIfHeard, IsServedInSession, PassesOn, reply_of}
+pub use Rattle.kob_lines.specs.Calls.{GainsAtMost, IsEntryOf, IsHeardOf, IsServedAtMostOnce, IsServedIfHeard, IsServedInSession, Journals, KeepsSeat, PassesCallsOn, PassesOn, reply_of}
 pub use Rattle.kob_lines.specs.Joined.{no_call_is_journaled, no_call_is_passed_on}
-pub use Rattle.kob_lines.specs.Relayed.{HoldsFirst, IsSomeSweep, Relayed}
-pub use Rattle.kob_lines.specs.ServiceCourse.{HasServiceRun}
+pub use Rattle.kob_lines.specs.Relayed.{HasConsumerRun, HasServiceRun, HoldsFirst, IsSomeSweep, Relayed}
 pub use Rattle.kob_lines.specs.declared.lossy.Loss.{Loss}
 pub use Rattle.kob_names.specs.declared.settings.Settings.{Settings}
 pub use Rattle.kob_outbox.proofs.Lawful.{swept_waits}
@@ -36,7 +33,7 @@ pub use Rattle.kob_router.specs.Tick.{IsFirst, IsOfTick, IsOneTick}
 pub use Rattle.kob_router.specs.declared.line.Call.{Call}
 pub use Rattle.kob_router.specs.declared.line.Delivery.{Delivery}
 pub use Rattle.kob_router.specs.declared.line.Delivery.TheVariants.{Delivered, Lost}
-pub use Rattle.kob_shared.proofs.Bodies.{reply_fits}
+pub use Rattle.kob_shared.proofs.Journals.{reply_fits}
 pub use Rattle.kob_shared.specs.Journals.{Record, after_event, entry, outcome_of}
 pub use Rattle.kob_shared.specs.Sessions.{Seat, event_by}
 pub use Rattle.std.proofs.Common.{List, None, Option, Some, [], ap, append-nil, arith, false, inl, inr, length, refl, subst, sym, take, true, ℕ, ◌++◌, ◌+◌, ◌∙◌, ◌∷◌, ◌≡◌, ◌⊎◌}

@@ -1,29 +1,22 @@
 -- Calls after calls of a line.
-use Rattle.std.proofs.Common.{◌≡◌, ℕ, List, [], ◌∷◌, ◌++◌, inl, inr, map, refl, sym, ap, ◌∙◌, subst, append_assoc, append-nil, arith}
+use Rattle.std.proofs.Common.{◌≡◌, ℕ, List, [], ◌∷◌, ◌++◌, map, refl, sym, ap, ◌∙◌, subst, append_assoc, append-nil, arith}
+use Rattle.std.proofs.lemmas.Bool.Decides.{nat_tests}
 use Rattle.std.proofs.lemmas.List.{map-append}
 use Rattle.std.proofs.lemmas.List.Elements.{All-append, All-nil}
 use Rattle.kob_router.specs.Served.{AreServed, Served}
 use Rattle.kob_router.specs.declared.line.Call.{Call}
 use Rattle.kob_shared.specs.Journals.{Record}
 use Rattle.kob_shared.specs.Sessions.{Seat}
-use Rattle.kob_lines.specs.Becoming.{ArePassedOn, IsEntryOf, Journals, KeepsSeat, PassesCallsOn, served_in}
+use Rattle.kob_lines.specs.Calls.{ArePassedOn, IsEntryOf, Journals, KeepsSeat, PassesCallsOn, served_in}
 
 pub served_append : (xs ys : List Call) (ss ts : List Served) → AreServed xs ss → AreServed ys ts
     → AreServed (xs ++ ys) (ss ++ ts)
-served_append [] ys [] ts one two = two
-served_append [] ys (s ∷ ss) ts one two = absurd one
-served_append (x ∷ xs) ys [] [] one two = (one.0, served_append xs ys [] [] one.1 two)
-served_append (x ∷ xs) ys [] (t ∷ ts) one two = inl (one.0, served_append xs ys [] (t ∷ ts) one.1 two)
-served_append (x ∷ xs) ys (s ∷ ss) ts (inl one) two = inl (one.0, served_append xs ys (s ∷ ss) ts one.1 two)
-served_append (x ∷ xs) ys (s ∷ ss) ts (inr one) two = inr (one.0, one.1, served_append xs ys ss ts one.2 two)
+served_append [] ys ss ts one two = grind (arith, nat_tests)
+served_append (x ∷ xs) ys ss ts one two = grind (arith, nat_tests, served_append xs ys)
 
 passed_append : (xs ys bs cs : List Call) → ArePassedOn xs bs → ArePassedOn ys cs → ArePassedOn (xs ++ ys) (bs ++ cs)
-passed_append [] ys [] cs one two = two
-passed_append [] ys (b ∷ bs) cs one two = absurd one
-passed_append (x ∷ xs) ys [] [] one two = (one.0, passed_append xs ys [] [] one.1 two)
-passed_append (x ∷ xs) ys [] (c ∷ cs) one two = inl (one.0, passed_append xs ys [] (c ∷ cs) one.1 two)
-passed_append (x ∷ xs) ys (b ∷ bs) cs (inl one) two = inl (one.0, passed_append xs ys (b ∷ bs) cs one.1 two)
-passed_append (x ∷ xs) ys (b ∷ bs) cs (inr one) two = inr (one.0, one.1, passed_append xs ys bs cs one.2 two)
+passed_append [] ys bs cs one two = grind (arith, nat_tests)
+passed_append (x ∷ xs) ys bs cs one two = grind (arith, nat_tests, passed_append xs ys)
 
 -- more behind more
 abbrev pub added_append : {A : Type 0} (before xs ys mid now : List A) → mid ≡ before ++ xs → now ≡ mid ++ ys
@@ -101,15 +94,7 @@ calls_are_passed_on calls mid_calls then_calls below mid_below then_below one tw
 }
 
 pub seat_stays : (s : Seat) → KeepsSeat s s
-seat_stays s = record { worker = refl; principal = refl; host = refl; seen = omega arith }
+seat_stays s = grind (arith, nat_tests)
 
 pub seat_goes_on : (a b c : Seat) → KeepsSeat a b → KeepsSeat b c → KeepsSeat a c
-seat_goes_on a b c one two =
-    let first = one.seen in
-    let last = two.seen in
-    record {
-      worker = two.worker ∙ one.worker;
-      principal = two.principal ∙ one.principal;
-      host = two.host ∙ one.host;
-      seen = omega (arith, first, last);
-    }
+seat_goes_on a b c one two = grind (arith, nat_tests)

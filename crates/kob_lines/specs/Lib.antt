@@ -1,7 +1,4 @@
-pub mod Becoming
-pub mod Heard
+pub mod Calls
 pub mod Joined
 pub mod ProgramFaults
-pub mod ConsumerCourse
-pub mod ServiceCourse
 pub mod Relayed

@@ -13,8 +13,6 @@ use Rattle.kob_outbox.specs.declared.fault.OutboxFault.{OutboxFault}
 use Rattle.kob_outbox.specs.declared.fault.OutboxFault.TheVariants as of_outbox
 use Rattle.kob_inbox.specs.declared.fault.InboxFault.{InboxFault}
 use Rattle.kob_inbox.specs.declared.fault.InboxFault.TheVariants as of_inbox
-use Rattle.kob_shared.specs.declared.faults.ServeFault.{ServeFault}
-use Rattle.kob_shared.specs.declared.faults.ServeFault.TheVariants as of_serving
 use Rattle.kob_shared.specs.declared.faults.CallFault.{CallFault}
 use Rattle.kob_shared.specs.declared.faults.CallFault.TheVariants as of_call
 use Rattle.kob_lines.specs.declared.program_fault.ProgramFault.{ProgramFault}
@@ -48,10 +46,6 @@ fault_of_outbox of_outbox.Store = Store
 abbrev pub fault_of_inbox : InboxFault → ProgramFault
 fault_of_inbox of_inbox.Memory = Memory
 fault_of_inbox of_inbox.Store = Store
-
-abbrev pub fault_of_serving : ServeFault → ProgramFault
-fault_of_serving of_serving.Memory = Memory
-fault_of_serving of_serving.JournalFull = NotServed
 
 abbrev pub fault_of_call : CallFault → ProgramFault
 fault_of_call of_call.Memory = Memory

@@ -1,12 +1,17 @@
 -- An outbox, and the router that sends its rows.
 use Rattle.std.specs.Prelude.{◌≡◌, ℕ, List, length, option_map}
-use Rattle.kob_outbox.specs.Contents.{Contents}
+use Rattle.kob_outbox.specs.Contents.{Contents, Event, empty}
 use Rattle.kob_outbox.specs.Reading.{up_to}
-use Rattle.kob_router.specs.Dispatches.{dispatch_of}
+use Rattle.kob_router.specs.Dispatches.{dispatch_of, Dispatching}
 use Rattle.kob_router.specs.Tick.{IsFirst, IsOneTick, Ticks, hand_of, scene_of}
 use Rattle.kob_router.specs.declared.line.Call.{Call}
 use Rattle.kob_router.specs.declared.sender.Sender.{Sender}
 use Rattle.kob_router.specs.declared.tick.Tick.{Tick}
+use Rattle.kob_router.specs.Run.{IsRouterRun, events_of}
+use Rattle.kob_inbox.specs.declared.fetcher.Subscription.{Subscription}
+use Rattle.kob_inbox.specs.Run.{IsConsumerRun}
+use Rattle.kob_router.specs.Run as routers
+use Rattle.kob_inbox.specs.Run as consumers
 
 -- a router with its outbox
 pub record Relayed : Type 0 where
@@ -33,3 +38,18 @@ IsSomeTick calls then_calls unmade then_unmade tick =
 -- so many events of some outbox were sent
 abbrev pub IsSomeSweep : ℕ → Type 0
 IsSomeSweep count = (old : Contents) × (count ≡ length (up_to old.mark old.events))
+
+-- from an empty outbox and a new router on a run led to this state: it made these calls and recorded
+-- these rows, swept ones included
+pub record HasServiceRun (route : Dispatching) (state : routers.State) (calls : List Call) (rows : List Event)
+    : Type 0 where
+  pub moves : List routers.Move
+  pub run : IsRouterRun route routers.start moves state
+  pub made : calls ≡ routers.calls_of moves
+  pub recorded : rows ≡ events_of empty moves
+
+-- from an empty inbox and a new consumer on a run led to this state, and made these calls
+pub record HasConsumerRun (t : Subscription) (state : consumers.State) (calls : List Call) : Type 0 where
+  pub moves : List consumers.Move
+  pub run : IsConsumerRun t consumers.start moves state
+  pub made : calls ≡ consumers.calls_of moves

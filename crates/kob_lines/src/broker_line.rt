@@ -3,7 +3,7 @@
 ghost use Rattle.std.specs.Prelude.{◌≡◌, [], None, IfOk, OnErr, OnOk};
 ghost use Rattle.kob_broker.specs.Change.{state_of};
 ghost use Rattle.kob_broker.specs.Step.{step};
-ghost use Rattle.kob_lines.specs.Heard.{IsServedAtMostOnce};
+ghost use Rattle.kob_lines.specs.Calls.{IsServedAtMostOnce};
 ghost use Rattle.kob_partition.specs.Retained.{retained_meaning};
 ghost use Rattle.kob_rights.specs.Bodies.{Fits};
 ghost use Rattle.kob_router.specs.Line.{Adds, IsFaithful};

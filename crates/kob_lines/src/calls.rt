@@ -2,7 +2,7 @@
 
 ghost use Rattle.std.specs.Prelude.{◌≡◌, ◌<◌, [], ◌∷◌, ◌++◌, None, IfSome, IfNone, OnSome};
 ghost use Rattle.std.specs.Prelude.{vec_capacity, vec_len};
-ghost use Rattle.kob_lines.specs.Heard.{IsHeardOf, reply_of};
+ghost use Rattle.kob_lines.specs.Calls.{IsHeardOf, reply_of};
 ghost use Rattle.kob_rights.specs.Bodies.{Fits};
 ghost use Rattle.kob_rights.specs.Offsets.{OffsetsWithin};
 ghost use Rattle.kob_router.specs.Line.{Adds, IsFaithful, one_more};

@@ -1,7 +1,7 @@
 //! How a consumer's run continues. This function does nothing: its contract is the law.
 
 ghost use Rattle.std.specs.Prelude.{◌++◌, [], List};
-ghost use Rattle.kob_lines.specs.ConsumerCourse.{HasConsumerRun};
+ghost use Rattle.kob_lines.specs.Relayed.{HasConsumerRun};
 ghost use Rattle.kob_inbox.specs.Run.Move.{Restarted};
 ghost use Rattle.kob_inbox.specs.Run.{IsConsumerRun, Move, State, after, start};
 ghost use Rattle.kob_inbox.specs.Tick.{Scene, Ticks};

@@ -1,10 +1,9 @@
 //! A line that loses calls on purpose.
 
-ghost use Rattle.std.specs.Prelude.{◌≡◌, [], None};
-ghost use Rattle.std.specs.Prelude.{IfSome};
+ghost use Rattle.std.specs.Prelude.{◌≡◌, [], None, IfSome};
 ghost use Rattle.kob_rights.specs.Bodies.{Fits};
 ghost use Rattle.kob_rights.specs.Offsets.{OffsetsWithin};
-ghost use Rattle.kob_lines.specs.Heard.{PassesOn, reply_of};
+ghost use Rattle.kob_lines.specs.Calls.{PassesOn, reply_of};
 ghost use Rattle.kob_router.specs.Line.{Adds, IsFaithful};
 
 use crate::calls::Calls;
@@ -72,7 +71,7 @@ impl<L: Line> Lossy<L> {
 }
 
 impl<L: Line> Line for Lossy<L> {
-    ghost use Rattle.kob_lines.specs.Becoming.{PassesCallsOn};
+    ghost use Rattle.kob_lines.specs.Calls.{PassesCallsOn};
     ghost use Rattle.kob_lines.specs.Joined.{calls_are_passed_on, no_call_is_passed_on};
 
     ghost calls = { λ line. line.calls.made.items };

@@ -4,14 +4,14 @@ ghost use Rattle.std.specs.Prelude.{◌≡◌};
 ghost use Rattle.kob_lines.specs.declared.program_fault.ProgramFault.TheVariants.{Memory};
 ghost use Rattle.kob_lines.specs.ProgramFaults.{fault_of_call, fault_of_host, fault_of_inbox};
 ghost use Rattle.kob_lines.specs.ProgramFaults.{fault_of_opening, fault_of_outbox, fault_of_principal};
-ghost use Rattle.kob_lines.specs.ProgramFaults.{fault_of_record, fault_of_route, fault_of_serving};
+ghost use Rattle.kob_lines.specs.ProgramFaults.{fault_of_record, fault_of_route};
 
 use kob_broker::OpenFault;
 use kob_inbox::InboxFault;
 use kob_names::{HostFault, PrincipalFault};
 use kob_outbox::{OutboxFault, RecordFault};
 use kob_router::RouteFault;
-use kob_shared::{CallFault, ServeFault};
+use kob_shared::CallFault;
 use std::alloc::{AllocError, AllocFailed};
 use std::io;
 use thiserror::Error;
@@ -133,17 +133,6 @@ impl From<InboxFault> for ProgramFault {
         match fault {
             InboxFault::Memory => ProgramFault::Memory,
             InboxFault::Store => ProgramFault::Store,
-        }
-    }
-}
-
-impl From<ServeFault> for ProgramFault {
-    ghost from_gives = { λ given fault. fault ≡ fault_of_serving given };
-
-    fn from(fault: ServeFault) -> ProgramFault {
-        match fault {
-            ServeFault::Memory => ProgramFault::Memory,
-            ServeFault::JournalFull => ProgramFault::NotServed,
         }
     }
 }

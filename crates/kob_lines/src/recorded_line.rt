@@ -1,10 +1,11 @@
 //! A line over a borrowed broker with its journal.
 
-ghost use Rattle.std.specs.Prelude.{◌≡◌, ◌≤◌, [], None, IfOk, IfSome, IsErrOf, OnErr, OnOk, length};
-ghost use Rattle.kob_lines.specs.Heard.{IsServedAtMostOnce, IsServedIfHeard};
+ghost use Rattle.std.specs.Prelude.{◌≡◌, ◌≤◌, [], None, IfErr, IfOk, IfSome, IsErrOf, OnErr, OnOk};
+ghost use Rattle.std.specs.Prelude.{length};
+ghost use Rattle.kob_lines.specs.Calls.{IsServedAtMostOnce, IsServedIfHeard};
 ghost use Rattle.kob_router.specs.Line.{Adds, IsFaithful};
 ghost use Rattle.kob_shared.specs.Journals.{after_event, outcome_of};
-ghost use Rattle.kob_shared.specs.Sessions.{event_by};
+ghost use Rattle.kob_shared.specs.Sessions.{IsStaleOnlyBelow, event_by};
 ghost use Rattle.kob_rights.specs.Bodies.{Fits};
 ghost use Rattle.kob_rights.specs.Offsets.{OffsetsWithin};
 
@@ -13,7 +14,7 @@ use crate::event::event_of;
 use kob_names::{Host, Principal};
 use kob_rights::{Reply, Request};
 use kob_router::{Call, Delivery, Line};
-use kob_shared::{Recorded, ServeFault};
+use kob_shared::{CallFault, Recorded};
 use std::alloc::Global;
 
 /// A line of one worker over a broker with its journal, which nobody else uses while the line is
@@ -57,8 +58,8 @@ impl<'a> RecordedLine<'a> {
 
     /// Serves one request of the line's principal, which is not noted as a call. The journal gets
     /// one entry, of this worker with this event and its reply. After a fault it is as before.
-    #[tactic(auto, using(kob_shared::proofs::Bodies::reply_fits, kob_shared::proofs::OffsetBounds::offsets_bounded))]
-    pub fn call(&mut self, alloc: Global, request: Request) -> Result<Reply, ServeFault>
+    #[tactic(auto, using(kob_shared::proofs::Journals::reply_fits, kob_shared::proofs::Journals::offsets_bounded))]
+    pub fn call(&mut self, alloc: Global, request: Request) -> Result<Reply, CallFault>
         ensures same_broker { self.new.recorded.ghost_name ≡ self.old.recorded.ghost_name }
         ensures worker { self.new.worker ≡ self.old.worker }
         ensures principal { self.new.principal ≡ self.old.principal }
@@ -70,7 +71,8 @@ impl<'a> RecordedLine<'a> {
             OnOk result (self.new.recorded.now
             ≡ after_event self.old.recorded.now self.old.worker event) }
         ensures kept { OnErr result (self.new.recorded.now ≡ self.old.recorded.now) }
-        ensures full { IsErrOf result ServeFault.JournalFull
+        ensures stale { IfErr result (IsStaleOnlyBelow 0) }
+        ensures full { IsErrOf result CallFault.JournalFull
             → length self.old.recorded.now.journal ≡ self.old.recorded.now.limit }
         ensures fits { IfOk result (λ reply. Fits request reply) }
         ensures offsets { IfOk result (λ reply. OffsetsWithin reply) }
@@ -103,7 +105,7 @@ impl<'a> RecordedLine<'a> {
         match self.call(alloc, request) {
             Ok(reply) => Some(reply),
             Err(fault) => {
-                self.calls.fault = Some(fault.into());
+                self.calls.fault = Some(fault);
                 None
             }
         }
@@ -128,7 +130,7 @@ impl<'a> RecordedLine<'a> {
 impl<'a> Line for RecordedLine<'a> {
     ghost use Rattle.std.specs.Prelude.{refl};
     ghost use Rattle.std.proofs.Common.{◌∙◌};
-    ghost use Rattle.kob_lines.specs.Becoming.{Journals};
+    ghost use Rattle.kob_lines.specs.Calls.{Journals};
     ghost use Rattle.kob_lines.specs.Joined.{calls_are_journaled, no_call_is_journaled};
 
     ghost calls = { λ line. line.calls.made.items };

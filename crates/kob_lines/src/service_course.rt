@@ -6,7 +6,7 @@ ghost use Rattle.kob_outbox.specs.Events.{stored_event};
 ghost use Rattle.kob_outbox.specs.Recording.{next_seq};
 ghost use Rattle.kob_outbox.specs.declared.change.Change.{Change};
 ghost use Rattle.kob_outbox.specs.declared.event.OutboxEvent.{OutboxEvent};
-ghost use Rattle.kob_lines.specs.ServiceCourse.{HasServiceRun};
+ghost use Rattle.kob_lines.specs.Relayed.{HasServiceRun};
 ghost use Rattle.kob_router.specs.Dispatches.{Dispatching};
 ghost use Rattle.kob_router.specs.Run.Move.{Recorded, Restarted, Swept};
 ghost use Rattle.kob_router.specs.Run.{IsRecordable, IsRouterRun, Move, State, after, start};

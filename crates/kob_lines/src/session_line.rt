@@ -1,7 +1,7 @@
 //! A line over a session of a shared broker.
 
 ghost use Rattle.std.specs.Prelude.{◌≡◌, [], None, IfSome};
-ghost use Rattle.kob_lines.specs.Heard.{IsServedInSession, reply_of};
+ghost use Rattle.kob_lines.specs.Calls.{IsServedInSession, reply_of};
 ghost use Rattle.kob_rights.specs.Bodies.{Fits};
 ghost use Rattle.kob_rights.specs.Offsets.{OffsetsWithin};
 ghost use Rattle.kob_router.specs.Line.{Adds, IsFaithful};
@@ -69,7 +69,7 @@ impl<'a, R: Wait> SessionLine<'a, R> {
 }
 
 impl<'a, R: Wait> Line for SessionLine<'a, R> {
-    ghost use Rattle.kob_lines.specs.Becoming.{KeepsSeat};
+    ghost use Rattle.kob_lines.specs.Calls.{KeepsSeat};
     ghost use Rattle.kob_lines.specs.Joined.{seat_goes_on, seat_stays};
 
     ghost calls = { λ line. line.calls.made.items };
@@ -80,7 +80,7 @@ impl<'a, R: Wait> Line for SessionLine<'a, R> {
     ghost becomes = { λ old new. KeepsSeat old.session new.session };
 
     /// Makes a call through the session, as [`Session::call`] does.
-    #[tactic(auto, using(crate::proofs::Hearing::heard_in_session, crate::proofs::Adding::heard_keeps_seat))]
+    #[tactic(auto, using(crate::proofs::Adding::heard_in_session, crate::proofs::Adding::heard_keeps_seat))]
     fn send(&mut self, alloc: Global, request: Request) -> Delivery
         ensures added { Adds self.old.calls.made.items self.new.calls.made.items
             self.old.calls.unmade self.new.calls.unmade request result }

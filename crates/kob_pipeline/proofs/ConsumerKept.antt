@@ -1,8 +1,6 @@
 -- Offsets that are taken in order, and what a run of a consumer keeps, of one partition.
-use Rattle.kob_pipeline.proofs.Words.{AllByRecursion, Arrival, Cursor, List, None, Option, Place, Some, [], ap, append-nil, arith, arrivals, behind, cursor_of, drop, enumerate_from, false, fetch_limit, filter-append, firsts, fold, fold-append, from_place, inl, inr, length, map, map-append, map-map, max, min, nat_eq, nat_tests, range_with_len, read_from, refl, same_place, slice_get, suc, take, true, with_cursor, with_new, with_progress, zero, ℕ, ◌++◌, ◌+◌, ◌∙◌, ◌∷◌, ◌≡◌, ◌≤◌}
-use Rattle.kob_names.specs.declared.record.Record.{Record}
-use Rattle.kob_pipeline.proofs.Lists.{all_append, all_weaker, get_front, place_cases, places_are, same_here}
-use Rattle.kob_pipeline.proofs.Once.{numbers_on}
+use Rattle.kob_pipeline.proofs.Words.{AllByRecursion, Arrival, Cursor, List, None, Option, Place, Record, Some, [], ap, append-nil, arith, arrivals, behind, cursor_of, drop, enumerate_from, false, fetch_limit, filter-append, firsts, fold, fold-append, from_place, inl, inr, length, map, map-append, map-map, max, min, nat_eq, nat_tests, range_with_len, read_from, refl, same_place, slice_get, suc, take, true, with_cursor, with_new, with_progress, zero, ℕ, ◌++◌, ◌+◌, ◌∙◌, ◌∷◌, ◌≡◌, ◌≤◌}
+use Rattle.kob_pipeline.proofs.Lists.{all_append, all_weaker, get_front, place_cases, places_are, same_here, numbers_on}
 
 -- these offsets follow one another, and the records stand there
 abbrev pub AreRead : List Record → ℕ → List (ℕ × Record) → Type 0

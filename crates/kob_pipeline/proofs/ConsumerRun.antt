@@ -1,6 +1,5 @@
 -- What each call of a consumer keeps, served or not, and what its run takes in of a partition.
-use Rattle.kob_pipeline.proofs.Words.{AreServed, Arrival, Body, Bool, Call, Cursor, Denied, Done, Entry, Fetch, IsConsumerRun, IsDue, IsHistory, IsNeverDeleted, IsNoDeletion, IsOwnCommit, IsSoleCommitter, IsTakenInOrder, List, None, OffsetCommit, OffsetFetch, Option, Place, Refused, Reply, Request, Some, Step, Subscription, View, [], after_answer, and_parts, ap, arith, bytes_eq, cond, cursor_of, false, filter_map, inl, inr, opening_view, place_at, read_from, records_of, records_of_append, refl, same_place, served_to, subst, sym, take, taken_by, taken_of, true, unwrap_or, with_commit, ℕ, ◌&&◌, ◌++◌, ◌∙◌, ◌∷◌, ◌≡◌, ◌≤◌}
-use Rattle.kob_names.specs.declared.record.Record.{Record}
+use Rattle.kob_pipeline.proofs.Words.{AreServed, Arrival, Body, Bool, Call, Cursor, Denied, Done, Entry, Fetch, IsConsumerRun, IsDue, IsHistory, IsNeverDeleted, IsNoDeletion, IsOwnCommit, IsSoleCommitter, IsTakenInOrder, List, None, OffsetCommit, OffsetFetch, Option, Place, Record, Refused, Reply, Request, Some, Step, Subscription, View, [], after_answer, and_parts, ap, arith, bytes_eq, cond, cursor_of, false, filter_map, inl, inr, nat_tests, opening_view, place_at, read_from, records_of, records_of_append, refl, same_place, served_to, subst, sym, take, taken_by, taken_of, true, unwrap_or, with_commit, ℕ, ◌&&◌, ◌++◌, ◌∙◌, ◌∷◌, ◌≡◌, ◌≤◌}
 use Rattle.kob_rights.specs.declared.on_groups.OffsetCommit.{OffsetCommit as CommitRequest}
 use Rattle.kob_rights.specs.declared.on_groups.OffsetFetch.{OffsetFetch as PositionRequest}
 use Rattle.kob_rights.specs.declared.on_partitions.Fetch.{Fetch as FetchRequest}
@@ -14,7 +13,6 @@ use Rattle.kob_pipeline.proofs.ServedRuns.{Hears, IsRun, IsServedBy, IsUnheard, 
 use Rattle.kob_inbox.specs.Run.Move.{Called, Restarted}
 use Rattle.kob_pipeline.proofs.OtherSteps.{Leaves, leaves}
 use Rattle.kob_rights.specs.declared.reply.Body.TheVariants as bodies
-use Rattle.std.proofs.lemmas.Bool.Decides.{nat_tests}
 
 -- what the due request has
 abbrev pub IsDueAs : Subscription → Place → Option Standing → Request → Type 0
@@ -93,7 +91,15 @@ module _ (t : Subscription) (q : Place) where
       → body ≡ bodies.Records (read_from (records_of (v.log (place_at asked.topic asked.partition))) asked.offset
       asked.max)
       → heard ≡ Some (Done body) → TakingIn s v arrived → After s v arrived (Fetch asked) heard count
-  fetched_in s v arrived asked body heard count c at here is e k = let p : Place = place_at asked.topic asked.partition in let records : List Record = records_of (v.log p) in let xs : List (ℕ × Record) = take count (read_from records asked.offset asked.max) in let fits : p ≡ q → Fits q (records_of (v.log q)) k.bound asked.offset xs = λ e'. (rw here (position_within s.cursors p q c k.bound at k.cursor e'), rw (← e') (read_in_order records asked.offset asked.max count)) in rw (e, is) (taking_after_fetch q p asked.offset count xs k (none_taken count (read_from records asked.offset asked.max)) fits)
+  fetched_in s v arrived asked body heard count c at here is e k =
+      let p : Place = place_at asked.topic asked.partition in
+      let all : List (ℕ × Record) = read_from (records_of (v.log p)) asked.offset asked.max in
+      let fits : p ≡ q → Fits q (records_of (v.log q)) k.bound asked.offset (take count all) =
+      λ same. (
+        rw here (position_within s.cursors p q c k.bound at k.cursor same),
+        rw (← same) (read_in_order (records_of (v.log p)) asked.offset asked.max count),
+      ) in
+      rw (e, is) (taking_after_fetch q p asked.offset count (take count all) k (none_taken count all) fits)
 
   -- OFFSET_COMMIT that was served
   committed_in : (s : State) (v : View) (arrived : List Arrival) (asked : CommitRequest) (body : Body)
@@ -193,11 +199,24 @@ module _ (t : Subscription) (q : Place) (worker : ℕ) (end : View) where
 
   others : (arrived : List Arrival) (s : State) (e : Entry) (v w : View) → (e.worker ≡ worker → ⊥)
       → StepsAs IsAsked v e w → TakingBy arrived s v → TakingBy arrived s w
-  others arrived s e v w other ((sole, never), step) k = let by : Leaves t.group q v w e.event.request e.reply = leaves t.group q v w e.event.request e.reply never step in let log : records_of (v.log q) ++ records_of by.more ≡ records_of (w.log q) = sym (ap records_of by.log ∙ records_of_append (v.log q) by.more) in let grown : Taking q (records_of (w.log q)) (v.committed t.group q) s.cursors arrived = subst (λ (rs : List Record). Taking q rs (v.committed t.group q) s.cursors arrived) log (taking_later q (records_of by.more) k) in grind (arith, nat_tests)
+  others arrived s e v w other ((sole, never), step) k =
+      let by : Leaves t.group q v w e.event.request e.reply = leaves t.group q v w e.event.request e.reply never step in
+      let log : records_of (v.log q) ++ records_of by.more ≡ records_of (w.log q) =
+      sym (ap records_of by.log ∙ records_of_append (v.log q) by.more) in
+      let grown : Taking q (records_of (w.log q)) (v.committed t.group q) s.cursors arrived =
+      subst (λ (rs : List Record). Taking q rs (v.committed t.group q) s.cursors arrived) log
+      (taking_later q (records_of by.more) k) in grind (arith, nat_tests)
 
   pub is_taken_in_order : (journal : List Entry) (moves : List Move) (final : State)
       → IsHistory opening_view journal end → IsConsumerRun t start moves final
       → AreServed (calls_of moves) (served_to worker journal) → IsSoleCommitter worker t.group q.topic journal
       → IsNeverDeleted q.topic journal
       → IsTakenInOrder q (records_of (end.log q)) (taken_of moves)
-  is_taken_in_order journal moves final history run a sole never = let each = all_both (IsOwnCommit worker t.group q.topic) (IsNoDeletion q.topic) journal sole never in let p = history_passes IsAsked opening_view end journal history each in let k : TakingIn t q final end (added (after t) takes start moves) = rw (p.2.log q, p.2.committed t.group q) (kept_by_run (May t) (after t) call_of takes worker (StepsAs IsAsked) TakingBy moved served others final p.0 moves start journal opening_view (is_run t moves start final run) (rw (← (its_calls moves)) a) p.1 (taking_first q)) in rw (all_taken t moves start) (record { bound = k.bound; offsets = k.offsets; contents = k.contents })
+  is_taken_in_order journal moves final history run a sole never =
+      let each = all_both (IsOwnCommit worker t.group q.topic) (IsNoDeletion q.topic) journal sole never in
+      let p = history_passes IsAsked opening_view end journal history each in
+      let kept = kept_by_run (May t) (after t) call_of takes worker (StepsAs IsAsked) TakingBy moved served others final
+      p.0 moves start journal opening_view (is_run t moves start final run) (rw (← (its_calls moves)) a) p.1
+      (taking_first q) in
+      let k : TakingIn t q final end (added (after t) takes start moves) = rw (p.2.log q, p.2.committed t.group q) kept in
+      rw (all_taken t moves start) (record { bound = k.bound; offsets = k.offsets; contents = k.contents })

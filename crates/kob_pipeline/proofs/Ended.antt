@@ -1,13 +1,16 @@
 -- How many workers there are, and what is left where the journal is what was noted.
-use Rattle.kob_pipeline.proofs.Words.{All, AllByRecursion, AllZip, EachIsAnswered, Follows, HasEnded, IsAnswered, IsAsNoted, IsEnd, IsLeft, IsLegal, IsPipeline, IsWhole, List, Noted, PipelineEnd, Plan, Planned, Settings, WorkerEnd, [], arith, events_in, length, length-append, length-map, map, notes_of, opened_by, planned_as, planned_workers, recursion_from_All, settings_of, state_of, told_in, ◌∷◌, ◌≡◌}
+use Rattle.kob_pipeline.proofs.Words.{All, AllByRecursion, AllZip, Binding, Bool, EachIsAnswered, Follows, HasEnded, IsAnswered, IsAsNoted, IsEnd, IsFullOnlyPast, IsLeft, IsLegal, IsNamedWithin, IsPipeline, IsWhole, List, NamesOneOf, Noted, PipelineEnd, Plan, Planned, Settings, Some, WorkerEnd, [], arith, cond, events_in, fold, length, length-append, length-map, map, nat_tests, notes_of, opened_by, planned_as, planned_workers, recursion_from_All, settings_of, state_of, told_in, workers_planned, ℕ, ◌++◌, ◌+◌, ◌∷◌, ◌≡◌, ◌≤◌}
 use Rattle.kob_rights.specs.declared.event.Event.{Event}
 use Rattle.kob_shared.specs.Journals.{Record}
 use Rattle.kob_shared.specs.declared.work.Done.{Done}
-use Rattle.kob_shared.proofs.Beginnings.{begins_with}
-use Rattle.kob_shared.proofs.Openings.{opened_again}
+use Rattle.kob_shared.proofs.Fleets.{begins_with}
+use Rattle.kob_shared.proofs.Journals.{opened_again}
 use Rattle.kob_pipeline.specs.declared.worker.Worker.{Worker}
-use Rattle.kob_pipeline.specs.Counts.{workers_planned}
-use Rattle.std.proofs.lemmas.Bool.Decides.{nat_tests}
+use Rattle.kob_authorizer.specs.AtOnce.{with_new}
+use Rattle.kob_authorizer.specs.Passing.{create_fault, limit_fault}
+use Rattle.kob_authorizer.specs.declared.fault.CreateFault.TheVariants.{TooMany}
+use Rattle.kob_authorizer.proofs.InTurn.{fault_by_count}
+use Rattle.kob_shared.specs.declared.fleet_stop.FleetStop.{FleetStop}
 
 -- how many workers there are
 pub workers_counted : (plan : Plan) (workers : List Worker) → map planned_as workers ≡ planned_workers plan
@@ -47,3 +50,26 @@ pub as_planned : (opening : Settings) (plan : Plan) (events : List Event) (plann
     → opening ≡ settings_of (opened_by plan.settings) → events ≡ plan.first → planned ≡ planned_workers plan
     → IsEnd (opened_by opening) events planned end → IsPipeline plan end
 as_planned opening plan events planned end stored first workers is = grind (arith, nat_tests, opened_again)
+
+-- Few opening bindings pass no limit.
+
+one_more : (known : Bool) (fresh : List Binding) (b : Binding)
+    → length (cond known fresh (fresh ++ b ∷ [])) ≤ length fresh + 1
+one_more known fresh b = grind (arith, nat_tests, length-append fresh (b ∷ []))
+
+few_new : (fresh bs : List Binding) → length (fold (with_new []) fresh bs) ≤ length fresh + length bs
+few_new fresh [] = omega arith
+few_new fresh (b ∷ bs) = grind (arith, nat_tests, few_new (with_new [] fresh b) bs, one_more)
+
+few_pass : (count next : ℕ) → count ≤ 100000 → limit_fault count next ≡ Some TooMany → ⊥
+few_pass count next few is = grind (arith, nat_tests, few, is)
+
+pub few_open : (bs : List Binding) → length bs ≤ 100000 → create_fault [] 1 bs ≡ Some TooMany → ⊥
+few_open bs few is = grind (arith, nat_tests, few_new, few_pass, fault_by_count)
+
+-- The worker that a fault of a pipeline names.
+
+-- a fleet of no more workers names one of them, and not worker 0 where its events fit
+pub named_fleet : (low high limit count : ℕ) (s : FleetStop) → low ≤ high → IsNamedWithin low s
+    → IsFullOnlyPast limit count s → count ≤ limit → NamesOneOf high s
+named_fleet low high limit count s less named full fits = grind (arith, nat_tests)

@@ -1,7 +1,6 @@
 -- What an entry leaves of one partition, and of what a group committed there.
-use Rattle.kob_pipeline.proofs.Words.{Accepts, Batch, Commits, DeleteGroups, DeleteTopics, Deletes, Denied, Done, Fetch, InitProducerId, IsSameView, Judgement, List, Next, None, OffsetCommit, OffsetFetch, OldEpoch, OutOfOrder, Place, Produce, Produces, Refused, Repeat, Reply, Request, Step, View, [], and_parts, append-nil, arith, cond-false, inr, refl, sym, with_batch, ℕ, ◌++◌, ◌∙◌, ◌≡◌, ◌≤◌, ◌⊎◌}
+use Rattle.kob_pipeline.proofs.Words.{Accepts, Batch, Commits, DeleteGroups, DeleteTopics, Deletes, Denied, Done, Fetch, InitProducerId, IsSameView, Judgement, List, Next, None, OffsetCommit, OffsetFetch, OldEpoch, OutOfOrder, Place, Produce, Produces, Refused, Repeat, Reply, Request, Step, View, [], and_parts, append-nil, arith, cond-false, inr, nat_tests, refl, sym, with_batch, ℕ, ◌++◌, ◌∙◌, ◌≡◌, ◌≤◌, ◌⊎◌}
 use Rattle.kob_pipeline.proofs.Lists.{bytes_are, place_cases, places_are, same_here}
-use Rattle.std.proofs.lemmas.Bool.Decides.{nat_tests}
 
 module _ (group : List ℕ) (q : Place) where
   -- The log grows, by a PRODUCE to the topic alone. What is committed stays or goes, or it is a commit of the group.

@@ -1,20 +1,57 @@
--- The laws of delivery, of a pipeline's plan and what it leaves.
-use Rattle.kob_pipeline.proofs.Words.{Administering, AllZip, ArePrivate, ConsumerPlan, Consuming, Entry, HasDone, HasEnded, HasLeft, Inbox, InboxEnd, Intake, IsConsumption, IsDelivered, IsHistory, IsKept, IsNeverDeleted, IsPipeline, IsServiceRun, IsSoleCommitter, IsSoleProducer, IsWaitingOrSent, List, Noted, Outbox, OutboxEnd, PipelineEnd, Place, Plan, Planned, ReachesInOrder, Receipt, Served, Service, Serving, Some, WorkerEnd, [], ap, arith, claims, consumer_number, consumer_place, dispatch_of, enumerate_from, events_in, get_or-map, get_or_from_slice_get, inl, inr, length, length-map, map, map-map, mine_from, nat_tests, notes_in, opening_view, option_map, planned_workers, refl, rows_of_service, run_takes_in, served_by_notes, served_in, served_to, service_number, slice_get, slice_get-map, slice_get_within, slice_index_or, state_of, subst, suc, sym, told_in, view_after, zero, ℕ, ◌++◌, ◌+◌, ◌<◌, ◌∙◌, ◌∷◌, ◌≡◌}
+-- What reaches an inbox, of the parts that workers have in a journal.
+use Rattle.kob_pipeline.proofs.Words.{Administering, AllByRecursion, AllZip, ArePrivate, ConsumerPlan, Consuming, Contains, Dispatching, Entry, Event, HasDone, HasEnded, HasLeft, Inbox, InboxEnd, Intake, IsConsumerPart, IsConsumption, IsDelivered, IsHistory, IsKept, IsNeverDeleted, IsNoneLost, IsPipeline, IsServicePart, IsServiceRun, IsSoleCommitter, IsSoleProducer, IsTakenInOrder, IsWaitingOrSent, List, Noted, Outbox, OutboxEnd, PipelineEnd, Place, Plan, Planned, ReachesInOrder, Receipt, Served, Service, Serving, Some, Subscription, TakesInOrder, Target, View, WorkerEnd, [], ap, arith, claims, consumer_number, consumer_place, dispatch_of, empty, enumerate_from, events_in, get_or-map, get_or_from_slice_get, inbox_in, inl, inr, is_of_aggregate, length, length-map, map, map-map, mine_from, nat_tests, notes_in, opening_view, option_map, outbox_in, placed_intake, planned_workers, records_at, records_of, refl, rows_of, rows_of_service, run_takes_in, served_by_notes, served_in, served_to, service_number, slice_get, slice_get-append_right, slice_get-map, slice_get_within, slice_index_or, state_of, subst, suc, sym, told_in, view_after, zero, ℕ, ◌++◌, ◌+◌, ◌<◌, ◌∙◌, ◌∷◌, ◌≡◌}
+use Rattle.kob_pipeline.proofs.Reaching.{rows_tell, told_all, target_tells, reaches}
+use Rattle.kob_pipeline.proofs.Arriving.{all_assigned}
+use Rattle.kob_pipeline.proofs.ConsumerRun.{is_taken_in_order}
+use Rattle.kob_pipeline.proofs.RouterRun.{is_delivered, all_wait_or_sent}
 use Rattle.kob_rights.specs.declared.event.Event.{Event as Asked}
 use Rattle.kob_shared.specs.declared.work.Done.{Done}
-use Rattle.kob_outbox.specs.Contents.{Event}
-use Rattle.kob_inbox.specs.Rows.{placed_intake}
-use Rattle.kob_pipeline.specs.PlanEnds.{IsNoneLost, TakesInOrder, inbox_in, outbox_in, records_at}
 use Rattle.kob_pipeline.proofs.BrokerSteps.{legal_is_history}
-use Rattle.kob_pipeline.proofs.DeliveryLaws.{holds_a_prefix, partition_holds, takes_in_order, waits_or_sent}
-use Rattle.kob_pipeline.specs.Parts.{IsConsumerPart, IsServicePart}
-use Rattle.kob_router.specs.Dispatches.{Dispatching}
 use Rattle.kob_pipeline.proofs.Lists.{all_weaker, get_front}
-use Rattle.circular_buffer.proofs.Places.{slice_get-append_right}
 use Rattle.kob_pipeline.proofs.Rows.{rows_of_steps}
-use Rattle.kob_outbox.specs.Contents as outboxes
-use Rattle.kob_router.specs.Run as routers
+use Rattle.kob_router.specs.Run as router
 use Rattle.kob_inbox.specs.Run as consumers
+use Rattle.kob_outbox.specs.Contents as outboxes
+
+pub partition_holds : (target : Target) (worker : ℕ) (journal : List Entry) (view : View) (moves : List router.Move)
+    (now : router.State) (place : Place)
+    → IsHistory opening_view journal view → IsServicePart target worker journal moves now
+    → IsSoleProducer worker place.topic journal → IsNeverDeleted place.topic journal
+    → IsDelivered (dispatch_of target) place (rows_of moves) (records_of (view.log place))
+partition_holds target worker journal view moves now place history part =
+    is_delivered (dispatch_of target) place (target_tells target) worker view journal moves now history part.run
+    part.served
+
+pub takes_in_order : (t : Subscription) (worker : ℕ) (journal : List Entry) (view : View) (moves : List consumers.Move)
+    (now : consumers.State) (place : Place)
+    → IsHistory opening_view journal view → IsConsumerPart t worker journal moves now
+    → IsSoleCommitter worker t.group place.topic journal → IsNeverDeleted place.topic journal
+    → IsTakenInOrder place (records_of (view.log place)) (consumers.taken_of moves)
+takes_in_order t worker journal view moves now place history part =
+    is_taken_in_order t place worker view journal moves now history part.run part.served
+
+pub waits_or_sent : (target : Target) (worker : ℕ) (journal : List Entry) (moves : List router.Move)
+    (now : router.State) → IsServicePart target worker journal moves now
+    → AllByRecursion (IsWaitingOrSent (dispatch_of target) worker journal now.outbox) (rows_of moves)
+waits_or_sent target worker journal moves now part =
+    all_wait_or_sent (dispatch_of target) worker journal moves now part.run part.served
+
+pub holds_a_prefix : (target : Target) (t : Subscription) (sender taker : ℕ) (journal : List Entry) (view : View)
+    (sends : List router.Move) (service : router.State) (takes : List consumers.Move) (taking : consumers.State)
+    (kind id : List ℕ)
+    → IsHistory opening_view journal view → IsServicePart target sender journal sends service
+    → IsConsumerPart t taker journal takes taking → ArePrivate sender taker t.group t.assignment journal
+    → ReachesInOrder (rows_of sends) taking.inbox kind id
+holds_a_prefix target t sender taker journal view sends service takes taking kind id history sent took private =
+    reaches target (rows_of sends) (rows_tell target empty sends) kind id
+    (told_all (is_of_aggregate kind id) (dispatch_of target) sender journal sends service sent.run sent.served)
+    (Contains t.assignment) (λ q. records_of (view.log q)) (consumers.taken_of takes) taking.inbox
+    (λ q a. partition_holds target sender journal view sends service q history sent (private q a).producer
+    (private q a).kept)
+    (λ q a. takes_in_order t taker journal view takes taking q history took (private q a).committer (private q a).kept)
+    (all_assigned t takes consumers.start taking took.run) (run_takes_in t takes consumers.start taking took.run)
+
+-- The laws of delivery, of a pipeline's plan and what it leaves.
 
 -- what was served, of entries with their places
 abbrev served_of : List (ℕ × Entry) → List Served
@@ -156,9 +193,9 @@ module _ (plan : Plan) (end : PipelineEnd) (of : IsPipeline plan end) where
       how consumer noted _ run = absurd run
 
   its_rows : (k : ℕ) (service : Service) (by : Serves k service)
-      → routers.events_of outboxes.empty by.run.work.moves ≡ rows_of_service service
+      → router.events_of outboxes.empty by.run.work.moves ≡ rows_of_service service
   its_rows k service by =
-      rows_of_steps (dispatch_of service.target) routers.start by.run.work.state service.steps.items by.run.work.moves _
+      rows_of_steps (dispatch_of service.target) router.start by.run.work.state service.steps.items by.run.work.moves _
       by.run.work.steps
 
   service_part : (k : ℕ) (service : Service) (by : Serves k service)
@@ -192,7 +229,7 @@ module _ (plan : Plan) (end : PipelineEnd) (of : IsPipeline plan end) where
       (all_weaker (IsWaitingOrSent (dispatch_of service.target) (service_number plan k) end.journal outbox)
       (IsWaitingOrSent (dispatch_of service.target) (service_number plan k) end.journal (outbox_in left))
       (waits_alike (dispatch_of service.target) (service_number plan k) end.journal outbox (outbox_in left) mark events)
-      (routers.events_of outboxes.empty by.run.work.moves)
+      (router.events_of outboxes.empty by.run.work.moves)
       (waits_or_sent service.target (service_number plan k) end.journal by.run.work.moves by.run.work.state
       (service_part k service by)))
 
@@ -230,7 +267,7 @@ module _ (plan : Plan) (end : PipelineEnd) (of : IsPipeline plan end) where
       sym (ap (option_map (λ (d : Done WorkerEnd). d.end)) took.done) ∙ kept in
       let same : took.left ≡ left = cc in
       subst (λ (rows : List Event). ReachesInOrder rows (inbox_in left) kind id) (its_rows i service sent)
-      (subst (λ (inbox : List Intake). ReachesInOrder (routers.events_of outboxes.empty sent.run.work.moves) inbox kind
+      (subst (λ (inbox : List Intake). ReachesInOrder (router.events_of outboxes.empty sent.run.work.moves) inbox kind
       id) (sym (its_inbox consumer took.noted took.left took.run) ∙ ap inbox_in same)
       (holds_a_prefix service.target consumer.subscription (service_number plan i) (consumer_number plan k) end.journal
       (view_after plan.settings end.journal) sent.run.work.moves sent.run.work.state took.run.work.moves

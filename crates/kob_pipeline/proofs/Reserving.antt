@@ -1,5 +1,5 @@
 -- From the bindings in force to the worker whose entry it is.
-use Rattle.kob_pipeline.proofs.Words.{AllByRecursion, Binding, Body, Bool, Commits, Done, Entry, IsLegal, IsSoleCommitter, IsSoleProducer, IsTrue, List, Option, Produces, Reply, Request, Retained, Settings, Some, [], arith, false, filter, inl, inr, on_group, on_topic, opened_by, refl, rights, slice_get, slice_get-get_or, slice_get_within, subst, ℕ, ◌&&◌, ◌∙◌, ◌∷◌, ◌≡◌, ◌⊎◌}
+use Rattle.kob_pipeline.proofs.Words.{ActsAlone, AllByRecursion, Binding, Body, Bool, Commits, Done, Entry, IsLegal, IsReserved, IsReservedFor, IsSoleCommitter, IsSoleProducer, IsTrue, List, NoSuperUser, Option, Produces, Reply, Request, Retained, Settings, Some, [], arith, false, filter, get_or_from_slice_get, inl, inr, nat_tests, of_each, on_group, on_topic, opened_by, refl, rights, slice_get, slice_get-get_or, slice_get_within, subst, suc, take, take-suc, was_kept, ℕ, ◌&&◌, ◌∙◌, ◌∷◌, ◌≡◌, ◌⊎◌}
 use Rattle.kob_names.specs.Granted.{is_granted}
 use Rattle.kob_names.specs.declared.kinds.Operation.{Operation}
 use Rattle.kob_names.specs.declared.kinds.Operation.TheVariants.{Read, Write as WriteTo}
@@ -10,15 +10,11 @@ use Rattle.kob_authorizer.specs.Contents.{Contents}
 use Rattle.kob_authorizer.specs.Decide.{decide, first_serial, hits, is_hit, is_super, is_unmatched, unless_open, verdict_of}
 use Rattle.kob_authorizer.specs.Question.{question_of}
 use Rattle.kob_broker.specs.InForce.{access_after, in_force}
-use Rattle.kob_broker.specs.Justice.{Grants, IsJust}
+use Rattle.kob_broker.specs.Justice.{Grants, IsJust, EachGranted}
 use Rattle.kob_broker.specs.State.{State}
 use Rattle.kob_rights.specs.declared.event.Event.{Event}
-use Rattle.kob_broker.specs.Justice.{EachGranted}
-use Rattle.kob_shared.proofs.Decided.{entry_is_just}
-use Rattle.kob_pipeline.specs.Reserved.{ActsAlone, IsReserved, IsReservedFor, NoSuperUser}
-use Rattle.kob_pipeline.proofs.Lists.{all_at, all_in}
-use Rattle.kob_authorizer.proofs.Elements.{of_each, was_kept}
-use Rattle.std.proofs.lemmas.Bool.Decides.{nat_tests}
+use Rattle.kob_shared.proofs.Journals.{entry_is_just}
+use Rattle.kob_pipeline.proofs.Lists.{all_at, all_in, all_last}
 
 -- ---- super users stay
 
@@ -115,3 +111,12 @@ sole_committer opening journal now worker principal group topic legal reserved a
     (λ access event reply just is.
     commit_needs access event group topic event.request reply (granted_where_done access event reply just) is)
     legal reserved alone common
+
+-- The first entry that breaks a premise.
+
+-- what holds of the first elements and of the next holds of one more
+pub kept_more : {X : Type 0} (Holds : X → Type 0) (xs : List X) (k next : ℕ) (x : X) → next ≡ suc k
+    → slice_get xs k ≡ Some x → AllByRecursion Holds (take k xs) → Holds x → AllByRecursion Holds (take next xs)
+kept_more Holds xs k next x same there before here =
+    let longer = take-suc xs k x (slice_get_within xs k x there) in
+    rw (same, longer, get_or_from_slice_get xs k x x there) (all_last Holds (take k xs) x before here)

@@ -1,13 +1,8 @@
 -- What a run of a router keeps, beside the log of one partition.
-use Rattle.kob_pipeline.proofs.Words.{All-contains, All-from_recursion, AllByRecursion, Batch, Contains, Contains-append_right, Dispatch, Dispatching, Hand, List, Next, None, Option, OutboxEvent, Place, Producer, Recorded, Repeat, Sent, Sequence, Some, Swept, Took, [], after_use, ap, append-nil, append_assoc, arith, batch_of, both_ways, false, goes_to, history, inl, inr, judge, length, length_push, nat_tests, next_seq, place_of, refl, same_place, sent_batch, sequence_of, slice_get, stored_event, subst, sym, told_id, with_sequence_for, ℕ, ◌++◌, ◌+◌, ◌<◌, ◌∙◌, ◌∷◌, ◌≡◌, ◌≤◌, ◌⊎◌}
-use Rattle.kob_outbox.specs.Contents.{Contents, Event}
-use Rattle.kob_router.specs.Run.{May, Move, State, after, start}
-use Rattle.kob_router.specs.Run.Move.{Called, Restarted}
-use Rattle.kob_pipeline.proofs.Logged.{IsKept, kept_at_start, kept_recorded, kept_swept, kept_marked, IsLogged, logged_later, logged_more_rows, IsBatchOf, logged_again, logged_elsewhere, logged_first}
+use Rattle.kob_pipeline.proofs.Words.{All-contains, All-from_recursion, AllByRecursion, Batch, Called, Contains, Contains-append_right, Contents, Dispatch, Dispatching, Event, Hand, List, May, Move, Next, None, Option, OutboxEvent, Place, Producer, Record, Recorded, Repeat, Restarted, Sent, Sequence, Some, State, Swept, Took, [], after, after_use, ap, append-nil, append_assoc, arith, batch_of, both_ways, false, goes_to, history, inl, inr, judge, length, length_push, nat_tests, next_seq, place_of, refl, same_place, sent_batch, sequence_of, slice_get, start, stored_event, subst, sym, told_id, with_sequence_for, ℕ, ◌++◌, ◌+◌, ◌<◌, ◌∙◌, ◌∷◌, ◌≡◌, ◌≤◌, ◌⊎◌}
+use Rattle.kob_pipeline.proofs.Logged.{IsKept, kept_at_start, kept_recorded, kept_swept, kept_marked, IsLogged, logged_later, logged_more_rows, IsBatchOf, logged_again, logged_elsewhere, logged_first, AreCounted, counted_none, no_history, sequence_prepared, wrapped, IsNumber, apart_wrapped, counted_last, history_last, idem_of, next_base, next_wrapped, repeat_base, sequence_used_elsewhere, sequence_used_here}
 use Rattle.kob_pipeline.proofs.Lists.{all_append, bytes_turned, get_front, first_is, same_here, same_some}
 use Rattle.kob_pipeline.proofs.Rows.{recorded}
-use Rattle.kob_pipeline.proofs.Sending.{AreCounted, counted_none, no_history, sequence_prepared, wrapped, IsNumber, apart_wrapped, counted_last, history_last, idem_of, next_base, next_wrapped, repeat_base, sequence_used_elsewhere, sequence_used_here}
-use Rattle.kob_names.specs.declared.record.Record.{Record}
 
 abbrev pub here : Option Event → List Event
 here None = []
@@ -206,7 +201,20 @@ module _ (route : Dispatching) (q : Place) where
         sequences = after_use ss h.place;
         hand = None;
       }) log next
-  kept_after_mark {rows} {c} {p} {ss} {h} {log} {next} k ready = let one = sent_one h.event k.ahead k.rest k.held.holds.0 (sent_why route ss h q (length (history p.id log)) k.ahead k.held.holds.1 ready) k.held.kept k.logged in record { sent = k.sent ++ h.event ∷ []; ahead = None; rest = one.0; held = record { kept = one.1; holds = tt }; tells = k.tells; logged = rw (append-nil (k.sent ++ h.event ∷ [])) one.2; known = record { below = k.known.below; counted = k.known.counted; in_step = inl (step_on ss h q (length (history p.id log)) k.ahead k.known.in_step ready) } }
+  kept_after_mark {rows} {c} {p} {ss} {h} {log} {next} k ready =
+      let n : ℕ = length (history p.id log) in
+      let why = sent_why route ss h q n k.ahead k.held.holds.1 ready in
+      let one = sent_one h.event k.ahead k.rest k.held.holds.0 why k.held.kept k.logged in
+      let on = step_on ss h q n k.ahead k.known.in_step ready in
+      record {
+        sent = k.sent ++ h.event ∷ [];
+        ahead = None;
+        rest = one.0;
+        held = record { kept = one.1; holds = tt };
+        tells = k.tells;
+        logged = rw (append-nil (k.sent ++ h.event ∷ [])) one.2;
+        known = record { below = k.known.below; counted = k.known.counted; in_step = inl on };
+      }
 
   log_more : {rows : List Event} {c : Contents} {log : List Batch} {next : ℕ} {sent : List Event} {r : Event}
       {x : Record} {b : Batch} (ahead : Option Event) (rest tail : List Event) → here ahead ++ rest ≡ r ∷ tail
@@ -229,7 +237,49 @@ pub kept_after_batch : (route : Dispatching) (rows : List Event) (c : Contents) 
     → route h.event ≡ Some (record { place = h.place; message = x })
     → judge (history p.id log) (idem_of p (sequence_of ss h.place)) 1 ≡ Next
     → IsServed route h.place rows c p ss h (log ++ batch_of p (sequence_of ss h.place) x ∷ []) next
-kept_after_batch route rows c p ss h log next x k to comes = let q : Place = h.place in let b : Batch = batch_of p (sequence_of ss q) x in let n : ℕ = length (history p.id log) in let base : sequence_of ss q ≡ wrapped n = next_base p (history p.id log) (sequence_of ss q) k.known.counted comes in let more = history_last p log (sequence_of ss q) x in let s : Sent = sent_batch (idem_of p (sequence_of ss q)) 1 more.0 in let number : IsNumber p n s = record { epoch = refl; base = base; single = refl } in let count : length (history p.id (log ++ b ∷ [])) ≡ n + 1 = ap length more.1 ∙ length_push (history p.id log) s in let at = first_is (here k.ahead ++ k.rest) h.event k.held.holds.0 in let kept : IsKept rows c k.sent (h.event ∷ at.0) = rw at.1 at k.held.kept in let has : Contains rows h.event = rw kept.rows_are (Contains-append_right k.sent (h.event ∷ at.0) h.event (0, omega arith, refl)) in let tells : TellsItsId route h.event = All-contains (TellsItsId route) rows h.event (All-from_recursion (TellsItsId route) rows k.tells) has in let is : IsBatchOf route q h.event x next b = record { tells = tells (record { place = q; message = x }) to; routed = to; single = refl; given = k.known.below } in let pending : IsPending ss (Some h) q (length (history p.id (log ++ b ∷ []))) (Some h.event) = record { before = n; one_more = count; base = base; held = h; in_hand = refl; here_it_goes = refl; is_ahead = refl } in (record { sent = k.sent; ahead = Some h.event; rest = at.0; held = record { kept = kept; holds = (refl, k.held.holds.1) }; tells = k.tells; logged = log_more route q k.ahead k.rest at.0 at.1 has is k.held.kept k.logged; known = record { below = k.known.below; counted = rw more.1 (counted_last p (history p.id log) s k.known.counted number); in_step = inr pending } }, inr pending)
+kept_after_batch route rows c p ss h log next x k to comes =
+    let q : Place = h.place in
+    let n : ℕ = length (history p.id log) in
+    let base : sequence_of ss q ≡ wrapped n =
+    next_base p (history p.id log) (sequence_of ss q) k.known.counted comes in
+    let more = history_last p log (sequence_of ss q) x in
+    let s : Sent = sent_batch (idem_of p (sequence_of ss q)) 1 more.0 in
+    let number : IsNumber p n s = record { epoch = refl; base = base; single = refl } in
+    let longer : List Batch = log ++ batch_of p (sequence_of ss q) x ∷ [] in
+    let count : length (history p.id longer) ≡ n + 1 = ap length more.1 ∙ length_push (history p.id log) s in
+    let at = first_is (here k.ahead ++ k.rest) h.event k.held.holds.0 in
+    let kept : IsKept rows c k.sent (h.event ∷ at.0) = rw at.1 at k.held.kept in
+    let last = Contains-append_right k.sent (h.event ∷ at.0) h.event (0, omega arith, refl) in
+    let has : Contains rows h.event = rw kept.rows_are last in
+    let tells = All-contains (TellsItsId route) rows h.event (All-from_recursion (TellsItsId route) rows k.tells) has in
+    let is : IsBatchOf route q h.event x next (batch_of p (sequence_of ss q) x) =
+    record { tells = tells (record { place = q; message = x }) to; routed = to; single = refl; given = k.known.below } in
+    let pending : IsPending ss (Some h) q (length (history p.id longer)) (Some h.event) =
+    record {
+      before = n;
+      one_more = count;
+      base = base;
+      held = h;
+      in_hand = refl;
+      here_it_goes = refl;
+      is_ahead = refl;
+    } in
+    let logged = log_more route q k.ahead k.rest at.0 at.1 has is k.held.kept k.logged in (
+      record {
+        sent = k.sent;
+        ahead = Some h.event;
+        rest = at.0;
+        held = record { kept = kept; holds = (refl, k.held.holds.1) };
+        tells = k.tells;
+        logged = logged;
+        known = record {
+          below = k.known.below;
+          counted = rw more.1 (counted_last p (history p.id log) s k.known.counted number);
+          in_step = inr pending;
+        };
+      },
+      inr pending,
+    )
 
 -- a repeat stands in the log
 pub repeat_is_pending : (route : Dispatching) (rows : List Event) (c : Contents) (p : Producer) (ss : List Sequence)

@@ -1,18 +1,13 @@
 -- What each call of a router keeps, served or not, and what its run leaves on a partition.
-use Rattle.kob_pipeline.proofs.Words.{Accepts, AreServed, Batch, Body, Bool, Call, Denied, Dispatching, Does, Done, Entry, Hand, InitProducerId, IsDelivered, IsHistory, IsNeverDeleted, IsNoDeletion, IsOwnProduce, IsRouterRun, IsSameView, IsSending, IsSoleProducer, Judgement, List, MayCall, Next, None, Option, Place, Produce, Producer, Recorded, Refused, Repeat, Reply, Request, Sequence, Some, Step, Swept, Took, View, [], ap, append-nil, append_assoc, arith, batch_of, false, filter-append, goes_to, history, inl, inr, judge, map, map-append, opening_view, producer_after, records_of, refl, routed_to, sequence_of, served_to, subst, sym, true, true≢false, with_batch, with_producer, ℕ, ◌++◌, ◌∙◌, ◌∷◌, ◌≡◌}
-use Rattle.kob_names.specs.declared.record.Record.{Record}
-use Rattle.kob_outbox.specs.Contents.{Contents, Event}
+use Rattle.kob_pipeline.proofs.Words.{Accepts, AllByRecursion, AreServed, Batch, Body, Bool, Call, Called, Contains, Contents, Denied, Dispatching, Does, Done, Entry, Event, Hand, InitProducerId, IsDelivered, IsDone, IsHistory, IsNeverDeleted, IsNoDeletion, IsOwnProduce, IsRouterRun, IsSameView, IsSending, IsSent, IsSoleProducer, IsWaitingOrSent, Judgement, List, May, MayCall, Move, Next, None, Option, Place, Produce, Producer, Record, Recorded, Refused, Repeat, Reply, Request, Restarted, Sequence, Some, State, Step, Swept, Took, View, [], after, after_acknowledgement, ap, append-nil, append_assoc, arith, batch_of, calls_of, events_of, false, filter-append, goes_to, history, inl, inr, judge, ltb-true, map, map-append, nat_lt, nat_tests, of_each, opening_view, producer_after, records_of, refl, routed_to, sequence_of, served_to, start, subst, sym, true, true≢false, was_kept, with_batch, with_producer, ℕ, ◌++◌, ◌∙◌, ◌∷◌, ◌≡◌}
 use Rattle.kob_rights.specs.declared.on_partitions.Produce.{Produce as ProduceRequest}
-use Rattle.kob_router.specs.Run.{State, after, May, Move, calls_of, events_of, start}
-use Rattle.kob_router.specs.Run.Move.{Called, Restarted}
-use Rattle.kob_pipeline.proofs.Lists.{all_both, place_cases, same_here}
-use Rattle.kob_pipeline.proofs.RouterKept.{IsServed, Kept, TellsIds, here, holding, kept_after_batch, kept_after_id, kept_after_mark, kept_by_move, kept_first, kept_later, known_taken, repeat_is_pending}
-use Rattle.kob_pipeline.proofs.Sending.{idem_of}
-use Rattle.kob_pipeline.proofs.ServedRuns.{Hears, IsServedBy, IsUnheard, StepsAs, history_passes}
+use Rattle.kob_pipeline.proofs.Lists.{all_both, place_cases, same_here, all_append, all_last, all_weaker}
+use Rattle.kob_pipeline.proofs.RouterKept.{IsServed, Kept, TellsIds, here, holding, kept_after_batch, kept_after_id, kept_after_mark, kept_by_move, kept_first, kept_later, known_taken, repeat_is_pending, IsHeld, IsUnmarked, held_by_move, held_marked}
+use Rattle.kob_pipeline.proofs.Logged.{idem_of, kept_at_start}
+use Rattle.kob_pipeline.proofs.ServedRuns.{Hears, IsServedBy, IsUnheard, StepsAs, history_passes, IsOf, all_pass}
 use Rattle.kob_pipeline.proofs.OtherSteps.{leaves}
 use Rattle.kob_pipeline.proofs.Rows.{call_of, kept_by_router, recorded}
 use Rattle.kob_rights.specs.declared.reply.Body.TheVariants as bodies
-use Rattle.std.proofs.lemmas.Bool.Decides.{nat_tests}
 
 -- no Done was heard
 abbrev pub NotDone : Option Reply → Type 0
@@ -203,3 +198,59 @@ module _ (route : Dispatching) (q : Place) (tells : TellsIds route) (worker : �
       kept_by_router route worker (StepsAs IsAsked) (KeptIn route q) kept_move served others moves final journal
       opening_view p.0 run a p.1 (kept_first route q) in
       delivered (events_of start.outbox moves) final (as_shown (events_of start.outbox moves) final p.0 p.2 k)
+
+-- No recorded row is lost.
+
+module _ (route : Dispatching) (worker : ℕ) (journal : List Entry) where
+  -- what a run keeps: each row up to the mark was sent
+  record Sent (rows : List Event) (s : State) : Type 0 where
+    sent : List Event
+    wait : List Event
+    held : IsHeld route rows s.outbox s.hand sent wait
+    each : AllByRecursion (IsSent route worker journal) sent
+
+  kept_mark : (rows : List Event) (s : State) (hand : Hand) → s.hand ≡ Some hand
+      → IsSent route worker journal hand.event
+      → Sent rows s → Sent rows (after_acknowledgement s (Some hand))
+  kept_mark rows s hand e entry k = grind (arith, nat_tests, held_marked, all_last)
+
+  kept_unmarked : (m : Move) (rows : List Event) (s : State) → May route s m → IsUnmarked m → Sent rows s
+      → Sent (rows ++ recorded s m) (after s m)
+  kept_unmarked m rows s may u k =
+      record { sent = k.sent; wait = k.wait ++ recorded s m; held = held_by_move s m may u k.held; each = k.each }
+
+  -- the entry that acknowledges what is in hand
+  acknowledged : (s : State) (asked : ProduceRequest) (c : Call) (e : Entry) (i : IsSending route s asked)
+      → c.request ≡ Produce asked → IsDone c.heard → IsServedBy e (Some c) → e.worker ≡ worker → Contains journal e
+      → IsSent route worker journal i.hand.event
+  acknowledged s asked c e i is done by own there = grind (arith, nat_tests)
+
+  -- a call that acknowledges nothing, or what the entry says that it is done
+  kept_call : (rows : List Event) (s : State) (request : Request) (heard : Option Reply) (marks : Bool)
+      → MayCall route s request heard marks
+      → (marks ≡ true → (asked : ProduceRequest) (i : IsSending route s asked) → request ≡ Produce asked → IsDone heard
+      → IsSent route worker journal i.hand.event)
+      → Sent rows s → Sent rows (after s (Called (record { request = request; heard = heard }) marks))
+  kept_call rows s request heard marks may sent k = grind (arith, nat_tests, true≢false, kept_mark)
+
+  unmarked_move : (m : Move) (s : State) → May route s m → IsUnheard (call_of m) → IsUnmarked m
+  unmarked_move m s may u = grind (arith, nat_tests)
+
+  pub all_wait_or_sent : (moves : List Move) (final : State) → IsRouterRun route start moves final
+      → AreServed (calls_of moves) (served_to worker journal)
+      → AllByRecursion (IsWaitingOrSent route worker journal final.outbox) (events_of start.outbox moves)
+  all_wait_or_sent moves final run served =
+      let Waits : Event → Type 0 = IsWaitingOrSent route worker journal final.outbox in
+      let first : Sent [] start = record { sent = []; wait = []; held = record { kept = kept_at_start; holds = tt }; each = tt } in
+      let k : Sent (events_of start.outbox moves) final =
+      kept_by_router route worker (IsOf journal) (λ rows s b. Sent rows s)
+      (λ m rows s b may u k. kept_unmarked m rows s may (unmarked_move m s may u) k)
+      (λ c marks rows s e b d may by own there k.
+      kept_call rows s c.request c.heard marks may (λ on asked i is done. acknowledged s asked c e i is done by own there)
+      k) (λ rows s e b d other there k. k) moves final journal tt tt run served (all_pass journal) first in
+      let waits : AllByRecursion Waits k.wait =
+      of_each Waits k.wait (λ row c.
+      let f = was_kept (λ r. nat_lt final.outbox.mark r.seq) final.outbox.events row (rw k.held.kept.waits c) in
+      inl (record { past = ltb-true final.outbox.mark row.seq f.1; there = f.0 })) in
+      let done = all_weaker (IsSent route worker journal) Waits (λ row e. inr e) k.sent k.each in
+      rw k.held.kept.rows_are (all_append Waits k.sent k.wait done waits)

@@ -1,8 +1,5 @@
 -- A run of a worker whose calls a journal served, along the journal: its moves and the entries, each at its pace.
-use Rattle.kob_pipeline.proofs.Words.{AllByRecursion, AreServed, Call, Contains, Entry, IsHistory, IsSameView, List, None, Option, Reply, Served, Some, Step, View, [], append-nil, append_assoc, cases_Bool, cons_option, eqb-false, eqb-true, filter_map, inl, inr, refl, served_in, served_to, subst, ℕ, ◌++◌, ◌==◌, ◌∷◌, ◌≡◌, ◌⊎◌}
-use Rattle.kob_authorizer.proofs.Elements.{of_each}
-use Rattle.std.proofs.Common.{arith}
-use Rattle.std.proofs.lemmas.Bool.Decides.{nat_tests}
+use Rattle.kob_pipeline.proofs.Words.{AllByRecursion, AreServed, Call, Contains, Entry, IsHistory, IsSameView, List, None, Option, Reply, Served, Some, Step, View, [], append-nil, append_assoc, arith, cases_Bool, cons_option, eqb-false, eqb-true, filter_map, inl, inr, nat_tests, of_each, refl, served_in, served_to, subst, ℕ, ◌++◌, ◌==◌, ◌∷◌, ◌≡◌, ◌⊎◌}
 
 -- what was heard of a reply
 abbrev pub Hears : Option Reply → Reply → Type 0

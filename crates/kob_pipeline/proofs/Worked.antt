@@ -1,27 +1,109 @@
--- What a worker's steps, its losses and its notes make together.
-use Rattle.kob_pipeline.proofs.Words.{AreServed, AreServedByLoss, HasWorked, AtDesk, Call, Change, ConsumerPlan, Dispatching, Doing, Err, IfOk, InboxEnd, IsConsumerStep, IsConsumption, IsInboxLeft, IsOutboxLeft, IsServiceRun, IsServiceStep, Leads, List, Loss, Ok, OutboxEnd, OutboxEvent, Result, Served, Service, ServiceStep, Standing, Steps, Subscription, [], ap, append-nil, append_assoc, dispatch_of, get_or, inl, inr, later_than, length, map, nothing, refl, stored_row, sym, take, take_more, ℕ, ◌++◌, ◌+◌, ◌<◌, ◌∙◌, ◌∷◌, ◌≡◌}
-use Rattle.kob_inbox.specs.Run.Move.{Called, Restarted}
-use Rattle.kob_pipeline.specs.Steps.{standing}
+-- One call at a desk, and those of a tick.
+use Rattle.kob_pipeline.proofs.Words.{All-cons, All-nil, AreMade, AreNotedOrLost, AreServed, AreServedByLoss, AtDesk, Call, CallFault, Change, ConsumerGoesOn, ConsumerPlan, Dispatching, Doing, Err, HasWorked, IfNone, IfOk, IfSome, InboxEnd, IsConsumerStep, IsConsumption, IsEventOf, IsHeard, IsInboxLeft, IsOfConsumerStep, IsOfServiceStep, IsOutboxLeft, IsServiceRun, IsServiceStep, Leads, List, Loss, None, Ok, Option, OutboxEnd, OutboxEvent, Receipt, Reply, Request, Result, Served, Service, ServiceGoesOn, ServiceStep, Some, Standing, Steps, Subscription, [], ap, append-nil, append_assoc, append_cancel_left, arith, dispatch_of, event_at, get_or, get_or_push, inl, inr, later_than, length, length-append, map, nat_tests, nothing, refl, served_by_notes, standing, stored_row, sym, take, take_more, ℕ, ◌++◌, ◌+◌, ◌-◌, ◌<◌, ◌∙◌, ◌∷◌, ◌≡◌}
+use Rattle.kob_rights.specs.declared.event.Event.{Event}
+use Rattle.kob_pipeline.specs.Noting.{nothing_is_noted, noted_append}
 use Rattle.kob_router.proofs.Runs.{calls_append, run_append}
-use Rattle.kob_lines.proofs.ConsumerCourses.{joined}
+use Rattle.kob_lines.proofs.ConsumerCourses.{calls_joined, joined}
 use Rattle.kob_lines.specs.Joined.{served_append}
 use Rattle.kob_pipeline.specs.declared.plan.ConsumerStep.{ConsumerStep}
 use Rattle.kob_pipeline.specs.declared.plan.ServiceStep.TheVariants.{Record}
-use Rattle.kob_pipeline.specs.Consumers as consuming
-use Rattle.kob_pipeline.specs.Services as serving
-use Rattle.std.proofs.lemmas.Bool.Decides.{nat_tests}
-use Rattle.std.proofs.Common.{arith}
-use Rattle.kob_pipeline.specs.Noting.{noted_append, nothing_is_noted}
 use Rattle.kob_pipeline.proofs.Rows.{all_later, run_numbered}
-use Rattle.kob_inbox.specs.Run as consumers
-use Rattle.kob_router.specs.Run as routers
+use Rattle.kob_inbox.specs.declared.tick.Tick.{Tick as ConsumerAnswer}
+use Rattle.kob_router.specs.declared.tick.Tick.{Tick as RouterAnswer}
 use Rattle.kob_lines.specs.declared.lossy.Loss.TheVariants as lost
+use Rattle.kob_inbox.specs.Run as consumers
+use Rattle.kob_inbox.specs.Tick as consumer_ticks
+use Rattle.kob_router.specs.Run as routers
+use Rattle.kob_router.specs.Tick as router_ticks
+use Rattle.kob_pipeline.specs.declared.plan.ConsumerStep.TheVariants as consumer_steps
+use Rattle.kob_pipeline.specs.declared.plan.ServiceStep.TheVariants as service_steps
 
-consumer_calls_append : (ms ns : List consumers.Move)
-    → consumers.calls_of (ms ++ ns) ≡ consumers.calls_of ms ++ consumers.calls_of ns
-consumer_calls_append [] ns = refl
-consumer_calls_append (Restarted ∷ ms) ns = consumer_calls_append ms ns
-consumer_calls_append (Called call count ∷ ms) ns = cc (consumer_calls_append ms ns)
+-- one more event with its receipt
+notes_push : (es : List Event) (rs : List Receipt) (e : Event) (r : Receipt) → length es ≡ length rs
+    → served_by_notes (es ++ e ∷ []) (rs ++ r ∷ [])
+    ≡ served_by_notes es rs ++ record { request = e.request; reply = r.reply } ∷ []
+notes_push [] [] e r same = refl
+notes_push [] (x ∷ rs) e r same = absurd (omega (arith, same))
+notes_push (x ∷ es) [] e r same = absurd (omega (arith, same))
+notes_push (x ∷ es) (y ∷ rs) e r same = cc (notes_push es rs e r (omega (arith, same)))
+
+-- a call that was heard is noted
+pub heard_is_noted : (old new : AtDesk) (request : Request) (kept : Reply) (last : Receipt) (n : ℕ)
+    → IsHeard old new request → n ≡ length new.noted.events → n ≡ length new.noted.told
+    → last ≡ get_or new.noted.told (n - 1) last → kept ≡ last.reply
+    → AreNotedOrLost lost.None (record { request = request; heard = Some kept } ∷ []) old new
+heard_is_noted old new request kept last n heard events told at_last is =
+    let e = event_at old.seat request in
+    let r = heard.receipt in
+    let events_now : new.noted.events ≡ old.noted.events ++ e ∷ [] = ap (λ (d : AtDesk). d.noted.events) heard.noted in
+    let told_now : new.noted.told ≡ old.noted.told ++ r ∷ [] = ap (λ (d : AtDesk). d.noted.told) heard.noted in
+    let events_long = ap (λ (es : List Event). length es) events_now ∙ length-append old.noted.events (e ∷ []) in
+    let told_long = ap (λ (rs : List Receipt). length rs) told_now ∙ length-append old.noted.told (r ∷ []) in
+    let same : length old.noted.events ≡ length old.noted.told =
+    omega (arith, events, told, events_long, told_long) in
+    let place : length old.noted.told ≡ n - 1 = omega (arith, told, told_long) in
+    let there : last ≡ r =
+    at_last ∙ ap (λ (rs : List Receipt). get_or rs (n - 1) last) told_now
+    ∙ get_or_push old.noted.told r last (n - 1) place in
+    record {
+      served = record { request = request; reply = r.reply } ∷ [];
+      by_loss = (refl, ap (λ (reply : Reply). Some reply) (is ∙ ap (λ (x : Receipt). x.reply) there), tt);
+      noted = record {
+        principal = ap (λ (d : AtDesk). d.seat.principal) heard.noted;
+        host = ap (λ (d : AtDesk). d.seat.host) heard.noted;
+        noted =
+            ap (λ (d : AtDesk). served_by_notes d.noted.events d.noted.told) heard.noted
+            ∙ notes_push old.noted.events old.noted.told e r same;
+        events = e ∷ [];
+        added = events_now;
+        own = All-cons (IsEventOf old.seat.principal old.seat.host) e [] (refl, refl)
+            (All-nil (IsEventOf old.seat.principal old.seat.host));
+      };
+    }
+
+pub unheard_is_noted : (old new : AtDesk) (request : Request) (kept : Reply)
+    → AreNotedOrLost lost.None (record { request = request; heard = Some kept } ∷ []) old new
+    → AreNotedOrLost lost.AfterServe (record { request = request; heard = None } ∷ []) old new
+unheard_is_noted old new request kept noted = grind (arith, nat_tests)
+
+-- a call that is lost before is not noted
+pub unserved_is_noted : (desk : AtDesk) (request : Request)
+    → AreNotedOrLost lost.BeforeServe (record { request = request; heard = None } ∷ []) desk desk
+unserved_is_noted desk request = record { served = []; by_loss = (refl, tt); noted = nothing_is_noted desk }
+
+-- the calls of a tick are those that were noted
+pub calls_of_a_tick : (fault : Option CallFault) (loss then_loss : Loss) (calls then_calls made : List Call)
+    (old new : AtDesk) → AreMade fault loss then_loss calls then_calls old new → then_calls ≡ calls ++ made
+    → AreNotedOrLost loss made old new
+calls_of_a_tick fault loss then_loss calls then_calls made old new are is = grind (arith, nat_tests, append_cancel_left)
+
+-- ---- what a desk heard, and what of it a line notes
+
+pub noted_if_served : (request : Request) (heard : Option Reply) (fault : Option CallFault) (old new : AtDesk)
+    → IfNone heard (fault ≡ None → ⊥)
+    → IfSome heard (λ r. AreNotedOrLost lost.None (record { request = request; heard = Some r } ∷ []) old new)
+    → fault ≡ None
+    → AreNotedOrLost lost.None (record { request = request; heard = heard } ∷ []) old new
+noted_if_served request (Some r) fault old new unserved served none = served
+noted_if_served request None fault old new unserved served none = absurd (unserved none)
+
+pub noted_if_unheard : (request : Request) (heard : Option Reply) (fault : Option CallFault) (old new : AtDesk)
+    → IfNone heard (fault ≡ None → ⊥)
+    → IfSome heard (λ r. AreNotedOrLost lost.None (record { request = request; heard = Some r } ∷ []) old new)
+    → fault ≡ None → AreNotedOrLost lost.AfterServe (record { request = request; heard = None } ∷ []) old new
+noted_if_unheard request (Some r) fault old new unserved served none = unheard_is_noted old new request r served
+noted_if_unheard request None fault old new unserved served none = absurd (unserved none)
+
+pub faultless_before : (heard : Option Reply) (fault before : Option CallFault)
+    → IfNone heard (fault ≡ None → ⊥) → IfSome heard (λ r. fault ≡ before) → fault ≡ None → before ≡ None
+faultless_before (Some r) fault before unserved same none = sym same ∙ none
+faultless_before None fault before unserved same none = absurd (unserved none)
+
+-- a fault is there
+pub a_fault_is_one : (fault : Option CallFault) (why : CallFault) → fault ≡ Some why → fault ≡ None → ⊥
+a_fault_is_one fault why is none = cc
+
+-- What a worker's steps, its losses and its notes make together.
 
 -- ---- steps one after another, and what they make in all
 
@@ -47,20 +129,23 @@ module _ {S T M : Type 0} (does : Doing S T M) where
         append_assoc first rest ts,
       )
 
-  -- what holds of each step, and of those one after another, holds of all
-  steps_run : (Run : S → List M → List Served → S → Type 0) → ((s : S) → Run s [] [] s)
-      → ((a b c : S) (xs ys : List M) (ss ts : List Served) → Run a xs ss b → Run b ys ts c
-      → Run a (xs ++ ys) (ss ++ ts) c)
-      → ((a : S) (t : T) (xs : List M) (ss : List Served) (b : S) → does a t xs ss b → Run a xs ss b)
+  -- runs of steps are one run, and its calls were served
+  worked : (IsRun : S → List M → S → Type 0) (calls : List M → List Call) → ((s : S) → IsRun s [] s) → calls [] ≡ []
+      → ((xs ys : List M) (a b c : S) → IsRun a xs b → IsRun b ys c → IsRun a (xs ++ ys) c)
+      → ((xs ys : List M) → calls (xs ++ ys) ≡ calls xs ++ calls ys)
+      → ((a b : S) (t : T) (xs : List M) (ss : List Served) → does a t xs ss b → IsRun a xs b × AreServed (calls xs) ss)
       → (old new : S) (steps : List T) (moves : List M) (ss : List Served) → Steps does old steps moves ss new
-      → Run old moves ss new
-  steps_run Run still joined each old new [] moves ss (no_move, unserved, same) =
-      rw (no_move, unserved, same) (still old)
-  steps_run Run still joined each old new (step ∷ steps) moves ss
+      → IsRun old moves new × AreServed (calls moves) ss
+  worked IsRun calls still none joined split each old new [] moves ss (no_move, unserved, same) =
+      rw (no_move, unserved, same, none) (still old, tt)
+  worked IsRun calls still none joined split each old new (step ∷ steps) moves ss
       (mid, these, those, first, rest, done, later, all, told) =
-      rw (all, told)
-      (joined old mid new these those first rest (each old step these first mid done)
-      (steps_run Run still joined each mid new steps those rest later))
+      let one = each old mid step these first done in
+      let two = worked IsRun calls still none joined split each mid new steps those rest later in
+      rw (all, told, split these those) (
+        joined these those old mid new one.0 two.0,
+        served_append (calls these) (calls those) first rest one.1 two.1,
+      )
 
 module _ {S T M : Type 0} {does : Doing S T M} where
   -- no step was made yet
@@ -121,40 +206,29 @@ served_by_loss lost.BeforeServe (c ∷ cs) (s ∷ ss) is = inl (is.0, served_by_
 served_by_loss lost.AfterServe (c ∷ cs) (s ∷ ss) is = inr (is.0, inl is.1, served_by_loss lost.None cs ss is.2)
 served_by_loss loss cs ss is = absurd is
 
-service_served : (route : Dispatching) (old new : routers.State) (step : ServiceStep) (ms : List routers.Move)
-    (ss : List Served) → serving.IsOfStep route old step ms ss new → AreServed (routers.calls_of ms) ss
-service_served route old new step ms ss own = grind (arith, nat_tests, served_by_loss)
-
-consumer_served : (t : Subscription) (step : ConsumerStep) (ms : List consumers.Move) (ss : List Served)
-    → consuming.IsOfStep t step ms ss → AreServed (consumers.calls_of ms) ss
-consumer_served t step ms ss own = grind (arith, nat_tests, served_by_loss)
-
 -- the steps of a service are a router's run, and its calls were served
 service_run : (route : Dispatching) (old new : routers.State) (steps : List ServiceStep) (moves : List routers.Move)
     (ss : List Served) → Steps (IsServiceStep route) old steps moves ss new
     → routers.IsRouterRun route old moves new × AreServed (routers.calls_of moves) ss
 service_run route =
-    steps_run (IsServiceStep route)
-    (λ s ms ss t. routers.IsRouterRun route s ms t × AreServed (routers.calls_of ms) ss) (λ s. (refl, tt))
-    (λ a b c xs ys ss ts one two. (
-      run_append route xs ys a b c one.0 two.0,
-      rw (calls_append xs ys) (served_append (routers.calls_of xs) (routers.calls_of ys) ss ts one.1 two.1),
-    ))
-    (λ a t xs ss b done. (done.run, service_served route a b t xs ss done.own))
+    worked (IsServiceStep route) (routers.IsRouterRun route) routers.calls_of (λ s. refl) refl (run_append route)
+    calls_append (λ a b t xs ss done. (done.run, served route a b t xs ss done.own))
+  where
+    served : (route : Dispatching) (old new : routers.State) (step : ServiceStep) (ms : List routers.Move)
+        (ss : List Served) → IsOfServiceStep route old step ms ss new → AreServed (routers.calls_of ms) ss
+    served route old new step ms ss own = grind (arith, nat_tests, served_by_loss)
 
 -- the steps of a consumer are a consumer's run, and its calls were served
 consumer_run : (t : Subscription) (old new : consumers.State) (steps : List ConsumerStep) (moves : List consumers.Move)
     (ss : List Served) → Steps (IsConsumerStep t) old steps moves ss new
     → consumers.IsConsumerRun t old moves new × AreServed (consumers.calls_of moves) ss
 consumer_run t =
-    steps_run (IsConsumerStep t)
-    (λ s ms ss u. consumers.IsConsumerRun t s ms u × AreServed (consumers.calls_of ms) ss) (λ s. (refl, tt))
-    (λ a b c xs ys ss ts one two. (
-      joined t xs ys a b c one.0 two.0,
-      rw (consumer_calls_append xs ys)
-          (served_append (consumers.calls_of xs) (consumers.calls_of ys) ss ts one.1 two.1),
-    ))
-    (λ a u xs ss b done. (done.run, consumer_served t u xs ss done.own))
+    worked (IsConsumerStep t) (consumers.IsConsumerRun t) consumers.calls_of (λ s. refl) refl (joined t) calls_joined
+    (λ a b u xs ss done. (done.run, served t u xs ss done.own))
+  where
+    served : (t : Subscription) (step : ConsumerStep) (ms : List consumers.Move) (ss : List Served)
+        → IsOfConsumerStep t step ms ss → AreServed (consumers.calls_of ms) ss
+    served t step ms ss own = grind (arith, nat_tests, served_by_loss)
 
 pub service_run_of : (s : Service) (begun desk : AtDesk) (left : OutboxEnd) → begun.noted ≡ nothing
     → begun.seat.principal ≡ s.principal → begun.seat.host ≡ s.host → IsOutboxLeft s begun desk left
@@ -187,6 +261,59 @@ outbox_left s {new = new} leads rows mark =
       rows = rows ∙ all_later new.outbox.events (run_numbered route leads.moves routers.start new run.0 tt);
       mark = mark;
     }
+
+-- ---- a tick over a line at a desk is a step of its worker
+
+abbrev pub router_scene : routers.State → List Call → ℕ → router_ticks.Scene
+router_scene state calls unmade = record { state = state; calls = calls; unmade = unmade }
+
+abbrev pub consumer_scene : consumers.State → List Call → ℕ → consumer_ticks.Scene
+consumer_scene state calls unmade = record { state = state; calls = calls; unmade = unmade }
+
+-- the line is the worker's, whose loss was set
+module _ {loss set then_loss : Loss} {fault : Option CallFault} {calls then_calls : List Call} {unmade then_unmade : ℕ}
+    {before begun desk : AtDesk} (is_set : set ≡ loss) (same : begun ≡ before) (none : unmade ≡ 0)
+    (still_none : then_unmade ≡ 0) (made : AreMade fault set then_loss calls then_calls begun desk) where
+  -- the calls of the tick's moves are those that were noted
+  ticked : {S T M : Type 0} {does : Doing S T M} {old new : S} {step : T} (moves : List M) (these : List Call)
+      → then_calls ≡ calls ++ these
+      → ((served : List Served) → AreServedByLoss loss these served → does old step moves served new)
+      → Leads does (standing old before) step (standing new desk)
+  ticked moves these is done =
+      let at = calls_of_a_tick fault loss then_loss calls then_calls these before desk (rw (is_set, same) at made) is in
+      record { moves = moves; served = at.served; done = done at.served at.by_loss; noted = at.noted }
+
+  pub service_ticked : {route : Dispatching} {old new : routers.State} {tick : RouterAnswer} → ServiceGoesOn tick
+      → router_ticks.Ticks router_ticks.IsOneTick route (router_scene old calls unmade)
+      (router_scene new then_calls then_unmade) tick
+      → Leads (IsServiceStep route) (standing old before) (service_steps.Tick loss) (standing new desk)
+  service_ticked {tick = tick} goes_on ticks =
+      ticked ticks.moves (routers.calls_of ticks.moves) ticks.calls (λ served by. record {
+        run = ticks.run;
+        own = record {
+          own = ticks.own;
+          few = ticks.few;
+          tick = tick;
+          goes_on = goes_on;
+          answer = rw (none, still_none) at ticks.answer;
+          lost = by;
+        };
+      })
+
+  pub consumer_ticked : {t : Subscription} {old new : consumers.State} {tick : ConsumerAnswer} → ConsumerGoesOn tick
+      → consumer_ticks.Ticks t (consumer_scene old calls unmade) (consumer_scene new then_calls then_unmade) tick
+      → Leads (IsConsumerStep t) (standing old before) (consumer_steps.Tick loss) (standing new desk)
+  consumer_ticked {tick = tick} goes_on ticks =
+      ticked ticks.moves (consumers.calls_of ticks.moves) ticks.calls (λ served by. record {
+        run = ticks.run;
+        own = record {
+          tick = tick;
+          goes_on = goes_on;
+          answer = ticks.answer;
+          made = rw (none, still_none) at (sym ticks.counted);
+          lost = by;
+        };
+      })
 
 -- what two facts of a result give together
 pub if_ok_two : {V E : Type 0} (P Q S : V → Type 0) (r : Result V E) → ((v : V) → P v → Q v → S v) → IfOk r P

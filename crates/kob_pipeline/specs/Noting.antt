@@ -1,23 +1,13 @@
 -- Calls after calls at a desk.
-use Rattle.std.proofs.Common.{◌≡◌, List, [], ◌∷◌, ◌++◌, Option, None, refl, sym, ap, ◌∙◌, append_assoc, append-nil}
-use Rattle.std.specs.List.{All}
+use Rattle.std.proofs.Common.{◌≡◌, List, [], ◌∷◌, ◌++◌, Option, None, refl, sym, ap, ◌∙◌, append_assoc, append-nil, arith}
+use Rattle.std.proofs.lemmas.Bool.Decides.{nat_tests}
 use Rattle.std.proofs.lemmas.List.Elements.{All-append, All-nil}
-use Rattle.kob_router.specs.Served.{Served}
-use Rattle.kob_router.specs.declared.line.Call.{Call}
-use Rattle.kob_shared.specs.Noted.{AtDesk}
-use Rattle.kob_shared.specs.declared.faults.CallFault.{CallFault}
-use Rattle.kob_pipeline.specs.Losses.{AreMade, AreNoted, AreNotedOrLost, AreServedByLoss, IsEventOf, loss_after}
-use Rattle.kob_pipeline.specs.Served.{served_by_notes}
-use Rattle.kob_lines.specs.declared.lossy.Loss.{Loss}
+use Rattle.kob_pipeline.specs.Types.{Served, Call, AtDesk, CallFault, Loss}
+use Rattle.kob_pipeline.specs.Served.{AreMade, AreNoted, AreServedByLoss, IsEventOf, loss_after, served_by_notes}
 use Rattle.kob_lines.specs.declared.lossy.Loss.TheVariants as lost
 
-after_none : (calls : List Call) → loss_after lost.None calls ≡ lost.None
-after_none [] = refl
-after_none (c ∷ calls) = refl
-
 loss_append : (loss : Loss) (xs ys : List Call) → loss_after loss (xs ++ ys) ≡ loss_after (loss_after loss xs) ys
-loss_append loss [] ys = refl
-loss_append loss (x ∷ xs) ys = sym (after_none ys)
+loss_append loss xs ys = grind (arith, nat_tests)
 
 no_call_is_lost : (loss : Loss) → AreServedByLoss loss [] []
 no_call_is_lost lost.None = tt
@@ -27,20 +17,13 @@ no_call_is_lost lost.AfterServe = tt
 -- calls after others none of which is lost
 unlost_append : (xs ys : List Call) (ss ts : List Served) → AreServedByLoss lost.None xs ss
     → AreServedByLoss lost.None ys ts → AreServedByLoss lost.None (xs ++ ys) (ss ++ ts)
-unlost_append [] ys [] ts one two = two
-unlost_append (x ∷ xs) ys (s ∷ ss) ts one two = (one.0, one.1, unlost_append xs ys ss ts one.2 two)
-unlost_append xs ys ss ts one two = absurd one
+unlost_append [] ys ss ts one two = grind (arith, nat_tests)
+unlost_append (x ∷ xs) ys ss ts one two = grind (arith, nat_tests, unlost_append xs ys)
 
 by_loss_append : (loss : Loss) (xs ys : List Call) (ss ts : List Served) → AreServedByLoss loss xs ss
     → AreServedByLoss (loss_after loss xs) ys ts → AreServedByLoss loss (xs ++ ys) (ss ++ ts)
-by_loss_append lost.None xs ys ss ts one two = unlost_append xs ys ss ts one (rw (after_none xs) at two)
-by_loss_append loss [] ys [] ts one two = two
-by_loss_append lost.BeforeServe (x ∷ xs) ys [] [] one two = (one.0, unlost_append xs ys [] [] one.1 two)
-by_loss_append lost.BeforeServe (x ∷ xs) ys [] (t ∷ ts) one two = (one.0, unlost_append xs ys [] (t ∷ ts) one.1 two)
-by_loss_append lost.BeforeServe (x ∷ xs) ys (s ∷ ss) ts one two = (one.0, unlost_append xs ys (s ∷ ss) ts one.1 two)
-by_loss_append lost.AfterServe (x ∷ xs) ys (s ∷ ss) ts one two =
-    (one.0, one.1, unlost_append xs ys ss ts one.2 two)
-by_loss_append loss xs ys ss ts one two = absurd one
+by_loss_append loss [] ys ss ts one two = grind (arith, nat_tests)
+by_loss_append loss (x ∷ xs) ys ss ts one two = grind (arith, nat_tests, unlost_append xs ys)
 
 -- ---- what is noted
 

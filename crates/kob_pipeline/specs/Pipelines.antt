@@ -1,20 +1,22 @@
--- What a pipeline leaves of a plan.
-use Rattle.std.specs.Prelude.{◌≡◌, ℕ, ◌+◌, List, length, Some, option_map, slice_get}
-use Rattle.std.specs.List.{AllZip}
+-- What a pipeline leaves of a plan, how it may fail, and how the laws speak of what is left.
+use Rattle.std.specs.Prelude.{◌≡◌, ℕ, ◌+◌, List, length, Some, option_map, slice_get, [], map}
+use Rattle.std.specs.List.{AllZip, AllByRecursion}
 use Rattle.kob_broker.specs.Change.{state_of}
-use Rattle.kob_broker.specs.State.{State}
-use Rattle.kob_partition.specs.Retained.{Retained}
+use Rattle.kob_pipeline.specs.Types.{State, Retained, BeginsWith, EachIsAnswered, IsKept, IsTornAt, events_in, notes_of, told_in, NamesOneOf, Noted, WorkerEnd, Plan, Settings, Record, records_of, stored_row, dispatch_of, Place, taken_in, placed_intake, taken_of, InboxEnd, OutboxEnd, ConsumerPlan, Service}
 use Rattle.kob_rights.specs.declared.event.Event.{Event}
-use Rattle.kob_shared.specs.Fleets.{BeginsWith, EachIsAnswered, IsKept}
-use Rattle.kob_shared.specs.Journals.{IsLegal}
-use Rattle.kob_shared.specs.Noted.{Noted}
-use Rattle.kob_shared.specs.Openings.{opened_by}
-use Rattle.kob_shared.specs.Runs.{events_in, notes_of, told_in}
+use Rattle.kob_shared.specs.Journals.{IsLegal, opened_by}
 use Rattle.kob_shared.specs.declared.work.Done.{Done}
 use Rattle.kob_pipeline.specs.declared.end.PipelineEnd.{PipelineEnd}
-use Rattle.kob_pipeline.specs.declared.end.WorkerEnd.{WorkerEnd}
-use Rattle.kob_pipeline.specs.declared.plan.Plan.{Plan}
-use Rattle.kob_pipeline.specs.Workers.{HasEnded, Planned, planned_workers}
+use Rattle.kob_pipeline.specs.Steps.{HasEnded, Planned, planned_workers, IsConsumption}
+use Rattle.kob_pipeline.specs.declared.fault.PipelineFault.{PipelineFault}
+use Rattle.kob_pipeline.specs.declared.fault.PipelineFault.TheVariants.{TooManyWorkers, JournalFull, Stopped, Torn}
+use Rattle.kob_inbox.specs.declared.inbox_row.InboxRow.{InboxRow}
+use Rattle.kob_pipeline.specs.View.{view_after}
+use Rattle.kob_pipeline.specs.Delivery.{IsTakenInOrder, IsWaitingOrSent}
+use Rattle.kob_pipeline.specs.Plans.{rows_of_service}
+use Rattle.kob_pipeline.specs.declared.end.WorkerEnd.TheVariants.{Inbox, Outbox}
+use Rattle.kob_outbox.specs.Contents as outboxes
+use Rattle.kob_inbox.specs.Contents as inboxes
 
 -- the place in the list of what workers left, of the k-th consumer, k from 0; the k-th service has
 -- place k
@@ -57,3 +59,55 @@ pub record IsEnd (opening : State Retained) (first : List Event) (planned : List
 -- so it is of a plan: services, then consumers, then administrators
 abbrev pub IsPipeline : Plan → PipelineEnd → Type 0
 IsPipeline plan end = IsEnd (opened_by plan.settings) plan.first (planned_workers plan) end
+
+-- the journal that is given back is torn there, and all notes have a receipt for each event
+abbrev pub IsTornOnlyWhere : Settings → PipelineFault → Type 0
+IsTornOnlyWhere opening (Torn worker place ran) =
+    let notes = notes_of ran.first ran.done.items in
+    EachIsAnswered (events_in notes) (told_in notes)
+    × IsTornAt opening (events_in notes) (told_in notes) ran.found worker place
+IsTornOnlyWhere opening fault = Unit {0}
+
+-- a fault that comes after the counts were found to fit
+abbrev pub IsLater : PipelineFault → Type 0
+IsLater TooManyWorkers = ⊥
+IsLater JournalFull = ⊥
+IsLater fault = Unit {0}
+
+-- a worker that is named is one of so many, and not worker 0, whose events fit
+abbrev pub NamesWorkerWithin : ℕ → PipelineFault → Type 0
+NamesWorkerWithin count (Stopped stop) = NamesOneOf count stop
+NamesWorkerWithin count fault = Unit {0}
+
+-- all records that a partition has accepted by the end of the journal, each at its offset
+abbrev pub records_at : Plan → PipelineEnd → Place → List Record
+records_at plan end place = records_of ((view_after plan.settings end.journal).log place)
+
+-- an outbox with the rows and the mark that are left
+abbrev pub outbox_in : OutboxEnd → outboxes.Contents
+outbox_in left =
+    record outboxes.empty { events = map stored_row left.rows.items; mark = left.mark }
+
+-- the events of an inbox that is left, in the order of their intake
+abbrev pub inbox_in : InboxEnd → inboxes.Contents
+inbox_in left = map (λ (row : InboxRow). (placed_intake row).1) left.rows.items
+
+-- what the consumer took in from the place, also what it had seen before, is in the order of the
+-- partition's records; and what it took in from all its places makes its inbox
+pub record TakesInOrder (plan : Plan) (end : PipelineEnd) (k : ℕ) (consumer : ConsumerPlan)
+    (place : Place) : Type 0 where
+  pub noted : Noted
+  pub left : InboxEnd
+  pub done : HasDone end (consumer_place plan k) noted (Inbox left)
+  pub run : IsConsumption consumer noted left
+  pub order : IsTakenInOrder place (records_at plan end place) (taken_of run.work.moves)
+  pub inbox : inbox_in left ≡ taken_in [] (taken_of run.work.moves)
+
+-- no row that a service recorded is lost: it stands past the mark in the outbox that is left, or the
+-- journal has a PRODUCE of its record that was done
+abbrev pub IsNoneLost : Plan → PipelineEnd → Type 0
+IsNoneLost plan end = (k : ℕ) (service : Service) (left : OutboxEnd)
+    → slice_get plan.services.items k ≡ Some service
+    → HasLeft end k (Outbox left)
+    → AllByRecursion (IsWaitingOrSent (dispatch_of service.target) (service_number plan k)
+    end.journal (outbox_in left)) (rows_of_service service)

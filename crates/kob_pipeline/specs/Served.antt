@@ -1,12 +1,14 @@
--- Which calls of a worker were served.
-use Rattle.std.specs.Prelude.{ℕ, List, [], ◌∷◌, if◌then◌else◌, ◌==◌}
+-- Which calls of a worker were served, which were lost, and what it noted of them.
+use Rattle.std.specs.Prelude.{ℕ, List, [], ◌∷◌, if◌then◌else◌, ◌==◌, ◌≡◌, ◌++◌, Option, None, Some}
 use Rattle.kob_rights.specs.declared.event.Event.{Event}
-use Rattle.kob_router.specs.Served.{Served}
-use Rattle.kob_shared.specs.declared.journal.Entry.{Entry}
+use Rattle.kob_pipeline.specs.Types.{Served, AreServed, Entry, dispatch_of, Subscription, Call, AtDesk, CallFault, Loss}
 use Rattle.kob_shared.specs.declared.journal.Receipt.{Receipt}
-
-abbrev pub served_in : Entry → Served
-served_in e = record { request = e.event.request; reply = e.reply }
+use Rattle.kob_router.specs.declared.dispatch.Target.{Target}
+use Rattle.std.specs.List.{All}
+use Rattle.kob_router.specs.Run as router
+use Rattle.kob_inbox.specs.Run as consumer
+use Rattle.kob_lines.specs.declared.lossy.Loss.TheVariants as losses
+use Rattle.kob_lines.specs.Calls.{served_in}
 
 -- what the journal says that a worker was served, in order
 abbrev pub served_to : ℕ → List Entry → List Served
@@ -20,3 +22,63 @@ served_by_notes [] told = []
 served_by_notes (e ∷ es) [] = []
 served_by_notes (e ∷ es) (r ∷ rs) =
     record { request = e.request; reply = r.reply } ∷ served_by_notes es rs
+
+-- a service's part in a journal: a run from an empty outbox on, whose calls it served to the worker
+pub record IsServicePart (target : Target) (worker : ℕ) (journal : List Entry)
+    (moves : List router.Move) (now : router.State) : Type 0 where
+  pub run : router.IsRouterRun (dispatch_of target) router.start moves now
+  pub served : AreServed (router.calls_of moves) (served_to worker journal)
+
+-- a consumer's, from an empty inbox on
+pub record IsConsumerPart (t : Subscription) (worker : ℕ) (journal : List Entry)
+    (moves : List consumer.Move) (now : consumer.State) : Type 0 where
+  pub run : consumer.IsConsumerRun t consumer.start moves now
+  pub served : AreServed (consumer.calls_of moves) (served_to worker journal)
+
+-- Which calls of a tick were served, where the first has this loss and no other is lost. Without a
+-- loss a call was served, and its reply was heard; lost before it was served, it was neither; lost
+-- after, it was served and not heard.
+abbrev pub AreServedByLoss : Loss → List Call → List Served → Type 0
+AreServedByLoss loss [] [] = Unit {0}
+AreServedByLoss losses.None (c ∷ cs) (s ∷ ss) =
+    (s.request ≡ c.request) × (c.heard ≡ Some s.reply) × AreServedByLoss losses.None cs ss
+AreServedByLoss losses.BeforeServe (c ∷ cs) ss =
+    (c.heard ≡ None) × AreServedByLoss losses.None cs ss
+AreServedByLoss losses.AfterServe (c ∷ cs) (s ∷ ss) =
+    (s.request ≡ c.request) × (c.heard ≡ None) × AreServedByLoss losses.None cs ss
+AreServedByLoss loss cs ss = ⊥
+
+-- how the next call is lost, after these of a tick
+abbrev pub loss_after : Loss → List Call → Loss
+loss_after loss [] = loss
+loss_after loss (call ∷ calls) = losses.None
+
+-- the event is of this principal and its host
+abbrev pub IsEventOf : List ℕ → List ℕ → Event → Type 0
+IsEventOf principal host e = (e.principal ≡ principal) × (e.host ≡ host)
+
+-- what was served is noted, for the principal and the host of the desk
+pub record AreNoted (served : List Served) (old new : AtDesk) : Type 0 where
+  pub principal : new.seat.principal ≡ old.seat.principal
+  pub host : new.seat.host ≡ old.seat.host
+  pub noted :
+      served_by_notes new.noted.events new.noted.told
+      ≡ served_by_notes old.noted.events old.noted.told ++ served
+  pub events : List Event
+  pub added : new.noted.events ≡ old.noted.events ++ events
+  pub own : All (IsEventOf old.seat.principal old.seat.host) events
+
+-- each call of a tick was noted, or lost on purpose
+pub record AreNotedOrLost (loss : Loss) (calls : List Call) (old new : AtDesk) : Type 0 where
+  pub served : List Served
+  pub by_loss : AreServedByLoss loss calls served
+  pub noted : AreNoted served old new
+
+-- the same of the calls that a line over the desk made
+pub record AreMade (fault : Option CallFault) (loss then_loss : Loss) (calls then_calls : List Call)
+    (old new : AtDesk) : Type 0 where
+  pub begun : fault ≡ None
+  pub made : List Call
+  pub calls_now : then_calls ≡ calls ++ made
+  pub next : then_loss ≡ loss_after loss made
+  pub noted : AreNotedOrLost loss made old new

@@ -1,8 +1,8 @@
 //! Workers that are consumers.
 
 ghost use Rattle.std.specs.Prelude.{◌≡◌, IfOk};
-ghost use Rattle.kob_pipeline.specs.Workers.{IsInboxLeft, IsLeft};
-ghost use Rattle.kob_pipeline.specs.Workers.Planned.{Consuming as PlannedConsumer};
+ghost use Rattle.kob_pipeline.specs.Steps.{IsInboxLeft, IsLeft};
+ghost use Rattle.kob_pipeline.specs.Steps.Planned.{Consuming as PlannedConsumer};
 
 use crate::consuming::Consuming;
 use crate::desk::desk_at;

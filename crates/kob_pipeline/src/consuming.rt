@@ -6,8 +6,7 @@ ghost use Rattle.kob_inbox.specs.Rows.{placed_intake};
 ghost use Rattle.kob_inbox.specs.Run.{start};
 ghost use Rattle.kob_inbox.specs.Tick.{state_of};
 ghost use Rattle.kob_pipeline.specs.declared.plan.ConsumerStep.TheVariants as steps;
-ghost use Rattle.kob_pipeline.specs.Consumers.{GoesOn, IsConsumerStep};
-ghost use Rattle.kob_pipeline.specs.Steps.{Leads, Steps, standing};
+ghost use Rattle.kob_pipeline.specs.Steps.{ConsumerGoesOn, IsConsumerStep, Leads, Steps, standing};
 
 use crate::end::InboxEnd;
 use crate::line::DeskLine;
@@ -129,8 +128,8 @@ impl Consuming {
 
 /// The fault, if out of memory or the database stopped a tick.
 fn goes_on(tick: Tick) -> Result<(), StepFault>
-    ensures ok { OnOk result (GoesOn tick) }
-    ensures err { OnErr result (¬ (GoesOn tick)) }
+    ensures ok { OnOk result (ConsumerGoesOn tick) }
+    ensures err { OnErr result (¬ (ConsumerGoesOn tick)) }
 {
     match tick {
         Tick::Stopped(StopReason::Memory) => Err(StepFault::Call(CallFault::Memory)),

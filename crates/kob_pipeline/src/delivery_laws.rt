@@ -10,14 +10,12 @@ ghost use Rattle.kob_router.specs.Run.{Move as RouterMove, State as RouterState}
 ghost use Rattle.kob_router.specs.declared.dispatch.Target.{Target};
 ghost use Rattle.kob_router.specs.declared.place.Place.{Place};
 ghost use Rattle.kob_shared.specs.declared.journal.Entry.{Entry};
-ghost use Rattle.kob_pipeline.specs.Taking.{IsTakenInOrder};
-ghost use Rattle.kob_pipeline.specs.Delivery.{IsDelivered, rows_of};
-ghost use Rattle.kob_pipeline.specs.Parts.{IsConsumerPart, IsServicePart};
-ghost use Rattle.kob_pipeline.specs.Premises.{ArePrivate, IsNeverDeleted};
-ghost use Rattle.kob_pipeline.specs.Premises.{IsSoleCommitter, IsSoleProducer};
-ghost use Rattle.kob_pipeline.specs.Reaching.{ReachesInOrder};
+ghost use Rattle.kob_pipeline.specs.Delivery.{IsTakenInOrder, IsDelivered, rows_of, ReachesInOrder};
+ghost use Rattle.kob_pipeline.specs.Delivery.{IsWaitingOrSent};
+ghost use Rattle.kob_pipeline.specs.Served.{IsConsumerPart, IsServicePart};
+ghost use Rattle.kob_pipeline.specs.Premises.{ArePrivate, IsNeverDeleted, IsSoleCommitter};
+ghost use Rattle.kob_pipeline.specs.Premises.{IsSoleProducer};
 ghost use Rattle.kob_pipeline.specs.View.{IsHistory, View, opening_view};
-ghost use Rattle.kob_pipeline.specs.Waiting.{IsWaitingOrSent};
 
 /// Take a partition of a topic to which only the service sends, and that nobody deletes. Its event
 /// ids, each at its first offset, are a prefix of those of the recorded rows that are routed there.

@@ -1,12 +1,11 @@
 //! A line over a desk, which loses the calls that a plan loses.
 
-ghost use Rattle.std.specs.Prelude.{◌≡◌, ◌<◌, ◌⊎◌, [], ◌∷◌, ◌++◌, None, OnOk, Some};
-ghost use Rattle.std.specs.Prelude.{IfErr, IfNone, IfOk, IfSome};
-ghost use Rattle.std.specs.Prelude.{vec_capacity, vec_len};
-ghost use Rattle.kob_lines.specs.Heard.{reply_of};
+ghost use Rattle.std.specs.Prelude.{◌≡◌, ◌<◌, ◌⊎◌, [], ◌∷◌, ◌++◌, None, OnOk, Some, IfErr, IfNone};
+ghost use Rattle.std.specs.Prelude.{IfOk, IfSome, vec_capacity, vec_len};
+ghost use Rattle.kob_lines.specs.Calls.{reply_of};
 ghost use Rattle.kob_rights.specs.Bodies.{Fits};
 ghost use Rattle.kob_rights.specs.Offsets.{OffsetsWithin};
-ghost use Rattle.kob_pipeline.specs.Losses.{AreNotedOrLost};
+ghost use Rattle.kob_pipeline.specs.Served.{AreNotedOrLost};
 ghost use Rattle.kob_router.specs.Line.{Adds, IsFaithful};
 
 use kob_lines::{Calls, Loss};
@@ -108,7 +107,7 @@ impl<'a, R: Wait, G: Gate> DeskLine<'a, R, G> {
     }
 
     /// Makes a call, unless it is lost before. Returns the reply, unless it is lost.
-    #[tactic(auto, using(crate::proofs::Losing::noted_if_served, crate::proofs::Losing::noted_if_unheard, crate::proofs::Losing::faultless_before, crate::proofs::Losing::unserved_is_noted))]
+    #[tactic(auto, using(crate::proofs::Worked::noted_if_served, crate::proofs::Worked::noted_if_unheard, crate::proofs::Worked::faultless_before, crate::proofs::Worked::unserved_is_noted))]
     fn make(&mut self, alloc: Global, request: Request, loss: Loss) -> Option<Reply>
         ensures calls { self.new.calls ≡ self.old.calls }
         ensures loss { self.new.loss ≡ self.old.loss }
@@ -133,7 +132,7 @@ impl<'a, R: Wait, G: Gate> DeskLine<'a, R, G> {
     }
 
     /// Makes a call, and keeps why it was not served, or its reply not kept.
-    #[tactic(auto, using(crate::proofs::Losing::a_fault_is_one))]
+    #[tactic(auto, using(crate::proofs::Worked::a_fault_is_one))]
     fn serve(&mut self, alloc: Global, request: Request) -> Option<Reply>
         ensures calls { self.new.calls ≡ self.old.calls }
         ensures loss { self.new.loss ≡ self.old.loss }
@@ -155,7 +154,7 @@ impl<'a, R: Wait, G: Gate> DeskLine<'a, R, G> {
 
     /// Notes a call with the reply that was received, if one was. A reply without a second copy
     /// counts as lost, which is a fault.
-    #[tactic(auto, using(crate::proofs::Losing::a_fault_is_one))]
+    #[tactic(auto, using(crate::proofs::Worked::a_fault_is_one))]
     fn note(&mut self, alloc: Global, request: Request, heard: Option<Reply>) -> Delivery
         requires room { vec_len self.old.calls.made < vec_capacity self.old.calls.made }
         requires fits { IfSome heard (λ reply. Fits request reply) }
@@ -184,7 +183,7 @@ impl<'a, R: Wait, G: Gate> DeskLine<'a, R, G> {
 }
 
 impl<'a, R: Wait, G: Gate> Line for DeskLine<'a, R, G> {
-    ghost use Rattle.kob_pipeline.specs.Losses.{AreMade};
+    ghost use Rattle.kob_pipeline.specs.Served.{AreMade};
     ghost use Rattle.kob_pipeline.specs.Noting.{calls_are_made, no_call_is_made};
 
     ghost calls = { λ line. line.calls.made.items };

@@ -1,7 +1,8 @@
 //! A service with its router and its outbox, and its steps.
 
 ghost use Rattle.std.specs.Prelude.{◌≡◌, ◌≤◌, ◌⊎◌, ◌^◌, ◌++◌, [], map, IfErr, IfOk, IsErrOf, None};
-ghost use Rattle.std.specs.Prelude.{◌-◌, OnErr, OnOk, false, length, option_map, slice_get, unwrap_or};
+ghost use Rattle.std.specs.Prelude.{◌-◌, OnErr, OnOk, false, length, option_map, slice_get};
+ghost use Rattle.std.specs.Prelude.{unwrap_or};
 ghost use Rattle.kob_outbox.specs.Events.{id_text, stored_row};
 ghost use Rattle.kob_outbox.specs.Fields.{first_bad};
 ghost use Rattle.kob_outbox.specs.Reading.{later_than};
@@ -10,9 +11,8 @@ ghost use Rattle.kob_router.specs.Dispatches.{dispatch_of};
 ghost use Rattle.kob_router.specs.Run.{start};
 ghost use Rattle.kob_router.specs.Tick.{IsFirst, hand_of, state_of};
 ghost use Rattle.kob_pipeline.specs.declared.plan.ServiceStep.TheVariants as steps;
-ghost use Rattle.kob_pipeline.specs.Firsts.{IsPrefixOf};
-ghost use Rattle.kob_pipeline.specs.Services.{GoesOn, IsServiceStep};
-ghost use Rattle.kob_pipeline.specs.Steps.{Leads, Steps, standing};
+ghost use Rattle.kob_pipeline.specs.Delivery.{IsPrefixOf};
+ghost use Rattle.kob_pipeline.specs.Steps.{ServiceGoesOn, IsServiceStep, Leads, Steps, standing};
 
 use crate::end::OutboxEnd;
 use crate::line::DeskLine;
@@ -36,7 +36,7 @@ pub(crate) struct Posting {
 }
 
 impl Posting {
-    ghost use Rattle.kob_shared.specs.Noted.{AtDesk};
+    ghost use Rattle.kob_shared.specs.Sessions.{AtDesk};
 
     /// A service's database and router, before its first step.
     pub(crate) fn open(alloc: Global, service: &Service) -> Result<Posting, StepFault>
@@ -191,8 +191,8 @@ impl Posting {
 
 /// The fault, if out of memory or the database stopped a tick.
 fn goes_on(tick: Tick) -> Result<(), StepFault>
-    ensures ok { OnOk result (GoesOn tick) }
-    ensures err { OnErr result (¬ (GoesOn tick)) }
+    ensures ok { OnOk result (ServiceGoesOn tick) }
+    ensures err { OnErr result (¬ (ServiceGoesOn tick)) }
 {
     match tick {
         Tick::Stopped(StopReason::Memory) => Err(StepFault::Call(CallFault::Memory)),

@@ -2,8 +2,8 @@
 
 ghost use Rattle.std.specs.Prelude.{◌≡◌, ◌+◌, ◌*◌, ◌<◌, ◌≤◌, ◌↔◌, IsTrue, MatchOption, vec_len};
 ghost use Rattle.std.specs.List.{sum_by};
-ghost use Rattle.kob_pipeline.specs.Counts.{entries_planned, workers_planned};
-ghost use Rattle.kob_shared.specs.Limits.{entry_limit, worker_limit};
+ghost use Rattle.kob_pipeline.specs.Plans.{entries_planned, workers_planned};
+ghost use Rattle.kob_shared.specs.Journals.{entry_limit, worker_limit};
 
 use crate::plan::{ConsumerPlan, Plan, Service};
 use kob_shared::{ENTRY_LIMIT, Script, WORKER_LIMIT};

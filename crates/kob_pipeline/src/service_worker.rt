@@ -1,8 +1,8 @@
 //! Workers that are services.
 
 ghost use Rattle.std.specs.Prelude.{◌≡◌, ◌≤◌, IfOk};
-ghost use Rattle.kob_pipeline.specs.Workers.{IsLeft, IsOutboxLeft};
-ghost use Rattle.kob_pipeline.specs.Workers.Planned.{Serving as PlannedService};
+ghost use Rattle.kob_pipeline.specs.Steps.{IsLeft, IsOutboxLeft};
+ghost use Rattle.kob_pipeline.specs.Steps.Planned.{Serving as PlannedService};
 
 use crate::desk::desk_at;
 use crate::end::{OutboxEnd, WorkerEnd};

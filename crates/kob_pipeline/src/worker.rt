@@ -17,7 +17,7 @@ pub(crate) enum Worker<'a> {
 }
 
 impl<'a> Work for Worker<'a> {
-    ghost use Rattle.kob_pipeline.specs.Workers.{IsLeft, planned_as};
+    ghost use Rattle.kob_pipeline.specs.Steps.{IsLeft, planned_as};
 
     type Shared = SharedBroker;
 

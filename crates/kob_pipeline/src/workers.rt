@@ -2,7 +2,7 @@
 
 ghost use Rattle.std.specs.Prelude.{◌≡◌, ◌≤◌, map, IfOk};
 ghost use Rattle.std.specs.List.{All};
-ghost use Rattle.kob_pipeline.specs.Workers.{planned_as, planned_workers};
+ghost use Rattle.kob_pipeline.specs.Steps.{planned_as, planned_workers};
 
 use crate::plan::Plan;
 use crate::service_worker::ServiceWorker;

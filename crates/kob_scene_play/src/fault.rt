@@ -7,7 +7,7 @@ use kob_inbox::InboxFault;
 use kob_lines::{Loss, Lossy, RecordedLine};
 use kob_outbox::OutboxFault;
 use kob_router::Call;
-use kob_shared::{CallFault, ServeFault};
+use kob_shared::CallFault;
 use std::alloc::{AllocError, AllocFailed};
 use thiserror::Error;
 
@@ -48,15 +48,6 @@ impl<T: Drop> From<AllocFailed<T>> for PlayFault {
 
     fn from(_refused: AllocFailed<T>) -> PlayFault {
         PlayFault::Memory
-    }
-}
-
-impl From<ServeFault> for PlayFault {
-    fn from(fault: ServeFault) -> PlayFault {
-        match fault {
-            ServeFault::Memory => PlayFault::Memory,
-            ServeFault::JournalFull => PlayFault::JournalFull,
-        }
     }
 }
 

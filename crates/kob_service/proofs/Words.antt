@@ -18,13 +18,10 @@ pub use Rattle.kob_outbox.specs.declared.change.Change.{Change}
 pub use Rattle.kob_outbox.specs.declared.event.OutboxEvent.{OutboxEvent}
 pub use Rattle.kob_partition.specs.Batches.{records_of}
 pub use Rattle.kob_partition.specs.Retained.{Retained}
-pub use Rattle.kob_pipeline.proofs.DeliveryLaws.{holds_a_prefix}
-pub use Rattle.kob_pipeline.specs.Delivery.{IsDelivered, rows_of, told_id}
-pub use Rattle.kob_pipeline.specs.Parts.{IsConsumerPart, IsServicePart}
-pub use Rattle.kob_pipeline.specs.Premises.{ArePrivate, Commits, IsNeverDeleted, IsPrivate, IsSoleCommitter, Produces}
-pub use Rattle.kob_pipeline.specs.Reaching.{ReachesInOrder, rows_of_aggregate, taken_ids}
-pub use Rattle.kob_pipeline.specs.Reserved.{ActsAlone, IsReserved, NoSuperUser}
-pub use Rattle.kob_pipeline.specs.Taking.{IsTakenInOrder}
+pub use Rattle.kob_pipeline.proofs.PlanLaws.{holds_a_prefix}
+pub use Rattle.kob_pipeline.specs.Delivery.{IsDelivered, IsTakenInOrder, ReachesInOrder, rows_of, rows_of_aggregate, taken_ids, told_id}
+pub use Rattle.kob_pipeline.specs.Premises.{ActsAlone, ArePrivate, Commits, IsNeverDeleted, IsPrivate, IsReserved, IsSoleCommitter, NoSuperUser, Produces}
+pub use Rattle.kob_pipeline.specs.Served.{IsConsumerPart, IsServicePart}
 pub use Rattle.kob_pipeline.specs.View.{IsHistory, IsSameView, View, opening_view, with_batch, with_commit, with_producer, without_topic}
 pub use Rattle.kob_rights.specs.declared.code.Code.TheVariants.{TopicAuthorizationFailed}
 pub use Rattle.kob_rights.specs.declared.reply.Reply.{Reply}
@@ -37,9 +34,7 @@ pub use Rattle.kob_router.specs.declared.dispatch.Target.{Target}
 pub use Rattle.kob_router.specs.declared.line.Call.{Call}
 pub use Rattle.kob_router.specs.declared.place.Place.{Place}
 pub use Rattle.kob_router.specs.declared.sender.Producer.{Producer}
-pub use Rattle.kob_shared.specs.Decided.{standing_after}
-pub use Rattle.kob_shared.specs.Journals.{IsLegal}
-pub use Rattle.kob_shared.specs.Openings.{opened_by}
+pub use Rattle.kob_shared.specs.Journals.{IsLegal, opened_by, standing_after}
 pub use Rattle.kob_shared.specs.declared.journal.Entry.{Entry}
 pub use Rattle.std.proofs.Common.{Bool, Global, List, String, [], ap, arith, false, get_or, inr, refl, subst, suc, sym, true, zero, ℕ, ◌&&◌, ◌<◌, ◌||◌, ◌∷◌, ◌≡◌}
 pub use Rattle.std.proofs.Math.Bool.{or-false}

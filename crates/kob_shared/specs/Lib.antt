@@ -1,11 +1,4 @@
-pub mod Limits
-pub mod Openings
 pub mod Journals
-pub mod Continuations
 pub mod Sessions
-pub mod Faults
 pub mod Fleets
-pub mod Noted
 pub mod Runs
-pub mod Tears
-pub mod Decided

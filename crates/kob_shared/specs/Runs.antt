@@ -1,18 +1,19 @@
--- What the workers of a fleet left.
-use Rattle.std.specs.Prelude.{◌≡◌, ℕ, ◌+◌, ◌<◌, ◌≤◌, List, ◌∷◌, length, map, take, Result, Ok, Err, Some, slice_get}
+-- What the workers of a fleet left, and how it may fail.
+use Rattle.std.specs.Prelude.{◌≡◌, ℕ, ◌+◌, ◌<◌, ◌≤◌, List, ◌∷◌, length, map, Some, slice_get, take, Result, Ok, Err}
 use Rattle.kob_rights.specs.declared.event.Event.{Event}
+use Rattle.kob_shared.specs.declared.journal.Receipt.{Receipt}
 use Rattle.kob_names.specs.declared.settings.Settings.{Settings}
+use Rattle.kob_shared.specs.Journals.{Record, entry_limit}
+use Rattle.kob_shared.specs.Sessions.{Noted}
 use Rattle.kob_shared.specs.declared.compare.Difference.{Difference}
 use Rattle.kob_shared.specs.declared.faults.CallFault.{CallFault}
-use Rattle.kob_shared.specs.declared.faults.CallFault.TheVariants as calls
 use Rattle.kob_shared.specs.declared.fleet_stop.FleetStop.{FleetStop}
-use Rattle.kob_shared.specs.declared.fleet_stop.FleetStop.TheVariants.{NotBegun, Memory, Stale, Full}
-use Rattle.kob_shared.specs.declared.journal.Receipt.{Receipt}
+use Rattle.kob_shared.specs.declared.fleet_stop.FleetStop.TheVariants.{Memory, Stale, Full}
 use Rattle.kob_shared.specs.declared.work.Done.{Done}
-use Rattle.kob_shared.specs.Fleets.{IsAnswered, IsKept, IsTornAt, IsWorkerWithin, entries_told}
-use Rattle.kob_shared.specs.Limits.{entry_limit}
-use Rattle.kob_shared.specs.Journals.{Record}
-use Rattle.kob_shared.specs.Noted.{Noted}
+use Rattle.kob_shared.specs.declared.fleet_fault.FleetFault.{FleetFault}
+use Rattle.kob_shared.specs.declared.fleet_fault.FleetFault.TheVariants.{TooManyWorkers, JournalFull, Stopped, Torn}
+use Rattle.kob_shared.specs.declared.faults.CallFault.TheVariants as calls
+use Rattle.kob_shared.specs.Fleets.{IsAnswered, entries_told, IsTornAt, IsWorkerWithin, EachIsAnswered, IsKept}
 
 -- the notes of all workers, worker 0's first
 abbrev pub notes_of : {E : Type 0} → Noted → List (Done E) → List Noted
@@ -55,12 +56,6 @@ NamesOneOf count (Stale worker length) = IsWorkerWithin count worker
 NamesOneOf count (Full worker) = IsWorkerWithin count worker
 NamesOneOf count stop = Unit {0}
 
--- no worker is named
-abbrev pub NamesNoWorker : FleetStop → Type 0
-NamesNoWorker (Stale worker length) = ⊥
-NamesNoWorker (Full worker) = ⊥
-NamesNoWorker stop = Unit {0}
-
 -- worker 0 finds a journal of at most so many entries full only where it has more events
 abbrev pub IsFullOnlyPast : ℕ → ℕ → FleetStop → Type 0
 IsFullOnlyPast limit count (Full worker) = worker ≡ 0 → limit < count
@@ -80,12 +75,24 @@ pub record IsFirstFault {T : Type 0} (results : List (Result T CallFault)) (k : 
   pub before : take k results ≡ map Ok told
   pub here : slice_get results k ≡ Some (Err fault)
 
--- the first result that is a fault is this one, and its worker is named. Workers count from 1, and
--- lack of memory names none
+-- the fleet's fault is that of the first result that is a fault, as its worker's. Workers count from 1
 abbrev pub NamesFirstFault : {T : Type 0} → List (Result T CallFault) → FleetStop → Type 0
-NamesFirstFault results (Stale worker length) =
-    (k : ℕ) × (worker ≡ k + 1) × IsFirstFault results k (calls.Stale length)
-NamesFirstFault results (Full worker) =
-    (k : ℕ) × (worker ≡ k + 1) × IsFirstFault results k calls.JournalFull
-NamesFirstFault results Memory = (k : ℕ) × IsFirstFault results k calls.Memory
-NamesFirstFault results NotBegun = ⊥
+NamesFirstFault results stop = (k : ℕ) × (fault : CallFault)
+    × (stop ≡ as_of_worker (k + 1) fault) × IsFirstFault results k fault
+
+-- the journal that is given back is torn there, and each transcript has a receipt for each event
+abbrev pub IsTornOnlyWhere : Settings → List (List Event) → FleetFault → Type 0
+IsTornOnlyWhere opening asked (Torn worker place found told) =
+    EachIsAnswered asked told.items × IsTornAt opening asked told.items found worker place
+IsTornOnlyWhere opening asked fault = Unit {0}
+
+-- a fault that comes after the counts were found to fit
+abbrev pub IsLater : FleetFault → Type 0
+IsLater TooManyWorkers = ⊥
+IsLater JournalFull = ⊥
+IsLater fault = Unit {0}
+
+-- a worker that is named is one of so many, and not worker 0, whose events fit
+abbrev pub NamesWorkerWithin : ℕ → FleetFault → Type 0
+NamesWorkerWithin count (Stopped stop) = NamesOneOf count stop
+NamesWorkerWithin count fault = Unit {0}

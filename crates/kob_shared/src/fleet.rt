@@ -5,16 +5,14 @@ ghost use Rattle.std.specs.Prelude.{MatchOption, Ok};
 ghost use Rattle.std.specs.List.{AllZip};
 ghost use Rattle.kob_broker.specs.Change.{state_of};
 ghost use Rattle.kob_broker.specs.State.{settings_of};
-ghost use Rattle.kob_shared.specs.Limits.{entry_limit, worker_limit};
-ghost use Rattle.kob_shared.specs.Openings.{IsFresh};
-ghost use Rattle.kob_shared.specs.Journals.{IsSound};
+ghost use Rattle.kob_shared.specs.Journals.{entry_limit, worker_limit, IsFresh, IsSound};
 ghost use Rattle.kob_shared.specs.Fleets.{Follows, entries_told};
-ghost use Rattle.kob_shared.specs.Runs.{HasBegun, IsAsNoted, IsFullOnlyPast, IsNamedWithin, IsTear};
-ghost use Rattle.kob_shared.specs.Runs.{NamesFirstFault, NamesNoWorker, NamesOneOf, as_of_worker};
-ghost use Rattle.kob_shared.specs.Runs.{notes_of};
+ghost use Rattle.kob_shared.specs.Runs.{HasBegun, IsAsNoted};
+ghost use Rattle.kob_shared.specs.Runs.{IsFullOnlyPast, IsNamedWithin, IsTear, NamesFirstFault};
+ghost use Rattle.kob_shared.specs.Runs.{NamesOneOf, as_of_worker, notes_of};
 
 use crate::compare::{Difference, compare};
-use crate::faults::{CallFault, ServeFault};
+use crate::faults::CallFault;
 use crate::fleet_stop::FleetStop;
 use crate::journal::Receipt;
 use crate::notes::Notes;
@@ -54,7 +52,7 @@ where
     requires { length works.now ≤ worker_limit }
     ensures each { IfOk result
         (λ v. AllZip (λ w r. IfOk r (λ d. W.keeps w d.notes d.end)) works.now v.items) }
-    ensures named { IfErr result NamesNoWorker }
+    ensures named { IfErr result (NamesOneOf 0) }
 {
     thread::scope(
         thread::scope_env(),
@@ -64,7 +62,7 @@ where
             ensures each { IfOk result
                 (λ v. AllZip (λ w r. IfOk r (λ d. W.keeps w d.notes d.end)) works.entry.now
                 v.items) }
-            ensures named { IfErr result NamesNoWorker }
+            ensures named { IfErr result (NamesOneOf 0) }
         {
             let mut handles = Vec::with_capacity(alloc, works.len())?;
             for (i, work) in works.iter().enumerate() {
@@ -103,8 +101,7 @@ fn serve_first(
     for event in first {
         match recorded.serve_as(alloc, 0, event) {
             Ok(receipt) => told.push(receipt)?,
-            Err(ServeFault::Memory) => return Err(FleetStop::Memory),
-            Err(ServeFault::JournalFull) => return Err(FleetStop::Full { worker: 0 }),
+            Err(fault) => return Err(stop_of(0, fault)),
         }
     }
     Ok(told)

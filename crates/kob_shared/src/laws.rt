@@ -4,9 +4,8 @@ ghost use Rattle.std.specs.Prelude.{List, ◌++◌};
 ghost use Rattle.kob_broker.specs.State.{State};
 ghost use Rattle.kob_names.specs.declared.settings.Settings.{Settings};
 ghost use Rattle.kob_partition.specs.Retained.{Retained};
-ghost use Rattle.kob_shared.specs.Decided.{EachEntryIsJust, EachEntryIsOneStep};
-ghost use Rattle.kob_shared.specs.Journals.{IsLegal};
-ghost use Rattle.kob_shared.specs.Openings.{opened_by};
+ghost use Rattle.kob_shared.specs.Journals.{EachEntryIsJust, EachEntryIsOneStep, IsLegal};
+ghost use Rattle.kob_shared.specs.Journals.{opened_by};
 ghost use Rattle.kob_shared.specs.declared.journal.Entry.{Entry};
 
 /// Each entry of a legal journal is served exactly if the bindings in force after the entries

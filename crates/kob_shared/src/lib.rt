@@ -22,7 +22,7 @@ mod worker;
 pub use compare::Difference;
 pub use continued::Continued;
 pub use desk::Desk;
-pub use faults::{CallFault, PlacesUsedUp, ServeFault};
+pub use faults::{CallFault, PlacesUsedUp};
 pub use fleet::{Ran, find_tear, run_fleet};
 pub use fleet_fault::FleetFault;
 pub use fleet_stop::FleetStop;

@@ -5,12 +5,10 @@ ghost use Rattle.std.specs.Prelude.{IsErrOf};
 ghost use Rattle.std.specs.List.{AllZip};
 ghost use Rattle.kob_broker.specs.Change.{state_of};
 ghost use Rattle.kob_broker.specs.State.{settings_of};
-ghost use Rattle.kob_shared.specs.Openings.{IsFresh, opened_by};
-ghost use Rattle.kob_shared.specs.Journals.{IsSound};
+ghost use Rattle.kob_shared.specs.Journals.{IsFresh, opened_by, IsSound, entry_limit, worker_limit};
 ghost use Rattle.kob_shared.specs.Fleets.{Follows, asked_of_all, entries_asked, events_of_script};
 ghost use Rattle.kob_shared.specs.Fleets.{IsFleet};
-ghost use Rattle.kob_shared.specs.Limits.{entry_limit, worker_limit};
-ghost use Rattle.kob_shared.specs.Tears.{IsTornOnlyWhere, IsLater, NamesWorkerWithin};
+ghost use Rattle.kob_shared.specs.Runs.{IsTornOnlyWhere, IsLater, NamesWorkerWithin};
 ghost use Rattle.kob_shared.specs.Runs.{IsTaken, notes_of};
 
 use crate::compare::Difference;

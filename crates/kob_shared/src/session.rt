@@ -3,9 +3,7 @@
 ghost use Rattle.std.specs.Prelude.{◌≡◌, ◌+◌, ◌<◌, ◌≤◌, IfOk, IfErr, OnErr};
 ghost use Rattle.kob_rights.specs.Offsets.{OffsetsWithin};
 ghost use Rattle.kob_rights.specs.Bodies.{Fits};
-ghost use Rattle.kob_shared.specs.Continuations.{IsContinued, IsPast};
-ghost use Rattle.kob_shared.specs.Journals.{IsSound};
-ghost use Rattle.kob_shared.specs.Limits.{entry_limit, place_limit};
+ghost use Rattle.kob_shared.specs.Journals.{IsContinued, IsPast, IsSound, entry_limit, place_limit};
 ghost use Rattle.kob_shared.specs.Sessions.{Seat, event_by, IsServed, IsStaleOnlyBelow};
 
 use crate::continued::Continued;

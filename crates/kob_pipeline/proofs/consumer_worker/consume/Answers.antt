@@ -1,5 +1,4 @@
-use Rattle.kob_pipeline.proofs.Words.{AtDesk, Noted, ap, subst, sym, ◌∙◌}
-use Rattle.kob_pipeline.specs.Consumers.{IsConsumption}
+use Rattle.kob_pipeline.proofs.Words.{AtDesk, IsConsumption, Noted, ap, subst, sym, ◌∙◌}
 use Rattle.kob_pipeline.proofs.Worked.{consumption_of}
 use Rattle.kob_pipeline.proofs.consumer_worker.consume.Goals as goal
 

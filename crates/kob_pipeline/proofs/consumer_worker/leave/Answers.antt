@@ -1,8 +1,5 @@
-use Rattle.kob_pipeline.proofs.Words.{IsInboxLeft, enumerate_from, map, ◌≡◌}
-use Rattle.std.proofs.lemmas.Result.{IfOk-weaker}
-use Rattle.kob_inbox.specs.Rows.{placed_intake}
+use Rattle.kob_pipeline.proofs.Words.{IfOk-weaker, InboxEnd, IsInboxLeft, enumerate_from, map, placed_intake, ◌≡◌}
 use Rattle.kob_inbox.specs.Tick.{state_of}
-use Rattle.kob_pipeline.specs.declared.end.InboxEnd.{InboxEnd}
 use Rattle.kob_pipeline.proofs.consumer_worker.leave.Goals as goal
 
 pub returns : goal.returns

@@ -1,4 +1,4 @@
-use Rattle.kob_pipeline.proofs.DeliveryLaws.{holds_a_prefix}
+use Rattle.kob_pipeline.proofs.PlanLaws.{holds_a_prefix}
 use Rattle.kob_pipeline.proofs.delivery_laws.an_inbox_holds_a_prefix_of_each_aggregate.Goals as goal
 
 pub returns : goal.returns

@@ -1,5 +1,5 @@
-use Rattle.std.proofs.Common.{◌-◌, get_or, ap, ◌∙◌}
-use Rattle.kob_pipeline.proofs.Losing.{heard_is_noted}
+use Rattle.kob_pipeline.proofs.Words.{ap, get_or, ◌-◌, ◌∙◌}
+use Rattle.kob_pipeline.proofs.Worked.{heard_is_noted}
 use Rattle.kob_pipeline.proofs.line.reply_at.Goals as goal
 
 pub returns-clause-noted : goal.returns-clause-noted

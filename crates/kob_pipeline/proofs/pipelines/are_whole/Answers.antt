@@ -1,6 +1,4 @@
-use Rattle.kob_pipeline.proofs.Words.{All, IsWhole, arith, subst}
-use Rattle.std.proofs.lemmas.List.{take_all}
-use Rattle.std.proofs.lemmas.List.Elements.{All-more}
+use Rattle.kob_pipeline.proofs.Words.{All, All-more, IsWhole, arith, subst, take_all}
 use Rattle.kob_pipeline.proofs.pipelines.are_whole.Goals as goal
 
 pub loop-one-preserved : goal.loop-one-preserved

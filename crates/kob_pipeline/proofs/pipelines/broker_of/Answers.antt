@@ -1,5 +1,5 @@
-use Rattle.std.proofs.Common.{Err, ap, sym, subst, length, ◌≤◌}
-use Rattle.kob_pipeline.proofs.Opened.{few_open}
+use Rattle.kob_pipeline.proofs.Words.{Err, ap, length, subst, sym, ◌≤◌}
+use Rattle.kob_pipeline.proofs.Ended.{few_open}
 use Rattle.kob_pipeline.proofs.pipelines.broker_of.Goals as goal
 
 pub unreachable-requires : goal.unreachable-requires

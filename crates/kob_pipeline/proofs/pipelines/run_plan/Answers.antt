@@ -1,11 +1,5 @@
-use Rattle.kob_pipeline.proofs.Words.{opened_by, planned_as}
-use Rattle.std.proofs.Common.{◌≤◌, arith, length, map, ap, ◌∙◌, vec_len}
-use Rattle.std.proofs.lemmas.Result.{IfOk-weaker, err_from_is_err_and}
-use Rattle.kob_shared.specs.Limits.{entry_limit}
-use Rattle.kob_pipeline.specs.Counts.{workers_planned}
-use Rattle.kob_pipeline.specs.Pipelines.{IsEnd, IsPipeline}
-use Rattle.kob_pipeline.proofs.Ended.{as_planned, workers_counted}
-use Rattle.kob_pipeline.proofs.PipelineFaults.{named_fleet}
+use Rattle.kob_pipeline.proofs.Words.{IfOk-weaker, IsEnd, IsPipeline, ap, arith, entry_limit, err_from_is_err_and, length, map, opened_by, planned_as, vec_len, workers_planned, ◌∙◌, ◌≤◌}
+use Rattle.kob_pipeline.proofs.Ended.{as_planned, workers_counted, named_fleet}
 use Rattle.kob_pipeline.proofs.pipelines.run_plan.Goals as goal
 
 pub returns-in_err-ran-clause-named : goal.returns-in_err-ran-clause-named

@@ -1,6 +1,5 @@
-use Rattle.std.proofs.Common.{ap, ◌∙◌, rules}
-use Rattle.kob_outbox.specs.Reading.{first_after}
-use Rattle.kob_pipeline.proofs.Outboxes.{page_read}
+use Rattle.kob_pipeline.proofs.Words.{ap, first_after, rules, ◌∙◌}
+use Rattle.kob_pipeline.proofs.Rows.{page_read}
 use Rattle.kob_pipeline.proofs.posting.page_after.Goals as goal
 
 pub returns : goal.returns

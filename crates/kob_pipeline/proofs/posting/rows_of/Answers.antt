@@ -1,5 +1,4 @@
-use Rattle.kob_pipeline.proofs.Words.{ap, drop, first_after, later_than, refl, sym, take-append-drop, ◌++◌, ◌∙◌}
-use Rattle.kob_outbox.specs.Contents.{Contents}
+use Rattle.kob_pipeline.proofs.Words.{Contents, ap, drop, first_after, later_than, refl, sym, take-append-drop, ◌++◌, ◌∙◌}
 use Rattle.kob_pipeline.proofs.posting.rows_of.Goals as goal
 
 pub loop-rows-init : goal.loop-rows-init

@@ -1,5 +1,5 @@
 use Rattle.kob_pipeline.proofs.Words.{IsNoDeletion, arith, ◌+◌}
-use Rattle.kob_pipeline.proofs.Breaches.{kept_more}
+use Rattle.kob_pipeline.proofs.Reserving.{kept_more}
 use Rattle.kob_pipeline.proofs.premises.deletion.Goals as goal
 
 pub loop-place-preserved : goal.loop-place-preserved

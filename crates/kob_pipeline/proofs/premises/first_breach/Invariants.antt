@@ -1,5 +1,4 @@
-use Rattle.kob_pipeline.proofs.Words.{AllByRecursion, take}
-use Rattle.kob_pipeline.specs.Premises.{IsPrivate}
+use Rattle.kob_pipeline.proofs.Words.{AllByRecursion, IsPrivate, take}
 use Rattle.kob_pipeline.proofs.premises.first_breach.Given as goal
 
 abbrev pub invariant-loop-assigned : goal.invariant-loop-assigned

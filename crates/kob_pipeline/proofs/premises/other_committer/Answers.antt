@@ -1,5 +1,5 @@
 use Rattle.kob_pipeline.proofs.Words.{IsOwnCommit, arith, ◌+◌}
-use Rattle.kob_pipeline.proofs.Breaches.{kept_more}
+use Rattle.kob_pipeline.proofs.Reserving.{kept_more}
 use Rattle.kob_pipeline.proofs.premises.other_committer.Goals.{else-commits-via-then-commits+else-entry-worker, else-commits-via-else-commits}
 use Rattle.kob_pipeline.proofs.premises.other_committer.Goals as goal
 

@@ -1,5 +1,5 @@
 use Rattle.kob_pipeline.proofs.Words.{IsOwnProduce, arith, ◌+◌}
-use Rattle.kob_pipeline.proofs.Breaches.{kept_more}
+use Rattle.kob_pipeline.proofs.Reserving.{kept_more}
 use Rattle.kob_pipeline.proofs.premises.other_producer.Goals.{else-produces-via-then-produces+else-entry-worker, else-produces-via-else-produces}
 use Rattle.kob_pipeline.proofs.premises.other_producer.Goals as goal
 

@@ -1,5 +1,4 @@
-use Rattle.std.proofs.Common.{◌≡◌, ◌+◌, ◌*◌, take, vec_len}
-use Rattle.std.specs.List.{sum_by}
+use Rattle.kob_pipeline.proofs.Words.{sum_by, take, vec_len, ◌*◌, ◌+◌, ◌≡◌}
 use Rattle.kob_pipeline.proofs.room.room_after_services.Given as goal
 
 abbrev pub invariant-loop-service : goal.invariant-loop-service

@@ -1,5 +1,4 @@
-use Rattle.kob_pipeline.proofs.Words.{map, planned_as, take, ◌++◌, ◌≡◌}
-use Rattle.kob_pipeline.specs.Workers.Planned.{Serving, Consuming, Administering}
+use Rattle.kob_pipeline.proofs.Words.{Administering, Consuming, Serving, map, planned_as, take, ◌++◌, ◌≡◌}
 use Rattle.kob_pipeline.proofs.workers.workers_of.Given as goal
 
 abbrev pub invariant-loop-service : goal.invariant-loop-service

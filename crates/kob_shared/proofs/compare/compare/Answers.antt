@@ -1,6 +1,6 @@
 use Rattle.kob_shared.proofs.Words.{arith, events_in, length, notes_of, refl, slice_get_read, told_in, ◌+◌}
-use Rattle.kob_shared.proofs.Compared.{kept_or_stranger}
-use Rattle.kob_shared.proofs.Noted.{differ_done, length_events, mine_done}
+use Rattle.kob_shared.proofs.Differences.{kept_or_stranger}
+use Rattle.kob_shared.proofs.Fleets.{differ_done, length_events, mine_done}
 use Rattle.kob_shared.proofs.compare.compare.Goals as goal
 
 pub returns-in-Some-find_difference : goal.returns-in-Some-find_difference

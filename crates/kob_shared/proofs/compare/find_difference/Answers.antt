@@ -1,4 +1,4 @@
-use Rattle.std.proofs.Common.{sym}
+use Rattle.kob_shared.proofs.Words.{sym}
 use Rattle.kob_shared.proofs.compare.find_difference.Goals as goal
 
 pub walk-requires-clause-counted : goal.walk-requires-clause-counted

@@ -1,8 +1,5 @@
-use Rattle.kob_shared.proofs.Words.{AllZip, IfOk, NamesFirstFault, NamesOneOf, Ok, arith, length, map, ◌≡◌}
-use Rattle.std.proofs.lemmas.Result.{IfErr-weaker, IfOk-weaker}
-use Rattle.kob_shared.proofs.NamedWorkers.{within_first, within_more, within_none}
-use Rattle.kob_shared.proofs.Noted.{kept_done}
-use Rattle.std.proofs.lemmas.Slice.Zip.{AllZip-long}
+use Rattle.kob_shared.proofs.Words.{AllZip, AllZip-long, IfErr-weaker, IfOk, IfOk-weaker, NamesFirstFault, NamesOneOf, Ok, arith, length, map, ◌≡◌}
+use Rattle.kob_shared.proofs.Fleets.{within_first, within_more, kept_done}
 use Rattle.kob_shared.proofs.fleet.run_and_gather.Goals as goal
 
 pub gather-requires : goal.gather-requires
@@ -34,4 +31,4 @@ returns-in-Ok-clause-named g c =
     c.gather.ensures.named
 
 pub returns-in-Err-clause-named : goal.returns-in-Err-clause-named
-returns-in-Err-clause-named g c = within_none _ _ c.in-Err.ensures.named
+returns-in-Err-clause-named g c = within_more 0 _ _ (omega arith) c.in-Err.ensures.named

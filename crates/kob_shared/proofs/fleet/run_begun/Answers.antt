@@ -1,4 +1,4 @@
-use denote.Param.Send.{sendable}
+use Rattle.kob_shared.proofs.Words.{sendable}
 use Rattle.kob_shared.proofs.Crossing.{shared_sync}
 use Rattle.kob_shared.proofs.fleet.run_begun.Goals as goal
 

@@ -1,7 +1,5 @@
-use Rattle.kob_shared.proofs.Words.{Follows, IsFullOnlyPast, IsNamedWithin, NamesOneOf, arith, length, subst, sym, vec_len, ◌≡◌}
-use Rattle.std.proofs.lemmas.Result.{IfErr-weaker, IfOk-weaker}
-use Rattle.kob_shared.specs.Limits.{entry_limit}
-use Rattle.kob_shared.proofs.NamedWorkers.{full_within, named_more, named_within}
+use Rattle.kob_shared.proofs.Words.{Follows, IfErr-weaker, IfOk-weaker, IsFullOnlyPast, IsNamedWithin, NamesOneOf, arith, entry_limit, length, subst, sym, vec_len, ◌≡◌}
+use Rattle.kob_shared.proofs.Fleets.{full_within, named_more, named_within}
 use Rattle.kob_shared.proofs.fleet.run_fleet.Goals as goal
 
 pub returns-in-Ok-begin-clause-first : goal.returns-in-Ok-begin-clause-first

@@ -1,6 +1,6 @@
-use Rattle.std.proofs.Common.{◌+◌, length, ap, refl, sym, ◌∙◌}
-use Rattle.kob_shared.proofs.NamedWorkers.{full_at}
-use Rattle.kob_shared.proofs.Rising.{rises_follows}
+use Rattle.kob_shared.proofs.Words.{ap, length, refl, sym, ◌+◌, ◌∙◌}
+use Rattle.kob_shared.proofs.Fleets.{full_at}
+use Rattle.kob_shared.proofs.Claims.{rises_follows}
 use Rattle.kob_shared.proofs.fleet.serve_and_note.Goals as goal
 
 pub new-requires : goal.new-requires

@@ -1,4 +1,4 @@
-use Rattle.kob_shared.proofs.Decided.{entry_is_just}
+use Rattle.kob_shared.proofs.Journals.{entry_is_just}
 use Rattle.kob_shared.proofs.laws.each_entry_is_just.Goals as goal
 
 pub returns : goal.returns

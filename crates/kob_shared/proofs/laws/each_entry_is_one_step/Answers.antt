@@ -1,4 +1,4 @@
-use Rattle.kob_shared.proofs.Decided.{entry_is_one_step}
+use Rattle.kob_shared.proofs.Journals.{entry_is_one_step}
 use Rattle.kob_shared.proofs.laws.each_entry_is_one_step.Goals as goal
 
 pub returns : goal.returns

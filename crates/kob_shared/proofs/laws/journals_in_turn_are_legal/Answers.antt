@@ -1,4 +1,4 @@
-use Rattle.kob_shared.proofs.Continuing.{legal_in_turn}
+use Rattle.kob_shared.proofs.Journals.{legal_in_turn}
 use Rattle.kob_shared.proofs.laws.journals_in_turn_are_legal.Goals as goal
 
 pub returns : goal.returns

@@ -1,8 +1,5 @@
-use Rattle.std.proofs.Common.{subst, IfOk, IfErr}
-use Rattle.kob_broker.specs.Change.{state_of}
-use Rattle.kob_shared.specs.Fleets.{asked_of_all, IsFleet}
-use Rattle.kob_shared.specs.Tears.{IsTornOnlyWhere}
-use Rattle.kob_shared.proofs.Openings.{opened_are}
+use Rattle.kob_shared.proofs.Words.{IfErr, IfOk, IsFleet, IsTornOnlyWhere, asked_of_all, state_of, subst}
+use Rattle.kob_shared.proofs.Journals.{opened_are}
 use Rattle.kob_shared.proofs.scripts.run_fitting.Goals as goal
 
 pub returns-clause-ok : goal.returns-clause-ok

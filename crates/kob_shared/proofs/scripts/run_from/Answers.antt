@@ -1,7 +1,4 @@
-use Rattle.kob_shared.proofs.Words.{nat_tests}
-use Rattle.std.proofs.Common.{arith, length}
-use Rattle.std.proofs.lemmas.Result.{IfErr-weaker}
-use Rattle.kob_shared.specs.Tears.{NamesWorkerWithin}
+use Rattle.kob_shared.proofs.Words.{IfErr-weaker, NamesWorkerWithin, arith, length, nat_tests}
 use Rattle.kob_shared.proofs.scripts.run_from.Goals as goal
 
 pub returns-clause-ok : goal.returns-clause-ok

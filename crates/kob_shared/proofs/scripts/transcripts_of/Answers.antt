@@ -1,6 +1,5 @@
-use Rattle.kob_shared.proofs.Words.{IsAnswered, [], ap, append_assoc, length, subst, sym, ◌++◌, ◌∙◌, ◌∷◌}
-use Rattle.std.specs.Vec.Iter.{into_iter_items}
-use Rattle.kob_shared.proofs.Noted.{taken_more}
+use Rattle.kob_shared.proofs.Words.{IsAnswered, [], ap, append_assoc, into_iter_items, length, subst, sym, ◌++◌, ◌∙◌, ◌∷◌}
+use Rattle.kob_shared.proofs.Fleets.{taken_more}
 use Rattle.kob_shared.proofs.scripts.transcripts_of.Goals as goal
 
 pub loop-one-preserved : goal.loop-one-preserved

@@ -1,5 +1,5 @@
 use Rattle.kob_lines.proofs.Words.{Event, Fits, Request, ap, state_of, subst}
-use Rattle.kob_lines.proofs.Fitting.{step_fits}
+use Rattle.kob_lines.proofs.Adding.{step_fits}
 use Rattle.kob_lines.proofs.broker_line.BrokerLine.call.Goals as goal
 
 pub returns-clause-fits : goal.returns-clause-fits

@@ -1,4 +1,4 @@
-use Rattle.std.proofs.Common.{[], ap, ◌∙◌}
+use Rattle.kob_pipeline.proofs.Words.{[], ap, ◌∙◌}
 use Rattle.kob_inbox.specs.Contents.{Contents}
 use Rattle.kob_inbox.specs.Run.{State}
 use Rattle.kob_pipeline.proofs.consuming.Consuming.open.Goals as goal

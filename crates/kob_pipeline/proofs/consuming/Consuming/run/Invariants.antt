@@ -1,7 +1,5 @@
-use Rattle.std.proofs.Common.{◌≡◌, take}
+use Rattle.kob_pipeline.proofs.Words.{IsConsumerStep, Leads, Steps, standing, take, ◌≡◌}
 use Rattle.kob_inbox.specs.Tick.{state_of}
-use Rattle.kob_pipeline.specs.Consumers.{IsConsumerStep}
-use Rattle.kob_pipeline.specs.Steps.{Leads, Steps, standing}
 use Rattle.kob_pipeline.proofs.consuming.Consuming.run.Given as goal
 
 abbrev pub invariant-loop-step : goal.invariant-loop-step

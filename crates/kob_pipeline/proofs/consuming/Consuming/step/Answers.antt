@@ -1,4 +1,4 @@
-use Rattle.std.proofs.Common.{[], ◌∷◌, refl}
+use Rattle.kob_pipeline.proofs.Words.{[], refl, ◌∷◌}
 use Rattle.kob_inbox.specs.Run.Move.{Restarted}
 use Rattle.kob_pipeline.proofs.Worked.{leads_still}
 use Rattle.kob_pipeline.proofs.consuming.Consuming.step.Goals as goal

@@ -1,5 +1,5 @@
-use Rattle.std.proofs.Common.{ap, ◌∙◌}
-use Rattle.kob_pipeline.proofs.Ticked.{consumer_ticked}
+use Rattle.kob_pipeline.proofs.Words.{ap, ◌∙◌}
+use Rattle.kob_pipeline.proofs.Worked.{consumer_ticked}
 use Rattle.kob_pipeline.proofs.consuming.Consuming.tick.Goals as goal
 
 pub returns-clause-done : goal.returns-clause-done

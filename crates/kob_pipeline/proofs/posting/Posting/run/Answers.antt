@@ -1,4 +1,4 @@
-use Rattle.std.proofs.Common.{length, ◌<◌, arith, refl, ◌∙◌}
+use Rattle.kob_pipeline.proofs.Words.{arith, length, refl, ◌<◌, ◌∙◌}
 use Rattle.kob_pipeline.proofs.Worked.{leads_more, no_step}
 use Rattle.kob_pipeline.proofs.posting.Posting.run.Goals as goal
 

@@ -1,6 +1,5 @@
-use Rattle.kob_pipeline.proofs.Words.{IsServiceStep, dispatch_of, option_map, take, ◌≡◌}
+use Rattle.kob_pipeline.proofs.Words.{IsServiceStep, Leads, Steps, dispatch_of, option_map, standing, take, ◌≡◌}
 use Rattle.kob_router.specs.Tick.{IsFirst, hand_of, state_of}
-use Rattle.kob_pipeline.specs.Steps.{Leads, Steps, standing}
 use Rattle.kob_pipeline.proofs.posting.Posting.run.Given as goal
 
 abbrev pub invariant-loop-step : goal.invariant-loop-step

@@ -1,5 +1,4 @@
-use Rattle.std.proofs.Common.{[], ◌∷◌, refl}
-use Rattle.kob_router.specs.Run.Move.{Restarted}
+use Rattle.kob_pipeline.proofs.Words.{Restarted, [], refl, ◌∷◌}
 use Rattle.kob_pipeline.proofs.Worked.{leads_still}
 use Rattle.kob_pipeline.proofs.posting.Posting.step.Goals as goal
 

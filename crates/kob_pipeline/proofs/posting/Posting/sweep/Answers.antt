@@ -1,6 +1,5 @@
-use Rattle.kob_pipeline.proofs.Words.{Swept, [], ap, option_map, refl, subst, sym, ◌∷◌}
+use Rattle.kob_pipeline.proofs.Words.{first_swept, Swept, [], ap, option_map, refl, subst, sym, ◌∷◌}
 use Rattle.kob_router.specs.Tick.{IsFirst, hand_of, state_of}
-use Rattle.kob_pipeline.proofs.Outboxes.{first_swept}
 use Rattle.kob_pipeline.proofs.Worked.{leads_still}
 use Rattle.kob_pipeline.proofs.posting.Posting.sweep.Goals as goal
 

@@ -1,5 +1,5 @@
-use Rattle.std.proofs.Common.{ap, ◌∙◌}
-use Rattle.kob_pipeline.proofs.Ticked.{service_ticked}
+use Rattle.kob_pipeline.proofs.Words.{ap, ◌∙◌}
+use Rattle.kob_pipeline.proofs.Worked.{service_ticked}
 use Rattle.kob_pipeline.proofs.posting.Posting.tick.Goals as goal
 
 pub returns-clause-done : goal.returns-clause-done

@@ -1,6 +1,4 @@
-use Rattle.kob_pipeline.proofs.Words.{IfOk, IsOutboxLeft, later_than, map, stored_row, subst, ◌≡◌}
-use Rattle.kob_pipeline.specs.declared.end.OutboxEnd.{OutboxEnd}
-use Rattle.kob_pipeline.specs.declared.plan.Service.{Service}
+use Rattle.kob_pipeline.proofs.Words.{IfOk, IsOutboxLeft, OutboxEnd, Service, later_than, map, stored_row, subst, ◌≡◌}
 use Rattle.kob_pipeline.proofs.Worked.{if_ok_two, outbox_left}
 use Rattle.kob_pipeline.proofs.service_worker.ServiceWorker.leave.Goals as goal
 

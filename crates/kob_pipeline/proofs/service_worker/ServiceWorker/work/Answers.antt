@@ -1,5 +1,4 @@
-use Rattle.kob_pipeline.proofs.Words.{AtDesk, IsServiceRun, Noted, ap, subst, sym, ◌∙◌}
-use Rattle.kob_pipeline.specs.declared.plan.Service.{Service}
+use Rattle.kob_pipeline.proofs.Words.{AtDesk, IsServiceRun, Noted, Service, ap, subst, sym, ◌∙◌}
 use Rattle.kob_pipeline.proofs.Worked.{service_run_of}
 use Rattle.kob_pipeline.proofs.service_worker.ServiceWorker.work.Goals as goal
 

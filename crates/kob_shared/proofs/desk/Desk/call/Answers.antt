@@ -1,5 +1,5 @@
-use Rattle.std.proofs.Common.{◌≡◌, ◌++◌, [], ◌∷◌, arith, length-append, ap, ◌∙◌}
-use Rattle.kob_shared.proofs.Rising.{rises_push}
+use Rattle.kob_shared.proofs.Words.{[], ap, arith, length-append, ◌++◌, ◌∙◌, ◌∷◌, ◌≡◌}
+use Rattle.kob_shared.proofs.Claims.{rises_push}
 use Rattle.kob_shared.proofs.desk.Desk.call.Goals as goal
 
 pub invariant_of-self-2 : goal.invariant_of-self-2

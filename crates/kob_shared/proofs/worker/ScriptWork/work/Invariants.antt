@@ -1,5 +1,4 @@
-use Rattle.std.proofs.Common.{◌≡◌, map, take}
-use Rattle.kob_shared.specs.Sessions.{event_by}
+use Rattle.kob_shared.proofs.Words.{event_by, map, take, ◌≡◌}
 use Rattle.kob_shared.proofs.worker.ScriptWork.work.Given as goal
 
 abbrev pub invariant-loop-request : goal.invariant-loop-request

@@ -1,7 +1,6 @@
-use Rattle.std.proofs.Common.{◌≡◌, ◌<◌, length, take, take_all, IfOk, ap, ◌∙◌, subst, arith}
-use Rattle.std.specs.List.{AllZip}
-use Rattle.kob_shared.proofs.Zips.{all_zip_more}
-use Rattle.kob_shared.proofs.Joined.{all_zip_joined}
+use Rattle.kob_shared.proofs.Words.{AllZip, IfOk, ap, arith, length, subst, take, take_all, ◌<◌, ◌∙◌, ◌≡◌}
+use Rattle.kob_shared.proofs.Claims.{all_zip_more}
+use Rattle.kob_shared.proofs.Fleets.{all_zip_joined}
 use Rattle.kob_shared.proofs.fleet.fn.run_workers.scope.Goals as goal
 
 pub loop-i-preserved : goal.loop-i-preserved
