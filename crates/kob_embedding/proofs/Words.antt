@@ -1,7 +1,7 @@
 -- The names that the lemmas cite, passed on from one place.
 pub use Rattle.kob_broker.specs.State.{State}
 pub use Rattle.kob_embedding.specs.Running.{HasRun, ReachesReader, IsReaderRun, IsSenderRun, ReaderLeft, RecordsNoRow, ServiceLeft, IsNext, Serves}
-pub use Rattle.kob_inbox.specs.Rows.{placed_intake}
+pub use Rattle.kob_inbox.specs.Contents.{placed_intake}
 pub use Rattle.kob_inbox.specs.Run.Move.{Restarted}
 pub use Rattle.kob_inbox.specs.Tick.{state_of}
 pub use Rattle.kob_inbox.specs.declared.fetcher.Fetcher.{Fetcher}
@@ -11,10 +11,7 @@ pub use Rattle.kob_lines.proofs.ServiceCourses.{records, ticks}
 pub use Rattle.kob_lines.specs.Calls.{served_in}
 pub use Rattle.kob_lines.specs.Relayed.{HasConsumerRun, HasServiceRun, IsTick, Relayed}
 pub use Rattle.kob_names.specs.declared.settings.Settings.{Settings}
-pub use Rattle.kob_outbox.specs.Contents.{Contents, Event, empty}
-pub use Rattle.kob_outbox.specs.Events.{id_text, stored_event}
-pub use Rattle.kob_outbox.specs.Fields.{first_bad}
-pub use Rattle.kob_outbox.specs.Recording.{after_record, is_recorded, next_seq}
+pub use Rattle.kob_outbox.specs.Contents.{Contents, Event, empty, id_text, stored_event, first_bad, after_record, is_recorded, next_seq}
 pub use Rattle.kob_outbox.specs.declared.change.Change.{Change}
 pub use Rattle.kob_outbox.specs.declared.event.OutboxEvent.{OutboxEvent}
 pub use Rattle.kob_outbox.specs.declared.fault.RecordFault.{RecordFault}
@@ -25,8 +22,8 @@ pub use Rattle.kob_pipeline.specs.Delivery.{ReachesInOrder}
 pub use Rattle.kob_pipeline.specs.Premises.{ArePrivate}
 pub use Rattle.kob_pipeline.specs.Served.{served_to}
 pub use Rattle.kob_pipeline.specs.View.{view_after}
-pub use Rattle.kob_router.specs.Dispatches.{dispatch_of}
-pub use Rattle.kob_router.specs.Served.{AreServed}
+pub use Rattle.kob_router.specs.Partitioner.{dispatch_of}
+pub use Rattle.kob_router.specs.Line.{AreServed}
 pub use Rattle.kob_router.specs.Tick.{scene_of}
 pub use Rattle.kob_router.specs.declared.dispatch.Target.{Target}
 pub use Rattle.kob_router.specs.declared.line.Call.{Call}

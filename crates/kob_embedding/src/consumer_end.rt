@@ -3,7 +3,7 @@
 ghost use Rattle.std.specs.Prelude.{◌≡◌, IfErr, IfOk, map};
 ghost use Rattle.std.specs.List.{enumerate_from};
 ghost use Rattle.kob_embedding.specs.Running.{IsReaderRun};
-ghost use Rattle.kob_inbox.specs.Rows.{placed_intake};
+ghost use Rattle.kob_inbox.specs.Contents.{placed_intake};
 
 use crate::part::Part;
 use kob_inbox::{Consumer, Inbox, InboxFault, InboxRow};

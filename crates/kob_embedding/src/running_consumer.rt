@@ -3,7 +3,7 @@
 ghost use Rattle.std.specs.Prelude.{◌≡◌, ◌≤◌, [], IfErr, IfOk, IsErrOf, IsTrue, OnErr, OnOk};
 ghost use Rattle.std.specs.Prelude.{length, map};
 ghost use Rattle.std.specs.List.{enumerate_from};
-ghost use Rattle.kob_inbox.specs.Rows.{placed_intake};
+ghost use Rattle.kob_inbox.specs.Contents.{placed_intake};
 ghost use Rattle.kob_inbox.specs.Tick.{Ticks, scene_of};
 
 use crate::consumer_end::ConsumerEnd;

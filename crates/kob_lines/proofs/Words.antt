@@ -12,21 +12,18 @@ pub use Rattle.kob_lines.specs.Relayed.{HasConsumerRun, HasServiceRun, HoldsFirs
 pub use Rattle.kob_lines.specs.declared.lossy.Loss.{Loss}
 pub use Rattle.kob_names.specs.declared.settings.Settings.{Settings}
 pub use Rattle.kob_outbox.proofs.Lawful.{swept_waits}
-pub use Rattle.kob_outbox.specs.Contents.{Contents, empty}
-pub use Rattle.kob_outbox.specs.Events.{stored_event}
-pub use Rattle.kob_outbox.specs.Reading.{later_than, up_to, without_sent}
-pub use Rattle.kob_outbox.specs.Recording.{after_record, next_seq}
+pub use Rattle.kob_outbox.specs.Contents.{Contents, empty, stored_event, later_than, up_to, without_sent, after_record, next_seq}
 pub use Rattle.kob_outbox.specs.declared.change.Change.{Change}
 pub use Rattle.kob_outbox.specs.declared.event.OutboxEvent.{OutboxEvent}
 pub use Rattle.kob_outbox.specs.declared.fault.OutboxFault.{OutboxFault}
 pub use Rattle.kob_outbox.specs.declared.fault.RecordFault.{RecordFault}
 pub use Rattle.kob_partition.specs.Retained.{Retained, retained_meaning}
-pub use Rattle.kob_rights.specs.Bodies.{Fits}
+pub use Rattle.kob_rights.specs.Requests.{Fits}
 pub use Rattle.kob_rights.specs.declared.event.Event.{Event}
 pub use Rattle.kob_rights.specs.declared.reply.Reply.{Reply}
 pub use Rattle.kob_rights.specs.declared.request.Request.{Request}
 pub use Rattle.kob_router.proofs.Runs.{calls_append, run_append}
-pub use Rattle.kob_router.specs.Dispatches.{Dispatching}
+pub use Rattle.kob_router.specs.Partitioner.{Dispatching}
 pub use Rattle.kob_router.specs.Run.{Hand, IsRecordable, IsRouterRun, State, after_acknowledgement, events_of}
 pub use Rattle.kob_router.specs.Run.Move.{Recorded, Swept, Took}
 pub use Rattle.kob_router.specs.Tick.{IsFirst, IsOfTick, IsOneTick}

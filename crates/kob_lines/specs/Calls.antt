@@ -1,7 +1,7 @@
 -- What calls make of a line.
 use Rattle.std.specs.Prelude.{◌≡◌, ◌⊎◌, ◌≤◌, ℕ, List, [], ◌∷◌, ◌++◌, map, None, ◌+◌, Option, Some}
 use Rattle.std.specs.List.{All}
-use Rattle.kob_router.specs.Served.{AreServed, Served}
+use Rattle.kob_router.specs.Line.{AreServed, Served}
 use Rattle.kob_router.specs.declared.line.Call.{Call}
 use Rattle.kob_shared.specs.Journals.{Record}
 use Rattle.kob_shared.specs.Sessions.{Seat, IsServed, event_by}

@@ -1,8 +1,7 @@
 -- An outbox, and the router that sends its rows.
 use Rattle.std.specs.Prelude.{◌≡◌, ℕ, List, length, option_map}
-use Rattle.kob_outbox.specs.Contents.{Contents, Event, empty}
-use Rattle.kob_outbox.specs.Reading.{up_to}
-use Rattle.kob_router.specs.Dispatches.{dispatch_of, Dispatching}
+use Rattle.kob_outbox.specs.Contents.{Contents, Event, empty, up_to}
+use Rattle.kob_router.specs.Partitioner.{dispatch_of, Dispatching}
 use Rattle.kob_router.specs.Tick.{IsFirst, IsOneTick, Ticks, hand_of, scene_of}
 use Rattle.kob_router.specs.declared.line.Call.{Call}
 use Rattle.kob_router.specs.declared.sender.Sender.{Sender}

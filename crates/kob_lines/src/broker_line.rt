@@ -5,7 +5,7 @@ ghost use Rattle.kob_broker.specs.Change.{state_of};
 ghost use Rattle.kob_broker.specs.Step.{step};
 ghost use Rattle.kob_lines.specs.Calls.{IsServedAtMostOnce};
 ghost use Rattle.kob_partition.specs.Retained.{retained_meaning};
-ghost use Rattle.kob_rights.specs.Bodies.{Fits};
+ghost use Rattle.kob_rights.specs.Requests.{Fits};
 ghost use Rattle.kob_router.specs.Line.{Adds, IsFaithful};
 ghost use Rattle.kob_shared.specs.Sessions.{event_by};
 

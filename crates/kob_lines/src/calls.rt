@@ -3,8 +3,7 @@
 ghost use Rattle.std.specs.Prelude.{◌≡◌, ◌<◌, [], ◌∷◌, ◌++◌, None, IfSome, IfNone, OnSome};
 ghost use Rattle.std.specs.Prelude.{vec_capacity, vec_len};
 ghost use Rattle.kob_lines.specs.Calls.{IsHeardOf, reply_of};
-ghost use Rattle.kob_rights.specs.Bodies.{Fits};
-ghost use Rattle.kob_rights.specs.Offsets.{OffsetsWithin};
+ghost use Rattle.kob_rights.specs.Requests.{Fits, OffsetsWithin};
 ghost use Rattle.kob_router.specs.Line.{Adds, IsFaithful, one_more};
 
 use kob_names::PlainValue;

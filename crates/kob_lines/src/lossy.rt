@@ -1,8 +1,7 @@
 //! A line that loses calls on purpose.
 
 ghost use Rattle.std.specs.Prelude.{◌≡◌, [], None, IfSome};
-ghost use Rattle.kob_rights.specs.Bodies.{Fits};
-ghost use Rattle.kob_rights.specs.Offsets.{OffsetsWithin};
+ghost use Rattle.kob_rights.specs.Requests.{Fits, OffsetsWithin};
 ghost use Rattle.kob_lines.specs.Calls.{PassesOn, reply_of};
 ghost use Rattle.kob_router.specs.Line.{Adds, IsFaithful};
 

@@ -1,7 +1,7 @@
 //! Whether the offsets of a reply are within the limit of a log.
 
 ghost use Rattle.std.specs.Prelude.{◌≡◌, IfSome, IsTrue};
-ghost use Rattle.kob_rights.specs.Offsets.{BodyWithin, OffsetsWithin};
+ghost use Rattle.kob_rights.specs.Requests.{BodyWithin, OffsetsWithin};
 
 use kob_rights::{Body, Reply};
 

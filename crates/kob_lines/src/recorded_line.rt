@@ -6,8 +6,7 @@ ghost use Rattle.kob_lines.specs.Calls.{IsServedAtMostOnce, IsServedIfHeard};
 ghost use Rattle.kob_router.specs.Line.{Adds, IsFaithful};
 ghost use Rattle.kob_shared.specs.Journals.{after_event, outcome_of};
 ghost use Rattle.kob_shared.specs.Sessions.{IsStaleOnlyBelow, event_by};
-ghost use Rattle.kob_rights.specs.Bodies.{Fits};
-ghost use Rattle.kob_rights.specs.Offsets.{OffsetsWithin};
+ghost use Rattle.kob_rights.specs.Requests.{Fits, OffsetsWithin};
 
 use crate::calls::Calls;
 use crate::event::event_of;

@@ -1,13 +1,11 @@
 //! How a service's run continues. This function does nothing: its contract is the law.
 
 ghost use Rattle.std.specs.Prelude.{◌++◌, ◌∷◌, [], List};
-ghost use Rattle.kob_outbox.specs.Contents.{Event};
-ghost use Rattle.kob_outbox.specs.Events.{stored_event};
-ghost use Rattle.kob_outbox.specs.Recording.{next_seq};
+ghost use Rattle.kob_outbox.specs.Contents.{Event, stored_event, next_seq};
 ghost use Rattle.kob_outbox.specs.declared.change.Change.{Change};
 ghost use Rattle.kob_outbox.specs.declared.event.OutboxEvent.{OutboxEvent};
 ghost use Rattle.kob_lines.specs.Relayed.{HasServiceRun};
-ghost use Rattle.kob_router.specs.Dispatches.{Dispatching};
+ghost use Rattle.kob_router.specs.Partitioner.{Dispatching};
 ghost use Rattle.kob_router.specs.Run.Move.{Recorded, Restarted, Swept};
 ghost use Rattle.kob_router.specs.Run.{IsRecordable, IsRouterRun, Move, State, after, start};
 ghost use Rattle.kob_router.specs.Tick.{IsOneTick, Scene, Ticks};

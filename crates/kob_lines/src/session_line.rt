@@ -2,8 +2,7 @@
 
 ghost use Rattle.std.specs.Prelude.{◌≡◌, [], None, IfSome};
 ghost use Rattle.kob_lines.specs.Calls.{IsServedInSession, reply_of};
-ghost use Rattle.kob_rights.specs.Bodies.{Fits};
-ghost use Rattle.kob_rights.specs.Offsets.{OffsetsWithin};
+ghost use Rattle.kob_rights.specs.Requests.{Fits, OffsetsWithin};
 ghost use Rattle.kob_router.specs.Line.{Adds, IsFaithful};
 
 use crate::calls::Calls;

@@ -2,7 +2,7 @@
 
 ghost use Rattle.std.specs.Prelude.{◌≡◌, ◌<◌, ◌≤◌, ◌^◌, ◌↔◌, Some, IfOk, IsErrOf};
 ghost use Rattle.kob_lines.specs.Relayed.{HoldsFirst, IsSomeSweep, IsSomeTick};
-ghost use Rattle.kob_outbox.specs.Fields.{first_bad};
+ghost use Rattle.kob_outbox.specs.Contents.{first_bad};
 
 use crate::relay::Relay;
 use kob_outbox::{Change, OutboxEvent, OutboxFault, RecordFault};

@@ -1,6 +1,5 @@
 -- What a search among the places in order of their names has found.
-use Rattle.kob_ordered.proofs.Words.{nat_tests}
-use Rattle.kob_ordered.proofs.Words.{Bool, Entry, Equal, Err, IfErr, IfOk, IsBinarySearchResult, IsGap, IsNonDecreasingBy, IsSearchInRange, IsSound, List, Nth, Ok, Option, Ordering, Result, Slot, Some, ap, arith, cases_lt, entries_in, false, get_or, get_or_from_slice_get, is_ok, is_some, length, lookup, name_order, names_in, order_of, ordering_index, refl, same_text, slice_get, slice_get-get_or, slice_get_within, sym, true, ℕ, ◌<◌, ◌∙◌, ◌≡◌}
+use Rattle.kob_ordered.proofs.Words.{nat_tests, Bool, Entry, Equal, Err, IfErr, IfOk, IsBinarySearchResult, IsGap, IsNonDecreasingBy, IsSearchInRange, IsSound, List, Nth, Ok, Option, Ordering, Result, Slot, Some, ap, arith, cases_lt, entries_in, false, get_or, get_or_from_slice_get, is_ok, is_some, length, lookup, name_order, names_in, order_of, ordering_index, refl, same_text, slice_get, slice_get-get_or, slice_get_within, sym, true, ℕ, ◌<◌, ◌∙◌, ◌≡◌}
 use Rattle.kob_ordered.proofs.Listed.{equal_from_order, not_before_itself, rises, turned}
 use Rattle.kob_ordered.proofs.Places.{entry_at, stands_in}
 use Rattle.kob_ordered.proofs.Sound.{value_at}

@@ -1,8 +1,7 @@
 -- What an inbox makes of the records that arrive.
 use Rattle.kob_pipeline.proofs.Words.{AllByRecursion, Arrival, Bool, Contains, Denied, Done, Fetch, IsConsumerRun, List, None, Option, Place, Record, Refused, Reply, Request, Some, Subscription, [], ap, arith, arrivals, bytes_eq, cons_option, cursor_of, event_id, false, filter, filter_map, firsts, fold, id_text, intake_of, is_there, list_any, map, map_push, nat_eq, nat_tests, option_map, place_at, range_with_len, refl, take, taken_by, taken_ids, taken_in, taken_of, told_id, with_intake, with_new, with_record, ℕ, ◌∷◌, ◌≡◌}
 use Rattle.kob_inbox.specs.Contents.{Contents}
-use Rattle.kob_inbox.specs.Cursors.{standing}
-use Rattle.kob_inbox.specs.Run.{Move, State, after}
+use Rattle.kob_inbox.specs.Run.{standing, Move, State, after}
 use Rattle.kob_inbox.specs.Run.Move.{Called, Restarted}
 use Rattle.kob_inbox.specs.declared.cursors.Standing.{Standing}
 use Rattle.kob_pipeline.proofs.ConsumerKept.{IsContent, offset_of}

@@ -3,8 +3,7 @@ use Rattle.kob_pipeline.proofs.Words.{AreServed, Arrival, Body, Bool, Call, Curs
 use Rattle.kob_rights.specs.declared.on_groups.OffsetCommit.{OffsetCommit as CommitRequest}
 use Rattle.kob_rights.specs.declared.on_groups.OffsetFetch.{OffsetFetch as PositionRequest}
 use Rattle.kob_rights.specs.declared.on_partitions.Fetch.{Fetch as FetchRequest}
-use Rattle.kob_inbox.specs.Cursors.{standing}
-use Rattle.kob_inbox.specs.Run.{State, May, Move, after, calls_of, start}
+use Rattle.kob_inbox.specs.Run.{standing, State, May, Move, after, calls_of, start}
 use Rattle.kob_inbox.specs.declared.cursors.Standing.{Standing}
 use Rattle.kob_pipeline.proofs.ConsumerKept.{Fits, Taking, WithinCursor, WithinOffset, taking_after_fetch, taking_after_move, taking_nothing, taking_with_commit, taking_after_restart, taking_first, taking_later, read_in_order}
 use Rattle.kob_pipeline.proofs.Lists.{all_both, places_are, same_some}

@@ -6,10 +6,9 @@ use Rattle.kob_shared.specs.declared.work.Done.{Done}
 use Rattle.kob_shared.proofs.Fleets.{begins_with}
 use Rattle.kob_shared.proofs.Journals.{opened_again}
 use Rattle.kob_pipeline.specs.declared.worker.Worker.{Worker}
-use Rattle.kob_authorizer.specs.AtOnce.{with_new}
-use Rattle.kob_authorizer.specs.Passing.{create_fault, limit_fault}
+use Rattle.kob_authorizer.specs.Creation.{with_new, create_fault, limit_fault}
 use Rattle.kob_authorizer.specs.declared.fault.CreateFault.TheVariants.{TooMany}
-use Rattle.kob_authorizer.proofs.InTurn.{fault_by_count}
+use Rattle.kob_authorizer.proofs.Creating.{fault_by_count}
 use Rattle.kob_shared.specs.declared.fleet_stop.FleetStop.{FleetStop}
 
 -- how many workers there are

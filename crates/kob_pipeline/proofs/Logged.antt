@@ -2,7 +2,7 @@
 use Rattle.kob_pipeline.proofs.Words.{AllByRecursion, Batch, Bool, Change, Contains, Contains-append_left, Contents, Dispatching, Event, Idem, IsGiven, IsRecordOf, IsRecordable, List, Next, None, Option, OutboxEvent, Place, Producer, Record, Repeat, Sent, Sequence, Some, [], after_record, after_use, ap, append-nil, append_assoc, arith, batch_of, bytes_eq, cases_Bool, empty, eq-eqb, false, filter, filter_keep, filter_map, filter_map-append, filter_skip, find, firsts, fold-append, get_or, get_or-drop, get_or_append_left, get_or_push, goes_to, history, history_from, id_text, ids_of, inl, inr, is_same, judge, judge_same, later_than, le-ltb, length, length-append, length-drop, length-map, length_push, list_any, lt-ltb, ltb-true, map-append, map_push, memory_length, nat_lt, nat_tests, next_seq, records_of, records_of_push, refl, routed_to, same_place, sent_batch, sent_in, sequence_of, slice_get, slice_get-get_or, stored_event, sym, told_id, true, with_new, with_sequence_for, without_sent, ℕ, ◌%◌, ◌++◌, ◌+◌, ◌<◌, ◌∙◌, ◌∷◌, ◌≡◌, ◌≤◌}
 use Rattle.kob_pipeline.proofs.Lists.{any_same, bytes_turned, filter_twice, filter_all, all_last, all_weaker, any_last, none_in_filter, same_bytes, same_here, contains_more, places_are, same_some}
 use Rattle.circular_buffer.specs.Buffer.{keep_last}
-use Rattle.kob_producers.specs.Sequence.{next_sequence}
+use Rattle.kob_producers.specs.Judge.{next_sequence}
 
 -- numbered from n + 1 on, and none with an id that was seen before
 abbrev pub InOrder : ℕ → List (List ℕ) → List Event → Type 0

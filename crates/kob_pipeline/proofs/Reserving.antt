@@ -7,10 +7,8 @@ use Rattle.kob_names.specs.declared.kinds.Permission.TheVariants.{Allow, Deny}
 use Rattle.kob_names.specs.declared.kinds.ResourceKind.{ResourceKind}
 use Rattle.kob_names.specs.declared.kinds.ResourceKind.TheVariants.{Group, Topic}
 use Rattle.kob_authorizer.specs.Contents.{Contents}
-use Rattle.kob_authorizer.specs.Decide.{decide, first_serial, hits, is_hit, is_super, is_unmatched, unless_open, verdict_of}
-use Rattle.kob_authorizer.specs.Question.{question_of}
-use Rattle.kob_broker.specs.InForce.{access_after, in_force}
-use Rattle.kob_broker.specs.Justice.{Grants, IsJust, EachGranted}
+use Rattle.kob_authorizer.specs.Decide.{decide, first_serial, hits, is_hit, is_super, is_unmatched, unless_open, verdict_of, question_of}
+use Rattle.kob_broker.specs.Justice.{access_after, in_force, Grants, IsJust, EachGranted}
 use Rattle.kob_broker.specs.State.{State}
 use Rattle.kob_rights.specs.declared.event.Event.{Event}
 use Rattle.kob_shared.proofs.Journals.{entry_is_just}

@@ -1,15 +1,12 @@
 -- The names that the lemmas cite, passed on from one place.
 pub use Rattle.circular_buffer.proofs.Places.{slice_get-append_left, slice_get-append_right}
 pub use Rattle.indexmap.proofs.SetLemmas.{filter_keep, filter_skip}
-pub use Rattle.kob_authorizer.proofs.Elements.{kept_by_filter, of_each, was_kept}
+pub use Rattle.kob_authorizer.proofs.Entries.{kept_by_filter, of_each, was_kept}
 pub use Rattle.kob_broker.specs.Change.{state_of}
 pub use Rattle.kob_broker.specs.State.{settings_of}
-pub use Rattle.kob_inbox.proofs.Running.{run_takes_in}
-pub use Rattle.kob_inbox.specs.Contents.{Intake}
-pub use Rattle.kob_inbox.specs.Cursors.{cursor_of, with_cursor, with_progress}
-pub use Rattle.kob_inbox.specs.Intake.{arrivals, intake_of, is_there, with_intake, with_record}
-pub use Rattle.kob_inbox.specs.Rows.{placed_intake}
-pub use Rattle.kob_inbox.specs.Run.{IsDue, after_answer, behind, taken_by}
+pub use Rattle.kob_inbox.proofs.Ticking.{run_takes_in}
+pub use Rattle.kob_inbox.specs.Contents.{Intake, arrivals, intake_of, is_there, with_intake, with_record, placed_intake}
+pub use Rattle.kob_inbox.specs.Run.{cursor_of, with_cursor, with_progress, IsDue, after_answer, behind, taken_by}
 pub use Rattle.kob_inbox.specs.declared.cursors.Cursor.{Cursor}
 pub use Rattle.kob_lines.proofs.Relaying.{first_recorded, first_swept}
 pub use Rattle.kob_lines.specs.Calls.{served_in}
@@ -17,14 +14,12 @@ pub use Rattle.kob_names.specs.Binding.{Binding}
 pub use Rattle.kob_names.specs.declared.batch.Batch.{Batch}
 pub use Rattle.kob_names.specs.declared.batch.Idem.{Idem}
 pub use Rattle.kob_names.specs.declared.record.Record.{Record}
-pub use Rattle.kob_outbox.specs.Contents.{Contents, Event, IsRising, empty}
-pub use Rattle.kob_outbox.specs.Reading.{first_after, later_than, without_sent}
-pub use Rattle.kob_outbox.specs.Recording.{after_record, next_seq}
+pub use Rattle.kob_outbox.specs.Contents.{Contents, Event, IsRising, empty, first_after, later_than, without_sent, after_record, next_seq}
 pub use Rattle.kob_outbox.specs.declared.change.Change.{Change}
 pub use Rattle.kob_outbox.specs.declared.event.OutboxEvent.{OutboxEvent}
 pub use Rattle.kob_partition.proofs.Keeping.{records_of_append, records_of_push}
-pub use Rattle.kob_partition.specs.Batches.{history_from, sent_in}
-pub use Rattle.kob_partition.specs.Limits.{fetch_limit}
+pub use Rattle.kob_partition.specs.Retained.{history_from, sent_in}
+pub use Rattle.kob_partition.specs.Meaning.{fetch_limit}
 pub use Rattle.kob_pipeline.specs.Delivery.{IsCopy, IsDelivered, IsPrefixOf, IsRecordOf, IsSent, IsTakenInOrder, IsWaitingOrSent, ReachesInOrder, firsts, from_place, goes_to, ids_of, is_of_aggregate, routed_to, rows_of, rows_of_aggregate, taken_ids, taken_of_aggregate, told_id, with_new}
 pub use Rattle.kob_pipeline.specs.Pipelines.{HasDone, HasLeft, IsEnd, IsNoneLost, IsPipeline, TakesInOrder, consumer_number, consumer_place, inbox_in, notes_in, outbox_in, records_at, service_number}
 pub use Rattle.kob_pipeline.specs.Plans.{rows_from, rows_of_service, workers_planned}
@@ -41,13 +36,11 @@ pub use Rattle.kob_producers.specs.Recent.{sent_batch}
 pub use Rattle.kob_producers.specs.declared.judge.Judgement.{Judgement}
 pub use Rattle.kob_producers.specs.declared.judge.Judgement.TheVariants.{Next, OldEpoch, OutOfOrder, Repeat}
 pub use Rattle.kob_producers.specs.declared.sent.Sent.{Sent}
-pub use Rattle.kob_rights.specs.Check.{Check, on_group, on_topic}
-pub use Rattle.kob_rights.specs.Table.{rights}
+pub use Rattle.kob_rights.specs.Table.{Check, on_group, on_topic, rights}
 pub use Rattle.kob_rights.specs.declared.reply.Reply.TheVariants.{Denied, Done, Refused}
 pub use Rattle.kob_rights.specs.declared.request.Request.TheVariants.{CreateTopics, DeleteRecords}
-pub use Rattle.kob_router.specs.Dispatches.{place_of}
-pub use Rattle.kob_router.specs.HeaderId.{event_id}
-pub use Rattle.kob_router.specs.Places.{after_use, sequence_of, with_sequence_for}
+pub use Rattle.kob_router.specs.Partitioner.{place_of, after_use, sequence_of, with_sequence_for}
+pub use Rattle.kob_router.specs.Route.{event_id}
 pub use Rattle.kob_router.specs.Run.{Hand, IsDone, IsRecordable, IsRouterRun, IsSending, May, MayCall, Move, State, after, after_acknowledgement, batch_of, calls_of, events_of, producer_after, start}
 pub use Rattle.kob_router.specs.Run.Move.{Called, Recorded, Restarted, Swept, Took}
 pub use Rattle.kob_router.specs.Tick.{IsFirst, IsOfTick}

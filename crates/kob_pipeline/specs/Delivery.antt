@@ -3,7 +3,7 @@ use Rattle.std.specs.Prelude.{◌≡◌, List, [], ◌∷◌, ◌++◌, Bool, if
 use Rattle.std.specs.List.{fold, list_any, AllByRecursion, filter_map, range_with_len, IsDistinct}
 use Rattle.kob_pipeline.specs.Types.{Record, id_text, Dispatching, same_place, Place, Arrival, Body, Produce, Entry}
 use Rattle.kob_outbox.specs.Contents.{Contents as Outbox, Event, empty}
-use Rattle.kob_router.specs.HeaderId.{event_id}
+use Rattle.kob_router.specs.Route.{event_id}
 use Rattle.kob_router.specs.Run.{Move, events_of}
 use Rattle.kob_router.specs.declared.dispatch.Dispatch.{Dispatch}
 use Rattle.kob_rights.specs.declared.on_partitions.Produce.{Produce as ProduceRequest}

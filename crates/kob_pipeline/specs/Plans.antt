@@ -2,9 +2,7 @@
 use Rattle.std.specs.Prelude.{◌≤◌, length, ℕ, ◌+◌, ◌*◌, vec_len, suc, ◌^◌, List, [], ◌∷◌, ◌++◌, Bool, not, ◌&&◌, if◌then◌else◌, is_none, nat_lt}
 use Rattle.std.specs.List.{All, sum_by}
 use Rattle.kob_pipeline.specs.Types.{Plan, id_text, stored_event, Service, ServiceStep}
-use Rattle.kob_outbox.specs.Contents.{Event}
-use Rattle.kob_outbox.specs.Fields.{first_bad}
-use Rattle.kob_outbox.specs.Recording.{is_recorded}
+use Rattle.kob_outbox.specs.Contents.{Event, first_bad, is_recorded}
 use Rattle.kob_outbox.specs.declared.change.Change.{Change}
 use Rattle.kob_outbox.specs.declared.event.OutboxEvent.{OutboxEvent}
 use Rattle.kob_pipeline.specs.declared.plan.ServiceStep.TheVariants as steps

@@ -2,7 +2,7 @@
 
 ghost use Rattle.std.specs.Prelude.{◌≡◌, map, IfOk, OnErr, OnOk};
 ghost use Rattle.std.specs.List.{enumerate_from};
-ghost use Rattle.kob_inbox.specs.Rows.{placed_intake};
+ghost use Rattle.kob_inbox.specs.Contents.{placed_intake};
 ghost use Rattle.kob_inbox.specs.Run.{start};
 ghost use Rattle.kob_inbox.specs.Tick.{state_of};
 ghost use Rattle.kob_pipeline.specs.declared.plan.ConsumerStep.TheVariants as steps;

@@ -1,7 +1,7 @@
 //! The laws of a pipeline: what its journal says of its outboxes, topics and inboxes.
 
 ghost use Rattle.std.specs.Prelude.{◌≡◌, List, ℕ, Some, slice_get};
-ghost use Rattle.kob_router.specs.Dispatches.{dispatch_of};
+ghost use Rattle.kob_router.specs.Partitioner.{dispatch_of};
 ghost use Rattle.kob_router.specs.declared.place.Place.{Place as PlaceValue};
 ghost use Rattle.kob_pipeline.specs.Delivery.{IsDelivered, ReachesInOrder};
 ghost use Rattle.kob_pipeline.specs.Pipelines.{HasLeft, IsPipeline, consumer_number};

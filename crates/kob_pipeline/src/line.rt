@@ -3,8 +3,7 @@
 ghost use Rattle.std.specs.Prelude.{◌≡◌, ◌<◌, ◌⊎◌, [], ◌∷◌, ◌++◌, None, OnOk, Some, IfErr, IfNone};
 ghost use Rattle.std.specs.Prelude.{IfOk, IfSome, vec_capacity, vec_len};
 ghost use Rattle.kob_lines.specs.Calls.{reply_of};
-ghost use Rattle.kob_rights.specs.Bodies.{Fits};
-ghost use Rattle.kob_rights.specs.Offsets.{OffsetsWithin};
+ghost use Rattle.kob_rights.specs.Requests.{Fits, OffsetsWithin};
 ghost use Rattle.kob_pipeline.specs.Served.{AreNotedOrLost};
 ghost use Rattle.kob_router.specs.Line.{Adds, IsFaithful};
 

@@ -3,11 +3,9 @@
 ghost use Rattle.std.specs.Prelude.{◌≡◌, ◌≤◌, ◌⊎◌, ◌^◌, ◌++◌, [], map, IfErr, IfOk, IsErrOf, None};
 ghost use Rattle.std.specs.Prelude.{◌-◌, OnErr, OnOk, false, length, option_map, slice_get};
 ghost use Rattle.std.specs.Prelude.{unwrap_or};
-ghost use Rattle.kob_outbox.specs.Events.{id_text, stored_row};
-ghost use Rattle.kob_outbox.specs.Fields.{first_bad};
-ghost use Rattle.kob_outbox.specs.Reading.{later_than};
-ghost use Rattle.kob_outbox.specs.Recording.{is_recorded, next_seq};
-ghost use Rattle.kob_router.specs.Dispatches.{dispatch_of};
+ghost use Rattle.kob_outbox.specs.Contents.{id_text, stored_row, first_bad, later_than};
+ghost use Rattle.kob_outbox.specs.Contents.{is_recorded, next_seq};
+ghost use Rattle.kob_router.specs.Partitioner.{dispatch_of};
 ghost use Rattle.kob_router.specs.Run.{start};
 ghost use Rattle.kob_router.specs.Tick.{IsFirst, hand_of, state_of};
 ghost use Rattle.kob_pipeline.specs.declared.plan.ServiceStep.TheVariants as steps;

@@ -12,12 +12,10 @@ pub use Rattle.kob_names.specs.declared.kinds.ResourceKind.{ResourceKind}
 pub use Rattle.kob_names.specs.declared.kinds.ResourceKind.TheVariants.{Group, Topic}
 pub use Rattle.kob_names.specs.declared.record.Record.{Record}
 pub use Rattle.kob_names.specs.declared.settings.Settings.{Settings}
-pub use Rattle.kob_outbox.specs.Contents.{Event}
-pub use Rattle.kob_outbox.specs.Events.{id_text, stored_event}
+pub use Rattle.kob_outbox.specs.Contents.{Event, id_text, stored_event}
 pub use Rattle.kob_outbox.specs.declared.change.Change.{Change}
 pub use Rattle.kob_outbox.specs.declared.event.OutboxEvent.{OutboxEvent}
-pub use Rattle.kob_partition.specs.Batches.{records_of}
-pub use Rattle.kob_partition.specs.Retained.{Retained}
+pub use Rattle.kob_partition.specs.Retained.{records_of, Retained}
 pub use Rattle.kob_pipeline.proofs.PlanLaws.{holds_a_prefix}
 pub use Rattle.kob_pipeline.specs.Delivery.{IsDelivered, IsTakenInOrder, ReachesInOrder, rows_of, rows_of_aggregate, taken_ids, told_id}
 pub use Rattle.kob_pipeline.specs.Premises.{ActsAlone, ArePrivate, Commits, IsNeverDeleted, IsPrivate, IsReserved, IsSoleCommitter, NoSuperUser, Produces}
@@ -28,7 +26,7 @@ pub use Rattle.kob_rights.specs.declared.reply.Reply.{Reply}
 pub use Rattle.kob_rights.specs.declared.reply.Reply.TheVariants.{Denied, Done}
 pub use Rattle.kob_rights.specs.declared.request.Request.{Request}
 pub use Rattle.kob_rights.specs.declared.request.Request.TheVariants.{CreateAcls, CreateTopics, DeleteTopics, Fetch, InitProducerId, OffsetCommit, OffsetFetch, Produce}
-pub use Rattle.kob_router.specs.Dispatches.{dispatch_of, place_of}
+pub use Rattle.kob_router.specs.Partitioner.{dispatch_of, place_of}
 pub use Rattle.kob_router.specs.Run.{Hand, batch_of}
 pub use Rattle.kob_router.specs.declared.dispatch.Target.{Target}
 pub use Rattle.kob_router.specs.declared.line.Call.{Call}

@@ -1,14 +1,13 @@
 -- The names that the lemmas cite, passed on from one place.
-pub use Rattle.kob_authorizer.proofs.InTurn.{added_rises, in_turn_at_once}
-pub use Rattle.kob_broker.proofs.Runs.{replies_of_append, reply_at, state_after_append}
+pub use Rattle.kob_authorizer.proofs.Creating.{added_rises, in_turn_at_once}
+pub use Rattle.kob_broker.proofs.Steps.{replies_of_append, reply_at, state_after_append}
 pub use Rattle.kob_broker.specs.Change.{state_of}
 pub use Rattle.kob_broker.specs.State.{State, settings_of, with_bindings}
 pub use Rattle.kob_broker.specs.Step.{replies_of, step, step_by}
 pub use Rattle.kob_broker.specs.declared.broker.Broker.{Broker}
 pub use Rattle.kob_names.specs.declared.settings.Settings.{Settings}
 pub use Rattle.kob_partition.specs.Retained.{Retained, retained_meaning}
-pub use Rattle.kob_rights.specs.Bodies.{Fits}
-pub use Rattle.kob_rights.specs.Offsets.{OffsetsWithin}
+pub use Rattle.kob_rights.specs.Requests.{Fits, OffsetsWithin}
 pub use Rattle.kob_rights.specs.declared.event.Event.{Event}
 pub use Rattle.kob_rights.specs.declared.reply.Reply.{Reply}
 pub use Rattle.kob_shared.specs.Fleets.{BeginsWith, DifferAt, EachIsAnswered, Follows, IsAnswered, IsDifference, IsFirstDifference, IsFleet, IsKept, IsRising, IsTornAt, RisesWithin, asked_of_all, claims, claims_of, entries_asked, entries_told, events_of_script, mine, mine_from}

@@ -1,8 +1,7 @@
 //! Sessions over a broker under one lock.
 
 ghost use Rattle.std.specs.Prelude.{◌≡◌, ◌+◌, ◌<◌, ◌≤◌, IfOk, IfErr, OnErr};
-ghost use Rattle.kob_rights.specs.Offsets.{OffsetsWithin};
-ghost use Rattle.kob_rights.specs.Bodies.{Fits};
+ghost use Rattle.kob_rights.specs.Requests.{OffsetsWithin, Fits};
 ghost use Rattle.kob_shared.specs.Journals.{IsContinued, IsPast, IsSound, entry_limit, place_limit};
 ghost use Rattle.kob_shared.specs.Sessions.{Seat, event_by, IsServed, IsStaleOnlyBelow};
 

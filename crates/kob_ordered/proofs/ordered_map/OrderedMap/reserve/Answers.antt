@@ -1,5 +1,4 @@
-use Rattle.kob_ordered.proofs.Words.{common_steps}
-use Rattle.kob_ordered.proofs.Words.{arith}
+use Rattle.kob_ordered.proofs.Words.{common_steps, arith}
 use Rattle.kob_ordered.proofs.Sound.{no_more_entries}
 use Rattle.kob_ordered.proofs.ordered_map.OrderedMap.reserve.Goals as goal
 

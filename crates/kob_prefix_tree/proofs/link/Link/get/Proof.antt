@@ -1,6 +1,6 @@
 -- `get` names the place where the pointer leads. What the link lends of its nodes has the `&` to the node that lies
 -- there.
-use Rattle.kob_prefix_tree.proofs.Words.{!, Bor, Goes-none_ref, Leads, List, Stays, Tree, Val, [], a_type, after, alloc_all, at_ret, block_of, block_ptr, blocks, by, count_of, emp, enter, env, exec, fact, fact_i, feq_i, first, fjoin, flft, free_all, ftrue, inst_fn, keep, layouts, leaves, move, named, nodes_lent, param, pass_all, plain, proved, qed, raw, refl, returns, rewrite, sets, sets_last, shr_Tells, shr_vals, stay_none_ref, tables, tree_of, use0, vptr, walk_of, whole, yes, ‵, ◌$◌, ◌+◌, ◌∵◌, ◌∷◌, ◌≡◌, ◌⊑◌, ◌⊛◌, heard, of_opd, fld, stop, through, get, look_at, addr, hop, look_in, split}
+use Rattle.kob_prefix_tree.proofs.Words.{ !, Bor, Goes-none_ref, Leads, List, Stays, Tree, Val, [], a_type, after, alloc_all, at_ret, block_of, block_ptr, blocks, by, count_of, emp, enter, env, exec, fact, fact_i, feq_i, first, fjoin, flft, free_all, ftrue, inst_fn, keep, layouts, leaves, move, named, nodes_lent, param, pass_all, plain, proved, qed, raw, refl, returns, rewrite, sets, sets_last, shr_Tells, shr_vals, stay_none_ref, tables, tree_of, use0, vptr, walk_of, whole, yes, ‵, ◌$◌, ◌+◌, ◌∵◌, ◌∷◌, ◌≡◌, ◌⊑◌, ◌⊛◌, heard, of_opd, fld, stop, through, get, look_at, addr, hop, look_in, split}
 use types.Kit.{drop}
 use Rattle.kob_prefix_tree.proofs.Blocks.{FirstNode, ends, enters, given, shut_pointer, with_pointer}
 use Rattle.kob_prefix_tree.proofs.Firsts.{first_of, sees_first}

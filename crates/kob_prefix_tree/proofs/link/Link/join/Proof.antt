@@ -1,5 +1,5 @@
 -- `join` opens the siblings at their end, stores the other link there, and closes them with it.
-use Rattle.kob_prefix_tree.proofs.Words.{!, Goes-blank, Goes-dropped, Leads, Link, List, Ptr, RattleType, RawPtr, SProp, Stays, Val, WpFn, [], a_type, after, alloc_all, ap, assigns_last, at_ret, blocks, by, emp, enter, env, exec, fact, fact_i, feq_l, first, flft, free_all, fsplit, ftrue, heard, inst_fn, join, keep, last_of, layouts, leaves, move, no, owns, param, pass_all, plain, prop, proved_at, ptr_val, qed, raw, refl, regoal, returns, sets, split, split3, stay_dropped, store, tables, types_at, use0, vptr, walk_of, with_others, yes, ‵, ◌$◌, ◌++◌, ◌+◌, ◌∙◌, ◌∵◌, ◌∷◌, ◌≡◌, ◌⊑◌, ◌⊛◌, of_opd, fld, stop, through, get, look_at, fjoin, addr}
+use Rattle.kob_prefix_tree.proofs.Words.{ !, Goes-blank, Goes-dropped, Leads, Link, List, Ptr, RattleType, RawPtr, SProp, Stays, Val, WpFn, [], a_type, after, alloc_all, ap, assigns_last, at_ret, blocks, by, emp, enter, env, exec, fact, fact_i, feq_l, first, flft, free_all, fsplit, ftrue, heard, inst_fn, join, keep, last_of, layouts, leaves, move, no, owns, param, pass_all, plain, prop, proved_at, ptr_val, qed, raw, refl, regoal, returns, sets, split, split3, stay_dropped, store, tables, types_at, use0, vptr, walk_of, with_others, yes, ‵, ◌$◌, ◌++◌, ◌+◌, ◌∙◌, ◌∵◌, ◌∷◌, ◌≡◌, ◌⊑◌, ◌⊛◌, of_opd, fld, stop, through, get, look_at, fjoin, addr}
 use denote.Steps.{nothing}
 use types.Kit.{drop}
 use Rattle.kob_prefix_tree.proofs.Ends.{closes_with, end_offset, link_lies, opens_end}
