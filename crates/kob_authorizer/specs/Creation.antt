@@ -83,8 +83,7 @@ created entries next made = record {
 
 -- the creation does what adding the bindings does
 abbrev pub Creates : List (ℕ × Binding) → ℕ → List Binding → Creation → Type 0
-Creates entries next bindings made =
-    addition entries next bindings ≡ created entries next made
+Creates entries next bindings made = addition entries next bindings ≡ created entries next made
 
 -- the fresh entries are put last
 abbrev pub with_creation : Contents → Creation → Contents

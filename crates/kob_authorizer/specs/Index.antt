@@ -59,8 +59,7 @@ pattern_place binding =
 
 -- among the keys it stands at its own, in the list of its pattern's kind
 abbrev pub key_place : Binding → Place
-key_place binding =
-    record { kind = kind_in_tree binding.pattern.kind; key = binding_key binding }
+key_place binding = record { kind = kind_in_tree binding.pattern.kind; key = binding_key binding }
 
 -- the serial of an entry on its way to its place
 abbrev pub addition : (Binding → Place) → ℕ × Binding → Addition

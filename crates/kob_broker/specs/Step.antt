@@ -80,8 +80,7 @@ module _ {P : Type 0} (m : Meaning P) where
   after_write s found (Some (AddTopic create)) = create_topics_after m s create
   after_write s found (Some (RemoveTopic delete)) = delete_topics_after s delete.name
   after_write s found (Some (AdvanceStart delete)) = delete_records_after m s found delete
-  after_write s found (Some GiveProducerId) =
-      record s { next_producer = s.next_producer + 1 }
+  after_write s found (Some GiveProducerId) = record s { next_producer = s.next_producer + 1 }
   after_write s found (Some (AddBindings create)) =
       record s { access = with_bindings create.drafts s.access }
   after_write s found (Some (RemoveBindings delete)) =

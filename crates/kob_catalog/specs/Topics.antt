@@ -51,8 +51,7 @@ module _ {P : Type 0} where
 
   -- the topics whose names are granted, in order
   abbrev pub listed_where : (List ℕ → Bool) → List (Topic P) → List (List ℕ × ℕ)
-  listed_where granted topics =
-      filter (λ (topic : List ℕ × ℕ). granted topic.0) (map listed topics)
+  listed_where granted topics = filter (λ (topic : List ℕ × ℕ). granted topic.0) (map listed topics)
 
 module _ {P Q : Type 0} where
   -- the topic with each partition mapped

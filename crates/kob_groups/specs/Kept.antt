@@ -23,8 +23,7 @@ OffsetsKept = IndexMap ℕ ℕ (BuildHasherDefault FoldHasher)
 
 -- the partition has an offset, or there is room for one more
 abbrev pub HasRoom : ℕ → OffsetsKept → Type 0
-HasRoom partition offsets =
-    IsSome (lookup (nat_eq partition) offsets.entries) ⊎ (0 < spare offsets)
+HasRoom partition offsets = IsSome (lookup (nat_eq partition) offsets.entries) ⊎ (0 < spare offsets)
 
 -- the topic of an entry
 abbrev pub topic_in : TopicEntry → CommitsKept → List ℕ

@@ -98,8 +98,7 @@ records_heard _ = []
 -- what may be done: the call that is due, and the first of the records that it brings are taken in
 abbrev pub May : Subscription → State → Move → Type 0
 May t s Restarted = Unit {0}
-May t s (Called call count) =
-    IsDue t s call.request × (count ≤ length (records_heard call.heard))
+May t s (Called call count) = IsDue t s call.request × (count ≤ length (records_heard call.heard))
 
 -- the next assigned partition
 abbrev pub next_turn : Subscription → ℕ → ℕ

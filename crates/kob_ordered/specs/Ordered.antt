@@ -30,5 +30,4 @@ name_at m place = unwrap_or (unwrap_or (slice_get m.names place) None) []
 
 -- the map with the value of a name that is there written
 abbrev pub with_value : {V : Type 0} → Ordered V → List ℕ → V → Ordered V
-with_value m name value =
-    record m { entries = set_value (same_text name) m.entries value }
+with_value m name value = record m { entries = set_value (same_text name) m.entries value }

@@ -85,8 +85,7 @@ records_at plan end place = records_of ((view_after plan.settings end.journal).l
 
 -- an outbox with the rows and the mark that are left
 abbrev pub outbox_in : OutboxEnd → outboxes.Contents
-outbox_in left =
-    record outboxes.empty { events = map stored_row left.rows.items; mark = left.mark }
+outbox_in left = record outboxes.empty { events = map stored_row left.rows.items; mark = left.mark }
 
 -- the events of an inbox that is left, in the order of their intake
 abbrev pub inbox_in : InboxEnd → inboxes.Contents

@@ -194,5 +194,4 @@ IsKeptByStore end = Unit {0}
 
 -- and each event that it noted has its receipt
 abbrev pub IsWhole : Done WorkerEnd → Type 0
-IsWhole one =
-    IsKeptByStore one.end × IsAnswered (length one.notes.events) one.notes.told
+IsWhole one = IsKeptByStore one.end × IsAnswered (length one.notes.events) one.notes.told

@@ -10,11 +10,7 @@ use Rattle.kob_script.specs.Words.{Word, words_of}
 -- the script so far, without opening bindings, which asks for these events
 abbrev pub script_so_far : Checking → List Event → Script
 script_so_far checking events = record {
-  settings = record {
-    supers = checking.supers.items;
-    opening = [];
-    everyone = checking.everyone;
-  };
+  settings = record { supers = checking.supers.items; opening = []; everyone = checking.everyone };
   events = events;
 }
 
