@@ -6,14 +6,12 @@ use Rattle.kob_names.specs.declared.kinds.Operation.{Operation}
 use Rattle.kob_names.specs.declared.kinds.Operation.TheVariants.{All}
 use Rattle.kob_names.specs.declared.kinds.Permission.{Permission}
 use Rattle.kob_names.specs.declared.kinds.Permission.TheVariants.{Allow, Deny}
-use Rattle.kob_words.specs.Operation.{operation_named}
-use Rattle.kob_words.specs.Pattern.{filter_pattern_named}
+use Rattle.kob_words.specs.Kinds.{operation_named, filter_pattern_named}
 use Rattle.kob_acl_cli.specs.declared.args.CliArgs.{CliArgs}
 use Rattle.kob_acl_cli.specs.declared.parts.Holders.{Holders}
 use Rattle.kob_acl_cli.specs.declared.parts.Parts.{Parts}
 use Rattle.std.specs.Option.{option_to_list}
-use Rattle.kob_names.specs.HostRules.{host_fault}
-use Rattle.kob_names.specs.PrincipalRules.{principal_fault}
+use Rattle.kob_names.specs.TextRules.{host_fault, principal_fault}
 use Rattle.kob_acl_cli.specs.declared.fault.CommandFault.{CommandFault}
 use Rattle.kob_acl_cli.specs.declared.fault.CommandFault.TheVariants.{BadName, Memory}
 

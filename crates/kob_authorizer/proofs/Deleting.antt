@@ -7,8 +7,7 @@ use Rattle.kob_names.proofs.SameBindings.{kind_decides}
 use Rattle.kob_names.specs.declared.filter.FilterPattern.{FilterPattern}
 use Rattle.kob_names.specs.declared.filter.FilterPattern.TheVariants as named
 use Rattle.kob_prefix_tree.specs.declared.kind.PatternKind.TheVariants as in_tree
-use Rattle.kob_authorizer.specs.Deletion.{listed_at, listed_by}
-use Rattle.kob_authorizer.specs.Index.{ArePatternsOf}
+use Rattle.kob_authorizer.specs.Index.{listed_at, listed_by, ArePatternsOf}
 use Rattle.kob_authorizer.specs.declared.patterns.Patterns.{Patterns}
 use Rattle.kob_authorizer.proofs.Entries.{none_below, at_least, found_at}
 

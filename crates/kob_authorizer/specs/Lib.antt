@@ -1,6 +1,5 @@
 pub mod Contents
 pub mod Creation
 pub mod Decide
-pub mod Deletion
 pub mod Index
 pub mod SuperUsers

@@ -4,10 +4,10 @@ ghost use Rattle.std.specs.Prelude.{◌≡◌, ◌↔◌, Contains, IsTrue, List
 ghost use Rattle.kob_authorizer.specs.Contents.{Contents, IsRising};
 ghost use Rattle.kob_authorizer.specs.Creation.{AreDistinct, AreInForce, OnlyAdds, addition};
 ghost use Rattle.kob_authorizer.specs.Decide.{decide, decide_by_bindings, Question};
-ghost use Rattle.kob_authorizer.specs.Deletion.{bindings_left};
+ghost use Rattle.kob_authorizer.specs.Index.{bindings_left};
 ghost use Rattle.kob_authorizer.specs.Decide.{IsTrueVerdict, NoneHits, NoneMatches};
 ghost use Rattle.kob_names.specs.Binding.{Binding};
-ghost use Rattle.kob_names.specs.Granted.{is_granted};
+ghost use Rattle.kob_names.specs.Access.{is_granted};
 ghost use Rattle.kob_names.specs.declared.filter.BindingFilter.{BindingFilter};
 ghost use Rattle.kob_names.specs.declared.kinds.Permission.TheVariants.{Allow, Deny};
 ghost use Rattle.kob_names.specs.declared.verdict.Verdict.{Verdict};

@@ -5,8 +5,7 @@ ghost use Rattle.std.specs.List.{fold};
 ghost use Rattle.std.specs.Option.{option_map};
 ghost use Rattle.kob_prefix_tree.specs.WalkLeft.{left_of};
 ghost use Rattle.kob_authorizer.specs.Index.{no_patterns, patterns_of, tree_of};
-ghost use Rattle.kob_authorizer.specs.Index.{with_entry, with_pattern};
-ghost use Rattle.kob_authorizer.specs.Deletion.{listed_by};
+ghost use Rattle.kob_authorizer.specs.Index.{with_entry, with_pattern, listed_by};
 ghost use Rattle.kob_authorizer.specs.Index.{serials_beside, without_removal};
 
 use crate::key::kind_in_tree;

@@ -4,8 +4,8 @@ use Rattle.std.specs.List.{flat_map}
 use Rattle.kob_authorizer.specs.Creation.{addition, create_fault}
 use Rattle.kob_authorizer.specs.declared.fault.CreateFault.{CreateFault}
 use Rattle.kob_authorizer.specs.declared.fault.CreateFault.TheVariants as limits
-use Rattle.kob_names.specs.BindingRules.{is_bad_cluster}
-use Rattle.kob_names.specs.Limits.{name_limit}
+use Rattle.kob_names.specs.Binding.{is_bad_cluster}
+use Rattle.kob_names.specs.TextRules.{name_limit}
 pub use Rattle.kob_names.specs.declared.draft.Draft.{Draft}
 use Rattle.kob_rights.specs.declared.on_acls.CreateAcls.{CreateAcls}
 use Rattle.kob_rights.specs.declared.reason.Reason.TheVariants as reasons

@@ -1,7 +1,7 @@
 -- What a prepared change does, and when there is room for it.
 use Rattle.std.specs.Prelude.{◌≡◌, ◌<◌, ◌≤◌, ◌+◌, ◌++◌, true, [], ◌∷◌}
 use Rattle.kob_authorizer.specs.Creation.{CanCreate, with_creation}
-use Rattle.kob_authorizer.specs.Deletion.{CanDelete, without_taken}
+use Rattle.kob_authorizer.specs.Index.{CanDelete, without_taken}
 use Rattle.kob_catalog.specs.Kept.{CanAdd, catalog_log, kept_of, topics_of}
 use Rattle.kob_groups.specs.Groups as groups
 use Rattle.kob_groups.specs.Kept as groups_kept

@@ -5,7 +5,7 @@ use Rattle.std.specs.Option.{option_map}
 use Rattle.std.specs.List.{list_any}
 use Rattle.kob_names.specs.declared.kinds.Operation.TheVariants.{Describe}
 pub use Rattle.kob_names.specs.declared.verdict.Verdict.{Verdict}
-pub use Rattle.kob_names.specs.Granted.{is_granted}
+pub use Rattle.kob_names.specs.Access.{is_granted}
 use Rattle.kob_authorizer.specs.Decide.{decide, Question, question_of}
 pub use Rattle.kob_rights.specs.Table.{Check, on_cluster, on_group, on_topic, denial_code, rights}
 pub use Rattle.kob_rights.specs.declared.reply.Reply.TheVariants.{Denied, Done, Refused}

@@ -2,7 +2,7 @@
 use Rattle.std.specs.Prelude.{ℕ, Bool, not, nat_lt, List, [], ◌∷◌, ◌++◌, Option, is_some, if◌then◌else◌}
 use Rattle.std.specs.List.{filter}
 use Rattle.kob_groups.specs.Groups.{Groups, committed_at, has_group, is_full_for, place_of, with_commit}
-use Rattle.kob_names.specs.GroupRules.{group_fault}
+use Rattle.kob_names.specs.TextRules.{group_fault}
 use Rattle.kob_partition.specs.Meaning.{offset_limit}
 use Rattle.kob_rights.specs.declared.on_groups.DeleteGroups.{DeleteGroups}
 use Rattle.kob_rights.specs.declared.on_groups.OffsetCommit.{OffsetCommit}

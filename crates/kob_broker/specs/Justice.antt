@@ -1,7 +1,7 @@
 -- The bindings in force at an event's place, and what the replies of a run say in their terms.
 use Rattle.std.specs.Prelude.{◌≡◌, ◌↔◌, ◌⊎◌, ◌+◌, ℕ, Bool, true, false, IsTrue, List, [], ◌∷◌, Option, Some, None, length, map, slice_get, take}
 use Rattle.std.specs.List.{AllByRecursion, AllZip}
-use Rattle.kob_authorizer.specs.Deletion.{without_taken}
+use Rattle.kob_authorizer.specs.Index.{without_taken}
 use Rattle.kob_authorizer.specs.Decide.{IsTrueVerdict}
 use Rattle.kob_groups.specs.Groups.{group_names}
 use Rattle.kob_rights.specs.Requests.{AddBindings, Append, GiveProducerId, RemoveBindings, Write, write_of}

@@ -1,6 +1,6 @@
 -- What a broker does: one event is one step. The tables tell what each kind of request does.
 use Rattle.std.specs.Prelude.{◌≡◌, ◌+◌, ℕ, Bool, List, [], ◌∷◌, Option, Some, None}
-use Rattle.kob_authorizer.specs.Deletion.{bindings_taken, without_taken}
+use Rattle.kob_authorizer.specs.Index.{bindings_taken, without_taken}
 use Rattle.kob_groups.specs.Groups as groups
 use Rattle.kob_partition.specs.Retained.{Plain, plain_meaning, retained_meaning, retained_of}
 use Rattle.kob_rights.specs.Requests.{AddBindings, AddTopic, AdvanceStart, Append, CommitOffset, GiveProducerId, RemoveBindings, RemoveGroup, RemoveTopic, Write, partition_named, write_of}

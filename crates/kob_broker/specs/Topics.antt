@@ -3,7 +3,7 @@ use Rattle.std.specs.Prelude.{ℕ, Bool, not, List, [], ◌∷◌, ◌++◌, Opt
 use Rattle.kob_catalog.specs.Kept.{is_bad_count, new_topic}
 use Rattle.kob_catalog.specs.Topics.{topic_limit}
 use Rattle.kob_groups.specs.Groups as groups
-use Rattle.kob_names.specs.TopicRules.{topic_fault}
+use Rattle.kob_names.specs.TextRules.{topic_fault}
 use Rattle.kob_rights.specs.declared.on_topics.CreateTopics.{CreateTopics}
 use Rattle.kob_rights.specs.declared.on_topics.DeleteTopics.{DeleteTopics}
 use Rattle.kob_rights.specs.declared.reason.Reason.TheVariants as reasons

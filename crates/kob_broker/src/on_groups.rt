@@ -6,7 +6,7 @@ ghost use Rattle.kob_broker.specs.Change.{MakesFor, state_of, Makes};
 ghost use Rattle.kob_broker.specs.Step.{refusal, effect};
 ghost use Rattle.kob_broker.specs.Denial.{describes_group};
 ghost use Rattle.kob_broker.specs.Groups.{groups_shown};
-ghost use Rattle.kob_names.specs.GroupRules.{group_fault};
+ghost use Rattle.kob_names.specs.TextRules.{group_fault};
 ghost use Rattle.kob_partition.specs.Retained.{retained_meaning};
 ghost use Rattle.kob_rights.specs.declared.request.Request.TheVariants as requests;
 

@@ -5,8 +5,7 @@ use Rattle.std.proofs.lemmas.Bool.Decides.{Decides-and, Decides-like}
 use Rattle.std.proofs.lemmas.Slice.Eq.{bytes_eq-Decides}
 use denote.Enum.Bare.{same_true, true_same}
 use Rattle.kob_names.specs.Same.{same_operation, same_pattern_kind, same_permission, same_resource}
-use Rattle.kob_names.specs.SameBinding.{same_binding, same_pattern}
-use Rattle.kob_names.specs.Binding.{Binding}
+use Rattle.kob_names.specs.Binding.{same_binding, same_pattern, Binding}
 use Rattle.kob_names.specs.declared.kinds.Operation.{Operation}
 use Rattle.kob_names.specs.declared.kinds.PatternKind.{PatternKind}
 use Rattle.kob_names.specs.declared.kinds.Permission.{Permission}

@@ -2,9 +2,8 @@
 
 ghost use Rattle.std.specs.Prelude.{◌≡◌, ◌↔◌, IsTrue, None};
 ghost use Rattle.kob_names.specs.Access.{covers};
-ghost use Rattle.kob_names.specs.BindingRules.{draft_fault};
-ghost use Rattle.kob_names.specs.Checked.{OkUnlessFault};
-ghost use Rattle.kob_names.specs.SameBinding.{same_binding};
+ghost use Rattle.kob_names.specs.Binding.{draft_fault, same_binding};
+ghost use Rattle.kob_names.specs.TextRules.{OkUnlessFault};
 
 use crate::draft::{BindingFault, Draft};
 use crate::host::Host;
@@ -22,7 +21,7 @@ pub struct Binding {
 
 impl Model for Binding {
     ghost use Rattle.std.specs.Prelude.{◌≡◌, None};
-    ghost use Rattle.kob_names.specs.BindingRules.{draft_fault};
+    ghost use Rattle.kob_names.specs.Binding.{draft_fault};
     ghost use Rattle.kob_names.specs.declared.draft.Draft.{Draft};
 
     ghost Value = { Draft };

@@ -1,8 +1,7 @@
 //! Drafts of bindings, and which of them are valid.
 
 ghost use Rattle.std.specs.Prelude.{◌≡◌, ◌↔◌, IsTrue};
-ghost use Rattle.kob_names.specs.BindingRules.{draft_fault};
-ghost use Rattle.kob_names.specs.SameBinding.{same_binding};
+ghost use Rattle.kob_names.specs.Binding.{draft_fault, same_binding};
 
 use crate::host::Host;
 use crate::kinds::{Operation, Permission, ResourceKind};

@@ -1,8 +1,7 @@
 //! Names of consumer groups.
 
 ghost use Rattle.std.specs.Prelude.{◌≡◌, IfOk, None};
-ghost use Rattle.kob_names.specs.Checked.{OkUnlessFault};
-ghost use Rattle.kob_names.specs.GroupRules.{group_fault};
+ghost use Rattle.kob_names.specs.TextRules.{OkUnlessFault, group_fault};
 
 use crate::checked::checked_copy;
 use crate::limits::NAME_LIMIT;
@@ -20,7 +19,7 @@ pub struct GroupName {
 
 impl Model for GroupName {
     ghost use Rattle.std.specs.Prelude.{◌≡◌, List, ℕ, None};
-    ghost use Rattle.kob_names.specs.GroupRules.{group_fault};
+    ghost use Rattle.kob_names.specs.TextRules.{group_fault};
 
     ghost Value = { List ℕ };
 

@@ -1,8 +1,7 @@
 //! Hosts, compared as text.
 
 ghost use Rattle.std.specs.Prelude.{◌≡◌, IfOk, None};
-ghost use Rattle.kob_names.specs.Checked.{OkUnlessFault};
-ghost use Rattle.kob_names.specs.HostRules.{host_fault};
+ghost use Rattle.kob_names.specs.TextRules.{OkUnlessFault, host_fault};
 
 use crate::checked::checked_copy;
 use crate::limits::NAME_LIMIT;
@@ -20,7 +19,7 @@ pub struct Host {
 
 impl Model for Host {
     ghost use Rattle.std.specs.Prelude.{◌≡◌, List, ℕ, None};
-    ghost use Rattle.kob_names.specs.HostRules.{host_fault};
+    ghost use Rattle.kob_names.specs.TextRules.{host_fault};
 
     ghost Value = { List ℕ };
 

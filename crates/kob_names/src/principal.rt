@@ -1,8 +1,7 @@
 //! Principals: who sends a request, and whom a binding covers.
 
 ghost use Rattle.std.specs.Prelude.{◌≡◌, IfOk, None};
-ghost use Rattle.kob_names.specs.Checked.{OkUnlessFault};
-ghost use Rattle.kob_names.specs.PrincipalRules.{principal_fault, parts_fault};
+ghost use Rattle.kob_names.specs.TextRules.{OkUnlessFault, principal_fault, parts_fault};
 
 use crate::checked::checked_copy;
 use crate::limits::NAME_LIMIT;
@@ -20,7 +19,7 @@ pub struct Principal {
 
 impl Model for Principal {
     ghost use Rattle.std.specs.Prelude.{◌≡◌, List, ℕ, None};
-    ghost use Rattle.kob_names.specs.PrincipalRules.{principal_fault};
+    ghost use Rattle.kob_names.specs.TextRules.{principal_fault};
 
     ghost Value = { List ℕ };
 

@@ -1,7 +1,7 @@
 //! Texts of a few bytes, stored inline.
 
 ghost use Rattle.std.specs.Prelude.{◌≡◌, ◌≤◌, SomeIff, length};
-ghost use Rattle.kob_names.specs.Limits.{short_text_limit};
+ghost use Rattle.kob_names.specs.TextRules.{short_text_limit};
 
 use crate::limits::SHORT_TEXT_LIMIT;
 use std::marker::Model;
@@ -16,7 +16,7 @@ pub(crate) struct ShortText {
 
 impl Model for ShortText {
     ghost use Rattle.std.specs.Prelude.{List, ℕ, ◌≤◌, take, IsUtf8};
-    ghost use Rattle.kob_names.specs.Limits.{short_text_limit};
+    ghost use Rattle.kob_names.specs.TextRules.{short_text_limit};
 
     ghost Value = { List ℕ };
 

@@ -6,7 +6,7 @@ ghost use Rattle.std.specs.Cmp.Lexicographic.{nat_list_eq_equiv};
 ghost use Rattle.std.specs.Hash as fed;
 ghost use Rattle.std.specs.Str.{bytes_eq};
 ghost use Rattle.std.proofs.Common.{rules};
-ghost use Rattle.kob_names.specs.Limits.{short_text_limit};
+ghost use Rattle.kob_names.specs.TextRules.{short_text_limit};
 
 use crate::plain_value::PlainValue;
 use crate::short_text::ShortText;

@@ -2,8 +2,7 @@
 
 ghost use Rattle.std.specs.Prelude.{◌≡◌, IfOk, None, not};
 ghost use Rattle.std.specs.List.{position};
-ghost use Rattle.kob_names.specs.Checked.{OkUnlessFault};
-ghost use Rattle.kob_names.specs.TopicRules.{topic_fault, is_topic_byte};
+ghost use Rattle.kob_names.specs.TextRules.{OkUnlessFault, topic_fault, is_topic_byte};
 
 use crate::checked::checked_copy;
 use crate::limits::TOPIC_NAME_LIMIT;
@@ -21,7 +20,7 @@ pub struct TopicName {
 
 impl Model for TopicName {
     ghost use Rattle.std.specs.Prelude.{◌≡◌, List, ℕ, None};
-    ghost use Rattle.kob_names.specs.TopicRules.{topic_fault};
+    ghost use Rattle.kob_names.specs.TextRules.{topic_fault};
 
     ghost Value = { List ℕ };
 

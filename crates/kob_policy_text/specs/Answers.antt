@@ -10,15 +10,14 @@ use Rattle.kob_names.specs.declared.kinds.Permission.TheVariants.{Allow}
 use Rattle.kob_names.specs.declared.kinds.ResourceKind.TheVariants.{Topic}
 use Rattle.kob_names.specs.declared.verdict.Verdict.{Verdict}
 use Rattle.kob_names.specs.declared.verdict.Verdict.TheVariants as verdict
-use Rattle.kob_names.specs.Granted.{is_granted}
+use Rattle.kob_names.specs.Access.{is_granted}
 use Rattle.kob_names.specs.Same.{same_permission}
 use Rattle.kob_rights.specs.Table.{Check, rights}
 use Rattle.kob_rights.specs.declared.event.Event.{Event}
 use Rattle.kob_script.specs.Printed.{verdict_text}
-use Rattle.kob_words.specs.Operation.{operation_name}
+use Rattle.kob_words.specs.Kinds.{operation_name, resource_name}
 use Rattle.kob_words.specs.PrintedBinding.{binding_text}
 use Rattle.kob_words.specs.PrintedText.{bytes_text}
-use Rattle.kob_words.specs.Resource.{resource_name}
 use Rattle.kob_policy_text.specs.AtHand.{AtHand, asked_at_hand, others_at_hand, with_bindings}
 use Rattle.kob_policy_text.specs.declared.item.LeftOut.{LeftOut}
 use Rattle.kob_policy_text.specs.declared.item.LeftOut.TheVariants as left_out

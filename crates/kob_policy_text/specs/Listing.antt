@@ -2,7 +2,7 @@
 use Rattle.std.specs.Prelude.{Bool, false, not, ℕ, List, Option, Some, None, Result, Ok, Err, codes, is_none, if◌then◌else◌, ◌+◌, drop, take, length, is_some, ok_or, ◌||◌, nat_eq}
 use Rattle.std.specs.List.{position, before_first, starts_with}
 use Rattle.std.specs.Str.{bytes_eq}
-use Rattle.kob_names.specs.PrincipalRules.{is_colon}
+use Rattle.kob_names.specs.TextRules.{is_colon}
 use Rattle.kob_script.specs.declared.fault.FaultKind.{FaultKind}
 use Rattle.kob_script.specs.Reading.{◌>>=◌}
 use Rattle.kob_script.specs.Words.{text_in, principal_of, host_of}
@@ -19,10 +19,7 @@ use Rattle.kob_names.specs.declared.kinds.Permission.{Permission}
 use Rattle.kob_names.specs.declared.kinds.Permission.TheVariants.{Allow, Deny}
 use Rattle.kob_names.specs.declared.kinds.ResourceKind.{ResourceKind}
 use Rattle.kob_names.specs.declared.kinds.ResourceKind.TheVariants.{TransactionalId}
-use Rattle.kob_words.specs.Operation.{operation_named}
-use Rattle.kob_words.specs.Pattern.{pattern_named}
-use Rattle.kob_words.specs.Permission.{permission_named}
-use Rattle.kob_words.specs.Resource.{resource_named}
+use Rattle.kob_words.specs.Kinds.{operation_named, resource_named, pattern_named, permission_named}
 use Rattle.kob_policy_text.specs.declared.item.Grant.{Grant}
 use Rattle.kob_policy_text.specs.declared.item.Item.{Item}
 use Rattle.kob_policy_text.specs.declared.item.Target.{Target}

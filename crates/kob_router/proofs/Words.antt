@@ -1,5 +1,5 @@
 -- The names that the lemmas cite, passed on from one place.
-pub use Rattle.kob_names.specs.TopicRules.{is_topic_byte, topic_fault}
+pub use Rattle.kob_names.specs.TextRules.{is_topic_byte, topic_fault}
 pub use Rattle.kob_outbox.specs.Contents.{Contents, Event, stored_event, stored_row}
 pub use Rattle.kob_outbox.specs.declared.event.OutboxEvent.{OutboxEvent}
 pub use Rattle.kob_producers.specs.Judge.{next_sequence}

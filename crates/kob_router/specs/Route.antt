@@ -7,7 +7,7 @@ use Rattle.kob_names.specs.Same.{same_text}
 use Rattle.kob_router.specs.declared.placement.PlacedColumn.{PlacedColumn}
 use Rattle.kob_router.specs.declared.placement.Placed.{Placed}
 use Rattle.std.specs.Option.{is_some}
-use Rattle.kob_names.specs.TopicRules.{topic_fault}
+use Rattle.kob_names.specs.TextRules.{topic_fault}
 use Rattle.kob_names.specs.declared.record.Header.{Header}
 use Rattle.kob_names.specs.declared.record.Record.{Record}
 use Rattle.kob_outbox.specs.Contents.{Event}

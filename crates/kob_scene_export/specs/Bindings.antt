@@ -10,7 +10,7 @@ use Rattle.kob_names.specs.declared.kinds.Permission.TheVariants.{Allow, Deny}
 use Rattle.kob_names.specs.declared.kinds.ResourceKind.{ResourceKind}
 use Rattle.kob_names.specs.declared.kinds.ResourceKind.TheVariants.{Topic, Group, Cluster, TransactionalId}
 use Rattle.kob_names.specs.declared.pattern.Pattern.{Pattern}
-use Rattle.kob_words.specs.Operation.{operation_name}
+use Rattle.kob_words.specs.Kinds.{operation_name}
 use Rattle.kob_words.specs.PrintedText.{bytes_text}
 use Rattle.kob_scene_export.specs.Plain.{comment_unless, is_plain}
 

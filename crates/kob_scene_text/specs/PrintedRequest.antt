@@ -6,10 +6,7 @@ use Rattle.kob_names.specs.declared.filter.FilterPattern.{FilterPattern}
 use Rattle.kob_names.specs.declared.kinds.Operation.{Operation}
 use Rattle.kob_names.specs.declared.kinds.Permission.{Permission}
 use Rattle.kob_names.specs.declared.kinds.ResourceKind.{ResourceKind}
-use Rattle.kob_words.specs.Operation.{operation_name}
-use Rattle.kob_words.specs.Pattern.{pattern_name}
-use Rattle.kob_words.specs.Permission.{permission_name}
-use Rattle.kob_words.specs.Resource.{resource_name}
+use Rattle.kob_words.specs.Kinds.{operation_name, resource_name, pattern_name, permission_name}
 use Rattle.kob_scene_text.specs.PrintedRows.{spaced, counted}
 use Rattle.std.specs.Fmt.{decimal}
 use Rattle.kob_names.specs.declared.batch.Idem.{Idem}

@@ -6,8 +6,7 @@ use Rattle.std.specs.Prelude.{◌≡◌, ◌+◌, ◌*◌, ◌==◌, ◌&&◌, �
 use Rattle.kob_script.specs.Reading.{◌>>=◌, each, BadEscape, FaultKind, BadText, BadPrincipal, BadHost, BadLine, BadNumber}
 use Rattle.std.specs.Str.Parse.{digits_value}
 use Rattle.std.specs.Str.{is_utf8, all_ascii_digits}
-use Rattle.kob_names.specs.HostRules.{host_fault}
-use Rattle.kob_names.specs.PrincipalRules.{principal_fault}
+use Rattle.kob_names.specs.TextRules.{host_fault, principal_fault}
 use Rattle.kob_names.specs.declared.batch.Idem.{Idem}
 use Rattle.kob_names.specs.declared.record.Record.{Record}
 use Rattle.kob_rights.specs.declared.on_partitions.Before.{Before}

@@ -17,10 +17,7 @@ use Rattle.kob_names.specs.declared.kinds.Permission.TheVariants.{Allow, Deny}
 use Rattle.kob_names.specs.declared.kinds.ResourceKind.{ResourceKind}
 use Rattle.kob_names.specs.declared.kinds.ResourceKind.TheVariants.{Topic, Group, Cluster, TransactionalId}
 use Rattle.kob_words.specs.PrintedBinding.{grant_text, target_text, binding_text}
-use Rattle.kob_words.specs.Operation.{operation_name}
-use Rattle.kob_words.specs.Pattern.{pattern_name}
-use Rattle.kob_words.specs.Permission.{permission_name}
-use Rattle.kob_words.specs.Resource.{resource_name}
+use Rattle.kob_words.specs.Kinds.{operation_name, resource_name, pattern_name, permission_name}
 use Rattle.kob_words.specs.PrintedText.{bytes_text}
 
 -- a literal text passes the test by computing

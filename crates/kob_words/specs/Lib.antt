@@ -1,6 +1,3 @@
-pub mod Operation
-pub mod Pattern
-pub mod Permission
+pub mod Kinds
 pub mod PrintedBinding
 pub mod PrintedText
-pub mod Resource

@@ -2,11 +2,8 @@
 use Rattle.std.specs.Prelude.{ℕ, List, ◌++◌, codes}
 use Rattle.std.specs.Fmt.{decimal}
 use Rattle.kob_names.specs.Binding.{Binding}
-use Rattle.kob_words.specs.Operation.{operation_name}
-use Rattle.kob_words.specs.Pattern.{pattern_name}
-use Rattle.kob_words.specs.Permission.{permission_name}
+use Rattle.kob_words.specs.Kinds.{operation_name, resource_name, pattern_name, permission_name}
 use Rattle.kob_words.specs.PrintedText.{bytes_text}
-use Rattle.kob_words.specs.Resource.{resource_name}
 
 -- PERMISSION PRINCIPAL HOST OPERATION
 abbrev pub grant_text : Binding → List ℕ

@@ -2,7 +2,7 @@
 
 ghost use Rattle.std.specs.Prelude.{◌≡◌};
 ghost use Rattle.std.specs.Option.{option_copied};
-ghost use Rattle.kob_words.specs.Operation.{operation_name, operation_among, operation_named};
+ghost use Rattle.kob_words.specs.Kinds.{first_named, operation_name, operation_named};
 
 use kob_names::Operation;
 
@@ -46,7 +46,7 @@ pub fn operation_named(name: &[u8]) -> Option<Operation>
 }
 
 fn operation_among<'a>(operations: &'a [Operation], name: &[u8]) -> Option<&'a Operation>
-    ensures { option_copied result ≡ operation_among operations.now name.now }
+    ensures { option_copied result ≡ first_named operation_name operations.now name.now }
 {
     operations.iter().find(|operation| name.eq_ignore_ascii_case(operation_name(
         **operation,

@@ -2,7 +2,7 @@
 
 ghost use Rattle.std.specs.Prelude.{◌≡◌};
 ghost use Rattle.std.specs.Option.{option_copied};
-ghost use Rattle.kob_words.specs.Resource.{resource_name, resource_among, resource_named};
+ghost use Rattle.kob_words.specs.Kinds.{first_named, resource_name, resource_named};
 
 use kob_names::ResourceKind;
 
@@ -32,7 +32,7 @@ pub fn resource_named(name: &[u8]) -> Option<ResourceKind>
 }
 
 fn resource_among<'a>(resources: &'a [ResourceKind], name: &[u8]) -> Option<&'a ResourceKind>
-    ensures { option_copied result ≡ resource_among resources.now name.now }
+    ensures { option_copied result ≡ first_named resource_name resources.now name.now }
 {
     resources.iter().find(|resource| name.eq_ignore_ascii_case(resource_name(
         **resource,
