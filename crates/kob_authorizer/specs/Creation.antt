@@ -15,8 +15,7 @@ binding_limit = 100000
 abbrev pub serial_limit : ℕ
 serial_limit = 18446744073709551615
 
--- the bindings in force and the next serial after bindings were added, and the serials that were
--- answered
+-- the bindings in force and the next serial after an addition, and the serials returned
 pub record Added : Type 0 where
   pub entries : List (ℕ × Binding)
   pub next : ℕ
@@ -33,8 +32,7 @@ serial_of entries binding =
     option_map (λ (entry : ℕ × Binding). entry.0)
     (find (λ (entry : ℕ × Binding). same_binding entry.1 binding) entries)
 
--- a binding that is in force already gets its serial again; another is put last under the next
--- serial
+-- a binding in force gets its serial again; another is put last under the next serial
 abbrev pub with_binding : Option ℕ → Added → Binding → Added
 with_binding (Some serial) so_far binding =
     record so_far { serials = so_far.serials ++ serial ∷ [] }
@@ -61,8 +59,7 @@ AreInForce entries (binding ∷ bindings) (serial ∷ serials) =
 AreInForce entries [] (serial ∷ serials) = ⊥
 AreInForce entries (binding ∷ bindings) [] = ⊥
 
--- what was in force stays as it was, and the entries put last have serials that were not given
--- before
+-- what was in force stays, and the entries put last have serials that were not given before
 pub record OnlyAdds (entries : List (ℕ × Binding)) (next : ℕ) (after : Added) : Type 0 where
   pub fresh : List (ℕ × Binding)
   pub kept : after.entries ≡ entries ++ fresh
@@ -140,8 +137,7 @@ new_bindings entries bindings = fold (with_new entries) [] bindings
 abbrev pub serials_in : List (ℕ × Binding) → List Binding → List ℕ
 serials_in entries bindings = filter_map (serial_of entries) bindings
 
--- the new bindings get the serials that come next, and each binding the serial under which it is in
--- force then
+-- new bindings get the next serials, and each binding that under which it is in force then
 abbrev pub creation : List (ℕ × Binding) → ℕ → List Binding → Creation
 creation entries next bindings =
     let fresh : List (ℕ × Binding) = enumerate_from next (new_bindings entries bindings) in

@@ -54,8 +54,7 @@ first_serial (entry ∷ rest) = Some entry.0
 abbrev pub is_super : List (List ℕ) → List ℕ → Bool
 is_super supers principal = list_any (same_text principal) supers
 
--- a super user is granted everything; else a deny wins over every allow, and without either the
--- answer is no
+-- a super user is granted everything; else a deny wins over every allow; without either, no
 abbrev pub verdict_of : Bool → Option ℕ → Option ℕ → Verdict
 verdict_of true deny allow = Super
 verdict_of false (Some serial) allow = DeniedBy serial

@@ -32,8 +32,7 @@ kind_byte Group = 1
 kind_byte Cluster = 2
 kind_byte TransactionalId = 3
 
--- the kind of resource, and principal, host and name, with a byte between them that stands in no
--- text
+-- kind of resource, principal, host and name, with a byte between them that stands in no text
 unfoldable pub binding_key : Binding → List ℕ
 binding_key binding =
     kind_byte binding.resource
@@ -155,8 +154,7 @@ abbrev pub entries_on : ResourceKind → List (ℕ × Binding) → List (ℕ × 
 entries_on resource entries =
     filter (λ (entry : ℕ × Binding). same_resource entry.1.resource resource) entries
 
--- the trees hold exactly the serials of the entries, each by its pattern in the tree of its kind of
--- resource
+-- the trees hold exactly the serials of the entries, by pattern, each in that of its resource
 abbrev pub ArePatternsOf : Patterns → List (ℕ × Binding) → Type 0
 ArePatternsOf patterns entries =
     (resource : ResourceKind)
@@ -201,8 +199,7 @@ matching_serials held_at name =
 abbrev pub behind : List ℕ → (List ℕ → Held) → List ℕ → Held
 behind text held_at key = held_at (text ++ 255 ∷ key)
 
--- among the keys of one principal: the serials from the host that is asked from, and those from
--- every host
+-- among the keys of one principal: the serials from the host that asks and from every host
 abbrev pub serials_from : (List ℕ → Held) → Question → List ℕ
 serials_from held_at question =
     matching_serials (behind question.host held_at) question.name

@@ -4,8 +4,7 @@ use Rattle.std.specs.Borrow.{Fml, Lends, LendsIf, MutBor, RattleType}
 use Rattle.kob_ordered.specs.Ordered.{Ordered, name_at, with_value}
 use Rattle.kob_ordered.specs.contracts.ordered_map.OrderedMap.{the_row}
 
--- once the borrow r ends, the name has the value that was left behind r, and at `None` the map
--- stays as it is
+-- when the borrow r ends, the name has the value left behind r; at `None` the map stays as it is
 abbrev pub lends_value : (V : RattleType) → MutBor (Ordered V.Denot) → List ℕ
     → Option (MutBor V.Denot) → Fml
 lends_value V m name r = LendsIf (the_row V) V m r (with_value m.now name) m.now

@@ -1,5 +1,4 @@
--- The slots of a map, and the places of its entries in order of their names. No public clause cites
--- this module.
+-- The slots of a map, and the places of its entries in order of their names. Not cited publicly.
 use Rattle.std.specs.Prelude.{◌≡◌, ℕ, ◌<◌, ◌≤◌, Bool, true, false, List, [], ◌∷◌, Option, None, Some, filter, length, map, slice_get, take}
 use Rattle.std.specs.Cmp.Lexicographic.{slice_cmp}
 use Rattle.std.specs.Ordering.{nat_cmp}

@@ -18,8 +18,7 @@ use Rattle.kob_pipeline.specs.declared.end.WorkerEnd.TheVariants.{Inbox, Outbox}
 use Rattle.kob_outbox.specs.Contents as outboxes
 use Rattle.kob_inbox.specs.Contents as inboxes
 
--- the place in the list of what workers left, of the k-th consumer, k from 0; the k-th service has
--- place k
+-- where the k-th consumer stands among the workers, k from 0; the k-th service has place k
 abbrev pub consumer_place : Plan → ℕ → ℕ
 consumer_place plan k = length plan.services.items + k
 

@@ -7,8 +7,7 @@ use Rattle.kob_outbox.specs.declared.change.Change.{Change}
 use Rattle.kob_outbox.specs.declared.event.OutboxEvent.{OutboxEvent}
 use Rattle.kob_pipeline.specs.declared.plan.ServiceStep.TheVariants as steps
 
--- the topics of each service have 1 to 1,000 partitions, and there are at most 100,000 opening
--- bindings
+-- topics of services have 1 to 1,000 partitions; there are at most 100,000 opening bindings
 abbrev pub IsRunnable : Plan → Type 0
 IsRunnable plan =
     All (λ s. (1 ≤ s.target.partitions) × (s.target.partitions ≤ 1000)) plan.services.items
@@ -27,8 +26,7 @@ entries_planned plan =
     + 2 * sum_by (λ s. vec_len s.steps) plan.services.items
     + 2 * sum_by (λ s. vec_len s.steps) plan.consumers.items
 
--- an outbox accepts the event after events with these ids: its texts fit, its id is a new one, and
--- a number is left
+-- an outbox accepts the event after these ids: its texts fit, its id is new, a number is left
 abbrev pub is_accepted : List (List ℕ) → Change → OutboxEvent → Bool
 is_accepted ids change event =
     is_none (first_bad change event)

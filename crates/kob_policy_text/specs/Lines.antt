@@ -10,9 +10,8 @@ use Rattle.kob_rights.specs.declared.request.Request.TheVariants.{CreateAcls}
 use Rattle.kob_script.specs.CommandLines.{events_of}
 use Rattle.kob_script.specs.declared.fault.FaultKind.{FaultKind}
 use Rattle.kob_script.specs.declared.fault.FaultKind.TheVariants.{BadLine, BadWord, Usage}
-use Rattle.kob_script.specs.Reading.{◌>>=◌, each}
+use Rattle.kob_script.specs.Words.{◌>>=◌, each, Word, words_of}
 use Rattle.kob_script.specs.Script.{IsAnswerToLine, everyone_of, is_setting, is_super, super_of}
-use Rattle.kob_script.specs.Words.{Word, words_of}
 use Rattle.kob_policy_text.specs.declared.item.Item.{Item}
 use Rattle.kob_policy_text.specs.declared.item.Item.TheVariants.{Super, Everyone, Rule, LeftOut}
 use Rattle.kob_policy_text.specs.declared.item.LeftOut as kinds

@@ -4,8 +4,7 @@ use Rattle.std.specs.List.{position, before_first, starts_with}
 use Rattle.std.specs.Str.{bytes_eq}
 use Rattle.kob_names.specs.TextRules.{is_colon}
 use Rattle.kob_script.specs.declared.fault.FaultKind.{FaultKind}
-use Rattle.kob_script.specs.Reading.{◌>>=◌}
-use Rattle.kob_script.specs.Words.{text_in, principal_of, host_of}
+use Rattle.kob_script.specs.Words.{◌>>=◌, text_in, principal_of, host_of}
 use Rattle.std.specs.Char.{is_whitespace}
 use Rattle.std.specs.Option.{option_map}
 use Rattle.bstr.specs.Trim.{trim_start_by, trim_end_by}

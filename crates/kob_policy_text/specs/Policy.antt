@@ -7,7 +7,7 @@ use Rattle.kob_script.specs.declared.fault.FaultKind.TheVariants.{BadName, NoRes
 use Rattle.kob_script.specs.declared.fault.Fault.{Fault}
 use Rattle.kob_script.specs.declared.fault.ScriptError.{ScriptError}
 use Rattle.kob_script.specs.declared.fault.LineError.{LineError}
-use Rattle.kob_script.specs.Reading.{◌>>=◌}
+use Rattle.kob_script.specs.Words.{◌>>=◌}
 use Rattle.kob_script.specs.Script.{lines_in}
 use Rattle.kob_policy_text.specs.declared.item.Grant.{Grant}
 use Rattle.kob_policy_text.specs.declared.item.Item.{Item}

@@ -9,9 +9,8 @@ use Rattle.kob_script.specs.CommandLines.{events_of}
 use Rattle.kob_script.specs.declared.fault.FaultKind.{FaultKind}
 use Rattle.kob_script.specs.declared.fault.FaultKind.TheVariants.{BadLine, BadWord}
 use Rattle.kob_script.specs.declared.fault.Fault.{Fault}
-use Rattle.kob_script.specs.Reading.{◌>>=◌}
+use Rattle.kob_script.specs.Words.{◌>>=◌, text_of, principal_of, host_of, Word, words_of}
 use Rattle.kob_script.specs.Script.{lines_in}
-use Rattle.kob_script.specs.Words.{text_of, principal_of, host_of, Word, words_of}
 use Rattle.kob_words.specs.Kinds.{operation_named, resource_named}
 use Rattle.kob_policy_text.specs.declared.question.Asker.{Asker}
 use Rattle.kob_policy_text.specs.declared.question.Question.{Question}

@@ -11,8 +11,7 @@ ghost use Rattle.kob_policy_text.specs.Lines.{SaysByWords, any_left_out, any_oth
 ghost use Rattle.kob_policy_text.specs.Lines.{only_event, rule_items, words_items};
 ghost use Rattle.kob_policy_text.specs.Outcomes.{MayGive};
 ghost use Rattle.kob_policy_text.specs.Listing.{trimmed};
-ghost use Rattle.kob_script.specs.Reading.{Gives, GivesSeen, each};
-ghost use Rattle.kob_script.specs.Words.{words_of};
+ghost use Rattle.kob_script.specs.Words.{Gives, GivesSeen, each, words_of};
 ghost use Rattle.kob_script.specs.Script.{IsAnswerToLine};
 
 use crate::item::{Item, LeftOut};

@@ -7,7 +7,7 @@ ghost use Rattle.kob_policy_text.specs.Listing.{listed_permission, listed_resour
 ghost use Rattle.kob_policy_text.specs.Listing.{is_pattern_word, newer_grant, newer_resource};
 ghost use Rattle.kob_policy_text.specs.Listing.{older_grant, older_resource, older_target};
 ghost use Rattle.kob_policy_text.specs.Listing.{resource_item, target_item, first_parts};
-ghost use Rattle.kob_script.specs.Reading.{Gives, GivesSeen};
+ghost use Rattle.kob_script.specs.Words.{Gives, GivesSeen};
 ghost use Rattle.kob_script.specs.declared.fault.FaultKind.TheVariants.{BadWord};
 
 use crate::item::{Grant, Item, LeftOut, Target};

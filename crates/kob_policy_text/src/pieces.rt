@@ -4,7 +4,7 @@ ghost use Rattle.std.specs.Prelude.{◌≡◌};
 ghost use Rattle.std.specs.Option.{option_map};
 ghost use Rattle.kob_policy_text.specs.Listing.{around_first, around_last, first_parts};
 ghost use Rattle.kob_policy_text.specs.Listing.{holds_mark, last_parts, trimmed};
-ghost use Rattle.kob_script.specs.Reading.{GivesSeen};
+ghost use Rattle.kob_script.specs.Words.{GivesSeen};
 
 use bstr::ByteSlice;
 use kob_script::{FaultKind, LineError};

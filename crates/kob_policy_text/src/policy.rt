@@ -6,7 +6,7 @@ ghost use Rattle.kob_policy_text.specs.Policy.{FileMakes, IsRead, LineMakes, at_
 ghost use Rattle.kob_policy_text.specs.Policy.{empty_policy, fault_at, with_binding, with_draft};
 ghost use Rattle.kob_policy_text.specs.Policy.{with_grant, with_item, with_items};
 ghost use Rattle.kob_policy_text.specs.Policy.{with_omission, without};
-ghost use Rattle.kob_script.specs.Reading.{GivesSeen};
+ghost use Rattle.kob_script.specs.Words.{GivesSeen};
 
 use crate::item::{Grant, Item, LeftOut, Target};
 use crate::lines::items_of;

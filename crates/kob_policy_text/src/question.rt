@@ -4,7 +4,7 @@ ghost use Rattle.std.specs.Prelude.{◌≡◌, []};
 ghost use Rattle.kob_policy_text.specs.Policy.{IsRead};
 ghost use Rattle.kob_policy_text.specs.Questions.{topic_words, with_line, with_lines, with_question};
 ghost use Rattle.kob_policy_text.specs.Questions.{with_questions, with_topics, with_words};
-ghost use Rattle.kob_script.specs.Reading.{GivesSeen};
+ghost use Rattle.kob_script.specs.Words.{GivesSeen};
 
 use crate::policy::fault_at;
 use crate::question_words::{is_word, question_by};

@@ -5,7 +5,7 @@ ghost use Rattle.kob_policy_text.specs.Questions.{alone, asker_of, asks, first_o
 ghost use Rattle.kob_policy_text.specs.Questions.{is_word, may_by, may_consume, may_produce, may_request};
 ghost use Rattle.kob_policy_text.specs.Questions.{may_right, may_words, produces, question_by};
 ghost use Rattle.kob_policy_text.specs.Questions.{right_of, sees_words, who_words};
-ghost use Rattle.kob_script.specs.Reading.{Gives};
+ghost use Rattle.kob_script.specs.Words.{Gives};
 
 use crate::lines::only_event;
 use crate::listing::known;

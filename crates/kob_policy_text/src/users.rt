@@ -2,8 +2,7 @@
 
 ghost use Rattle.std.specs.Prelude.{◌≡◌};
 ghost use Rattle.kob_policy_text.specs.Listing.{is_other_kind, user_in};
-ghost use Rattle.kob_script.specs.Reading.{Gives, GivesSeen};
-ghost use Rattle.kob_script.specs.Words.{text_in};
+ghost use Rattle.kob_script.specs.Words.{Gives, GivesSeen, text_in};
 
 use bstr::ByteSlice;
 use kob_names::Principal;

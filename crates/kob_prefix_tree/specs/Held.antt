@@ -73,8 +73,7 @@ module _ (held : List ℕ → Held) (name : List ℕ) where
       flat_map (λ prefix. serials_of Prefixed (held prefix)) (prefixes name)
       ++ serials_of Literal (held name)
 
-  -- n is the length of the longest beginning of the name that begins a key in use, or 0 where no
-  -- key is in use
+  -- n is the length of the longest beginning of the name that begins a key in use, or 0
   pub record IsLongestInUse (n : ℕ) : Type 0 where
     pub reached : n ≢ 0 → (key : List ℕ) × ((held key ≢ nothing) × (common_length name key ≡ n))
     pub longest : (key : List ℕ) → held key ≢ nothing → common_length name key ≤ n

@@ -61,8 +61,7 @@ placed_as column word alias =
     then option_map (λ named. record { column = named; header = alias }) (column_named column)
     else None
 
--- an entry's parts: a column, the word `header`, and the header's name, which is the column's where
--- it is not given
+-- an entry's parts: a column, the word `header`, and the header's name, by default the column's
 abbrev pub entry_of_parts : List (List ℕ) → Option Placed
 entry_of_parts (column ∷ word ∷ []) = placed_as column word column
 entry_of_parts (column ∷ word ∷ alias ∷ []) = placed_as column word alias
@@ -144,8 +143,7 @@ is_id header = same_text header.name (codes "id")
 abbrev pub event_id : Record → Option (List ℕ)
 event_id sent = option_and_then (λ (header : Header). parsed header.value) (find is_id sent.headers)
 
--- what there is is answered; where there is nothing, that is the fault; lack of memory may come in
--- place of both
+-- what there is, or this fault where there is nothing; out of memory may take the place of both
 abbrev pub OkIfSome : {A E : Type 0} → Option A → E → E → Result A E → Type 0
 OkIfSome found nothing memory (Ok value) = found ≡ Some value
 OkIfSome found nothing memory (Err fault) = ((found ≡ None) × (fault ≡ nothing)) ⊎ (fault ≡ memory)

@@ -1,5 +1,4 @@
--- The program's status: 0 for a script that was served, 2 for lack of memory, 1 for every other
--- end.
+-- The program's status: 0 for a script that was served, 2 for out of memory, 1 for any other end.
 use Rattle.std.specs.Prelude.{ℕ, Result, Ok, Err}
 use Rattle.kob_text.specs.declared.fault.RunFault.{RunFault}
 use Rattle.kob_text.specs.declared.fault.RunFault.TheVariants.{ReadFailed, WriteFailed, TooLong, Memory}

@@ -2,7 +2,7 @@
 use Rattle.kob_scene_text.proofs.Words.{CliArgs, Err, Fault, IsAnswerTo, IsAnswerToLine, LineError, List, MayRead, Memory, Ok, Option, ReadsAs, ReadsLine, ReadsNext, Result, Seen, StepError, Word, [], arith, as_scripts, false, fault_at, lines_in, nat_tests, refl, so_far, step_error, subst, sym, with_words, words_of, ℕ, ◌+◌, ◌>>>◌, ◌∷◌, ◌≡◌}
 use Rattle.kob_script.specs.declared.fault.FaultKind as script_kind
 use Rattle.kob_script.specs.declared.fault.LineError.TheVariants as line_error
-use Rattle.kob_script.specs.Reading.{Fails as ScriptFails}
+use Rattle.kob_script.specs.Words.{Fails as ScriptFails}
 use Rattle.kob_scene_text.specs.declared.fault.SceneFault as fault
 use Rattle.kob_scene_text.specs.declared.reading.Reading as code
 use Rattle.kob_scene_text.specs.Scenes.{LinesFrom, with_line}

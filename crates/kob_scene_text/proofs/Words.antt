@@ -16,9 +16,8 @@ pub use Rattle.kob_scene_text.specs.declared.fault.StepError.TheVariants.{Fault,
 pub use Rattle.kob_scene_text.specs.declared.line.Head.{Head}
 pub use Rattle.kob_scene_text.specs.declared.line.Head.TheVariants.{Consumer, Journal, Law, Of, Request, Service, Setting, Unknown}
 pub use Rattle.kob_script.proofs.Each.{each_ends, each_fails, each_keeps, with_front}
-pub use Rattle.kob_script.specs.Reading.{each, ◌>>=◌}
+pub use Rattle.kob_script.specs.Words.{each, ◌>>=◌, Word, words_of}
 pub use Rattle.kob_script.specs.Script.{IsAnswerTo, IsAnswerToLine, lines_in}
-pub use Rattle.kob_script.specs.Words.{Word, words_of}
 pub use Rattle.kob_script.specs.declared.fault.FaultKind.TheVariants.{LateSetting}
 pub use Rattle.kob_script.specs.declared.fault.LineError.{LineError}
 pub use Rattle.kob_script.specs.declared.script.Script.{Script}

@@ -6,8 +6,7 @@ use Rattle.kob_outbox.specs.Contents.{Event, Key, id_text, key_of, stored_event}
 use Rattle.kob_outbox.specs.declared.change.Change.{Change}
 use Rattle.kob_script.specs.declared.fault.FaultKind.{FaultKind}
 use Rattle.kob_script.specs.declared.fault.FaultKind.TheVariants.{BadLine}
-use Rattle.kob_script.specs.Reading.{◌>>=◌}
-use Rattle.kob_script.specs.Words.{text_of, Word}
+use Rattle.kob_script.specs.Words.{◌>>=◌, text_of, Word}
 use Rattle.kob_scene_text.specs.declared.fault.SceneFaultKind.{SceneFaultKind}
 use Rattle.kob_scene_text.specs.declared.fault.SceneFaultKind.TheVariants.{BadId}
 use Rattle.kob_scene_text.specs.declared.scene.ConsumerStep.{ConsumerStep}

@@ -5,8 +5,7 @@ use Rattle.std.specs.List.{list_all, position}
 use Rattle.std.specs.Option.{is_some, option_map}
 use Rattle.std.specs.Str.{bytes_eq}
 use Rattle.kob_script.specs.declared.fault.FaultKind.{FaultKind}
-use Rattle.kob_script.specs.Reading.{◌>>=◌, each}
-use Rattle.kob_script.specs.Words.{text_of, principal_of, host_of, Word, number_of, word_of}
+use Rattle.kob_script.specs.Words.{◌>>=◌, each, text_of, principal_of, host_of, Word, number_of, word_of}
 use Rattle.kob_scene_text.specs.declared.fault.SceneFaultKind.{SceneFaultKind}
 use Rattle.kob_scene_text.specs.declared.fault.SceneFaultKind.TheVariants.{BadWorkerName, NameTaken, BadPartitions, BadRoute}
 use Rattle.kob_scene_text.specs.declared.name.Who.{Who}

@@ -2,7 +2,7 @@
 
 ghost use Rattle.std.specs.Prelude.{◌≡◌};
 ghost use Rattle.std.specs.Option.{option_map};
-ghost use Rattle.kob_script.specs.Reading.{Gives, each};
+ghost use Rattle.kob_script.specs.Words.{Gives, each};
 ghost use Rattle.kob_scene_text.specs.Workers.{consumer_of, consumer_with, cut, place_in};
 ghost use Rattle.kob_scene_text.specs.Workers.{place_of, places_of, subscription_of};
 

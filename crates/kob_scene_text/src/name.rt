@@ -1,7 +1,7 @@
 //! Names of workers, the words that cannot be names, and who works under a name.
 
 ghost use Rattle.std.specs.Prelude.{◌≡◌};
-ghost use Rattle.kob_script.specs.Reading.{Gives as ScriptGives};
+ghost use Rattle.kob_script.specs.Words.{Gives as ScriptGives};
 ghost use Rattle.kob_scene_text.specs.Workers.{consumer_named, is_keyword, is_name, is_name_byte};
 ghost use Rattle.kob_scene_text.specs.Workers.{new_name, service_named, who_of, worker_named};
 ghost use Rattle.kob_scene_text.specs.Reading.{Gives};

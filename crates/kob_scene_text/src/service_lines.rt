@@ -1,7 +1,7 @@
 //! Lines that declare a service, after its name.
 
 ghost use Rattle.std.specs.Prelude.{◌≤◌, IfOk};
-ghost use Rattle.kob_script.specs.Reading.{Gives as ScriptGives, GivesSeen as ScriptGivesSeen};
+ghost use Rattle.kob_script.specs.Words.{Gives as ScriptGives, GivesSeen as ScriptGivesSeen};
 ghost use Rattle.kob_scene_text.specs.Reading.{Gives};
 ghost use Rattle.kob_scene_text.specs.Workers.{by_first, by_named, declared_route, partitions_of};
 ghost use Rattle.kob_scene_text.specs.Workers.{route_of, service_of, service_with, settings_of};

@@ -3,7 +3,7 @@
 ghost use Rattle.std.specs.Prelude.{◌≡◌, string_bytes};
 ghost use Rattle.uuid.specs.Text.{parsed};
 ghost use Rattle.kob_outbox.specs.Contents.{stored_event};
-ghost use Rattle.kob_script.specs.Reading.{Gives as ScriptGives, GivesSeen as ScriptGivesSeen};
+ghost use Rattle.kob_script.specs.Words.{Gives as ScriptGives, GivesSeen as ScriptGivesSeen};
 ghost use Rattle.kob_script.specs.Words.{text_of};
 ghost use Rattle.kob_scene_text.specs.Reading.{Gives, GivesSeen};
 ghost use Rattle.kob_scene_text.specs.Steps.{bare_consumer_step, bare_service_line};

@@ -1,6 +1,6 @@
 -- Values that are read in turn, by a loop over what they are read from.
 use Rattle.kob_script.proofs.Imports.{Err, Fails, Fault, FaultKind, LineError, List, Memory, Ok, Result, [], ap, append-nil, append_assoc, arith, drop, drop_more, drop_of_length-le, get_or, length, map, nat_tests, refl, subst, sym, ℕ, ◌++◌, ◌+◌, ◌<◌, ◌>>=◌, ◌∙◌, ◌∷◌, ◌≡◌, ◌≤◌}
-use Rattle.kob_script.specs.Reading.{each}
+use Rattle.kob_script.specs.Words.{each}
 
 -- values that stand before what is read
 abbrev pub with_front : {A : Type 0} → List A → Result (List A) FaultKind → Result (List A) FaultKind

@@ -6,9 +6,8 @@ pub use Rattle.kob_acl_cli.specs.Parts.{IsFirstFault}
 pub use Rattle.kob_names.specs.TextRules.{principal_fault}
 pub use Rattle.kob_script.specs.Checks.{ChecksLine, ChecksNext, fault_at, kept_answer, script_so_far}
 pub use Rattle.kob_script.specs.CommandLines.{AclCommand, CliArgs, Command, CommandFault, Event, Request, acl_commands, acl_request, asking, asks_by_acl, command_named, error_of, events_by, faults_in, line_fault, request_of, row, row_fault, unless_faults}
-pub use Rattle.kob_script.specs.Reading.{BadLine, BadNumber, Fails, Fault, FaultKind, Finds, GivesSeen, IsAmong, LineError, Memory, counted, each, earlier, first_kind, rank, unless_found, ◌>>=◌}
+pub use Rattle.kob_script.specs.Words.{BadLine, BadNumber, Fails, Fault, FaultKind, Finds, GivesSeen, IsAmong, LineError, Memory, counted, each, earlier, first_kind, rank, unless_found, ◌>>=◌, is_skipped, named_principal, number_in, record_of, text_of, LeavesWhole, Word, before, cut_at, escaped, is_blank, raw_words, unescaped, word_of, words_of}
 pub use Rattle.kob_script.specs.Script.{AreWholeLines, answers_after, is_setting, lines_in_blocks, lines_left, requests_in, requests_left, requests_of, rest_of, steps_left, HasNoAclLine, IfRead, IsAnswerTo, IsAnswerToLine, ReadsAs, Script, ScriptError, ThenLines, asks_clap, empty_script, line_words, lines_in, then_lines, with_words}
-pub use Rattle.kob_script.specs.Words.{is_skipped, named_principal, number_in, record_of, text_of, LeavesWhole, Word, before, cut_at, escaped, is_blank, raw_words, unescaped, word_of, words_of}
 pub use Rattle.kob_script.specs.declared.script.Checking.{Checking}
 pub use Rattle.kob_script.specs.declared.command.Place.TheVariants.{One, Texts}
 pub use Rattle.memchr.proofs.lemmas.ValueLemmas.{IsFirstByte-value}

@@ -3,9 +3,8 @@ use Rattle.std.specs.Prelude.{◌≡◌, ℕ, List, [], ◌∷◌, ◌++◌, Opt
 use Rattle.kob_script.specs.declared.script.CheckedScript.{CheckedScript}
 use Rattle.kob_script.specs.declared.script.Checking.{Checking}
 use Rattle.kob_script.specs.declared.fault.ScriptError.TheVariants as script_error
-use Rattle.kob_script.specs.Reading.{Fails, Fault, FaultKind, LineError, Memory}
+use Rattle.kob_script.specs.Words.{Fails, Fault, FaultKind, LineError, Memory, Word, words_of}
 use Rattle.kob_script.specs.Script.{CliArgs, Event, asks_clap, line_words, with_line, IsAnswerToLine, LineReadsAs, Script, ScriptError}
-use Rattle.kob_script.specs.Words.{Word, words_of}
 
 -- the script so far, without opening bindings, which asks for these events
 abbrev pub script_so_far : Checking → List Event → Script

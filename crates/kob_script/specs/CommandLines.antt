@@ -18,8 +18,7 @@ pub use Rattle.kob_rights.specs.declared.event.Event.{Event}
 use Rattle.kob_rights.specs.declared.on_partitions.Before.TheVariants as befores
 use Rattle.kob_rights.specs.declared.request.Request.TheVariants as ask
 pub use Rattle.kob_rights.specs.declared.request.Request.{Request}
-use Rattle.kob_script.specs.Words.{End, idem_of, record_of, number_of, which_of, before_of, text_of, named_principal, named_host, Word}
-use Rattle.kob_script.specs.Reading.{first_kind, each, unless_found, ◌>>=◌, BadWord, BadLine, Usage, NoAction, BadName, BadMix, NoResource, NoPrincipal, Fault, FaultKind, LineError, Memory}
+use Rattle.kob_script.specs.Words.{End, idem_of, record_of, number_of, which_of, before_of, text_of, named_principal, named_host, Word, first_kind, each, unless_found, ◌>>=◌, BadWord, BadLine, Usage, NoAction, BadName, BadMix, NoResource, NoPrincipal, Fault, FaultKind, LineError, Memory}
 use Rattle.kob_script.specs.declared.command.Command.TheVariants.{CreateTopic, DeleteTopic, Metadata, Produce, Fetch, ListOffsets, DeleteRecords, InitProducer, Commit, Committed, Groups, DeleteGroup, CreateAcl, DescribeAcls, DeleteAcls}
 pub use Rattle.kob_script.specs.declared.command.Command.{Command}
 use Rattle.kob_script.specs.declared.command.Place.TheVariants.{One, OrDash, OrNone, Records, Texts}

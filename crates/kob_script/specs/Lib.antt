@@ -1,6 +1,5 @@
 pub mod Checks
 pub mod CommandLines
 pub mod Printed
-pub mod Reading
 pub mod Script
 pub mod Words

@@ -5,7 +5,7 @@ ghost use Rattle.std.specs.Prelude.{◌≡◌, [], IfOk, OnOk, OnErr, Ok, Result
 ghost use Rattle.kob_rights.specs.declared.request.Request.TheVariants as requests;
 ghost use Rattle.kob_script.specs.CommandLines.{acl_commands, acl_request, asked_by, error_of};
 ghost use Rattle.kob_script.specs.CommandLines.{events_by, events_of, request_of, unless_dash};
-ghost use Rattle.kob_script.specs.Reading.{Gives, GivesSeen, counted};
+ghost use Rattle.kob_script.specs.Words.{Gives, GivesSeen, counted};
 ghost use Rattle.kob_script.specs.Script.{after_acl, asks_clap, IsAnswerTo};
 ghost use Rattle.kob_script.specs.declared.command.Command.TheVariants as commands;
 ghost use Rattle.kob_script.specs.declared.fault.FaultKind as kinds;

@@ -4,7 +4,7 @@
 ghost use Rattle.std.specs.Prelude.{◌≡◌, Ok, OnOk, Option, MatchOption};
 ghost use Rattle.std.specs.Result.{result_err};
 ghost use Rattle.kob_script.specs.CommandLines.{line_fault, faults_in, slot_fault};
-ghost use Rattle.kob_script.specs.Reading.{Finds, Gives, earlier, earlier_kind, first_kind};
+ghost use Rattle.kob_script.specs.Words.{Finds, Gives, earlier, earlier_kind, first_kind};
 ghost use Rattle.kob_script.specs.Words.{named_principal};
 ghost use Rattle.kob_script.specs.declared.fault.FaultKind as kinds;
 

@@ -3,8 +3,7 @@
 ghost use Rattle.std.specs.Prelude.{◌≡◌, ◌≤◌, ℕ, List, Option, Some, None, Result, Ok, Err, false};
 ghost use Rattle.kob_script.specs.CommandLines.{asks_by_acl, events_of, line_fault, faults_in};
 ghost use Rattle.kob_script.specs.CommandLines.{row_fault, CliArgs};
-ghost use Rattle.kob_script.specs.Words.{LeavesWhole, Word};
-ghost use Rattle.kob_script.specs.Reading.{FaultKind, IsAmong, rank, counted};
+ghost use Rattle.kob_script.specs.Words.{LeavesWhole, Word, FaultKind, IsAmong, rank, counted};
 ghost use Rattle.kob_script.specs.Script.{script_of, HasNoAclLine, ReadsAs, Script};
 ghost use Rattle.kob_script.specs.declared.fault.Fault.{Fault};
 ghost use Rattle.kob_script.specs.declared.command.Place.{Place};

@@ -6,7 +6,7 @@ ghost use Rattle.std.specs.Prelude.{◌≡◌, ◌<◌, ◌^◌, List, length, I
 ghost use Rattle.kob_rights.specs.declared.event.Event as event;
 ghost use Rattle.kob_script.specs.Checks.{ChecksLine, ChecksNext, as_read, fault_at};
 ghost use Rattle.kob_script.specs.Checks.{script_so_far};
-ghost use Rattle.kob_script.specs.Reading.{Gives};
+ghost use Rattle.kob_script.specs.Words.{Gives};
 ghost use Rattle.kob_script.specs.Script.{everyone_of, is_setting, is_super, super_of, script_of};
 ghost use Rattle.kob_script.specs.Script.{with_events, with_words, AreWholeLines, HasNoAclLine};
 ghost use Rattle.kob_script.specs.Script.{IfRead, ReadsAs};

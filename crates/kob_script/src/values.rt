@@ -4,7 +4,7 @@
 ghost use Rattle.std.specs.Char.{digit_value, is_ascii_digit};
 ghost use Rattle.std.specs.Prelude.{◌≡◌, ◌≤◌, ◌+◌, ◌*◌, ◌^◌, true, IfOk, MatchOption, map, ok_or};
 ghost use Rattle.kob_script.specs.CommandLines.{filter_pattern_of};
-ghost use Rattle.kob_script.specs.Reading.{Gives, GivesSeen, each};
+ghost use Rattle.kob_script.specs.Words.{Gives, GivesSeen, each};
 ghost use Rattle.kob_script.specs.Words.{before_of, bytes_of, host_of, idem_of, named_host};
 ghost use Rattle.kob_script.specs.Words.{named_principal, number_in, number_of, principal_of};
 ghost use Rattle.kob_script.specs.Words.{record_of, text_of, which_of};

@@ -3,7 +3,7 @@
 ghost use Rattle.std.specs.Prelude.{◌≡◌, ◌≤◌, ◌==◌, ℕ, List, Some, IfOk, IfSome, MatchBool, ⊤};
 ghost use Rattle.std.specs.Prelude.{bytes_eq, codes, drop, find, if◌then◌else◌, length, not};
 ghost use Rattle.std.specs.Prelude.{option_copied, option_map};
-ghost use Rattle.kob_script.specs.Reading.{Gives, GivesSeen};
+ghost use Rattle.kob_script.specs.Words.{Gives, GivesSeen};
 ghost use Rattle.kob_script.specs.Words.{bytes_of, cut_at, escaped, hexadecimal, is_blank};
 ghost use Rattle.kob_script.specs.Words.{is_skipped, unescaped, word_of, words_of};
 

@@ -61,8 +61,7 @@ abbrev pub IsFullOnlyPast : ℕ → ℕ → FleetStop → Type 0
 IsFullOnlyPast limit count (Full worker) = worker ≡ 0 → limit < count
 IsFullOnlyPast limit count stop = Unit {0}
 
--- the journal has what worker 0 noted and no more, from this opening on, and takes as many entries
--- as a journal may
+-- the journal has what worker 0 noted alone, from this opening on, and takes as many as one may
 pub record HasBegun (settings : Settings) (first : Noted) (found : Record) : Type 0 where
   pub opening : found.opening ≡ settings
   pub limit : found.limit ≡ entry_limit

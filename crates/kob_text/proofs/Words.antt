@@ -13,10 +13,7 @@ pub use Rattle.kob_script.specs.Checks.{checked}
 pub use Rattle.kob_script.specs.Printed.{reply_text, stopped_text, text_of_replies}
 pub use Rattle.kob_script.specs.Script.{AreWholeLines, lines_in_blocks, lines_in}
 pub use Rattle.kob_script.specs.declared.script.Script.{Script}
-pub use Rattle.kob_text.specs.Faults.{unread, unwritten}
-pub use Rattle.kob_text.specs.Input.{EndLines, bytes_in}
-pub use Rattle.kob_text.specs.Limits.{piece_limit, script_limit}
-pub use Rattle.kob_text.specs.Output.{HasOutput, IsEnd, IsOutput, IsWrittenOf, Writes, replies_to, IsTextOfRun, WritesPartOfRun, WritesRun, replies_from, AppendsAllBut, AppendsPart}
+pub use Rattle.kob_text.specs.Output.{unread, unwritten, piece_limit, script_limit, HasOutput, IsEnd, IsOutput, IsWrittenOf, Writes, replies_to, IsTextOfRun, WritesPartOfRun, WritesRun, replies_from, AppendsAllBut, AppendsPart, EndLines, bytes_in}
 pub use Rattle.kob_text.specs.declared.fault.InputFault.{InputFault}
 pub use Rattle.kob_text.specs.declared.fault.OutputFault.{OutputFault}
 pub use Rattle.kob_text.specs.declared.output.Ended.{Ended}

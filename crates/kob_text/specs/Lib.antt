@@ -1,4 +1,1 @@
-pub mod Faults
-pub mod Input
-pub mod Limits
 pub mod Output

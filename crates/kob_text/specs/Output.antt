@@ -1,23 +1,62 @@
--- What a run writes for a script.
+-- What a run reads and writes, by how it ends, and its limits.
+use Rattle.std.specs.Prelude.{ℕ, ◌≡◌, List, ◌++◌, ◌<◌, ◌≤◌, length, take, Option, Result, Ok, Err, IfSome}
+use Rattle.kob_text.specs.declared.fault.InputFault.{InputFault}
+use Rattle.kob_text.specs.declared.fault.OutputFault.{OutputFault}
+use Rattle.kob_text.specs.declared.fault.RunFault.{RunFault}
+use Rattle.std.specs.List.{concat}
+use Rattle.kob_script.specs.Script.{lines_in_blocks, lines_in, ReadsAs}
+use Rattle.kob_text.specs.declared.input.Input.{Input}
 use Rattle.std.specs.Io.KnownBytes.{Appends, Keeps}
-use Rattle.std.specs.Prelude.{◌≡◌, ◌<◌, ◌≤◌, ◌++◌, ℕ, List, length, take, Option, Result, Ok, Err, IfSome}
 use Rattle.kob_broker.specs.State.{open_state, State}
 use Rattle.kob_broker.specs.Step.{replies_of}
 use Rattle.kob_names.specs.declared.settings.Settings.{Settings}
 use Rattle.kob_partition.specs.Retained.{plain_meaning, Retained, retained_meaning}
 use Rattle.kob_rights.specs.declared.event.Event.{Event}
 use Rattle.kob_rights.specs.declared.reply.Reply.{Reply}
-use Rattle.kob_text.specs.Limits.{script_limit}
-use Rattle.kob_text.specs.declared.fault.OutputFault.{OutputFault}
-use Rattle.kob_text.specs.declared.fault.RunFault.{RunFault}
 use Rattle.kob_text.specs.declared.output.Ended.{Ended}
 use Rattle.kob_text.specs.declared.output.Ended.TheVariants.{Clean, Fault, Stopped}
 use Rattle.kob_script.specs.declared.script.Script.{Script}
 use Rattle.kob_script.specs.Printed.{fault_text, text_of_replies, stopped_text}
-use Rattle.kob_script.specs.Script.{ReadsAs}
+use Rattle.kob_text.specs.declared.fault.InputFault.TheVariants as input
 use Rattle.kob_text.specs.declared.fault.OutputFault.TheVariants as output
 use Rattle.kob_text.specs.declared.fault.RunFault.TheVariants as run
 use Rattle.kob_script.specs.declared.fault.Fault as fault
+
+-- the most bytes of a script
+abbrev pub script_limit : ℕ
+script_limit = 16777216
+
+-- the most calls of a reader
+abbrev pub read_limit : ℕ
+read_limit = 20000000
+
+-- the most bytes of printed replies that are held
+abbrev pub piece_limit : ℕ
+piece_limit = 65536
+
+-- the room for bytes of the script with which a block is begun
+abbrev pub block_size : ℕ
+block_size = 65536
+
+-- the fault of a run whose script was not read
+abbrev pub unread : InputFault → RunFault
+unread (input.ReadFailed failed) = run.ReadFailed
+unread input.TooLong = run.TooLong
+unread input.Memory = run.Memory
+
+-- the fault of a run whose output was not written
+abbrev pub unwritten : OutputFault → RunFault
+unwritten (output.WriteFailed failed) = run.WriteFailed
+unwritten output.Memory = run.Memory
+
+-- the bytes so far
+abbrev pub bytes_in : Input → List ℕ
+bytes_in input = concat input.blocks.items ++ input.last.items
+
+-- What follows the blocks begins a line.
+abbrev pub EndLines : List (List ℕ) → Type 0
+EndLines blocks =
+    (more : List ℕ) → lines_in (concat blocks ++ more) ≡ lines_in_blocks blocks ++ lines_in more
 
 -- known bytes grow by a prefix of the text that is not all of it
 abbrev pub AppendsPart : Option (List ℕ) → Option (List ℕ) → List ℕ → Type 0

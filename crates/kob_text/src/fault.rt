@@ -35,7 +35,7 @@ pub enum OutputFault {
 
 impl From<InputFault> for RunFault {
     ghost use Rattle.std.specs.Prelude.{◌≡◌};
-    ghost use Rattle.kob_text.specs.Faults.{unread};
+    ghost use Rattle.kob_text.specs.Output.{unread};
 
     ghost from_gives = { λ input fault. fault ≡ unread input };
 
@@ -50,7 +50,7 @@ impl From<InputFault> for RunFault {
 
 impl From<OutputFault> for RunFault {
     ghost use Rattle.std.specs.Prelude.{◌≡◌};
-    ghost use Rattle.kob_text.specs.Faults.{unwritten};
+    ghost use Rattle.kob_text.specs.Output.{unwritten};
 
     ghost from_gives = { λ output fault. fault ≡ unwritten output };
 

@@ -4,8 +4,7 @@ ghost use Rattle.std.specs.List.{concat};
 ghost use Rattle.std.specs.Prelude.{◌≡◌, ◌⊎◌, ◌-◌, ◌≤◌, ◌++◌, [], slice_index, length};
 ghost use Rattle.std.specs.Prelude.{vec_capacity, IfOk, OnOk};
 ghost use Rattle.kob_script.specs.Script.{AreWholeLines};
-ghost use Rattle.kob_text.specs.Input.{EndLines, bytes_in};
-ghost use Rattle.kob_text.specs.Limits.{block_size};
+ghost use Rattle.kob_text.specs.Output.{EndLines, bytes_in, block_size};
 
 use crate::limits::BLOCK_SIZE;
 use kob_names::Bytes;

@@ -2,8 +2,7 @@
 
 ghost use Rattle.std.specs.List.{concat};
 ghost use Rattle.std.specs.Prelude.{◌≤◌, Err, length};
-ghost use Rattle.kob_text.specs.Limits.{script_limit};
-ghost use Rattle.kob_text.specs.Output.{IsWritten, IsWrittenOf};
+ghost use Rattle.kob_text.specs.Output.{script_limit, IsWritten, IsWrittenOf};
 ghost use Rattle.kob_script.specs.Script.{AreWholeLines};
 
 use crate::fault::OutputFault;

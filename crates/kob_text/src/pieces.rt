@@ -4,8 +4,7 @@ ghost use Rattle.std.specs.Prelude.{◌≡◌, ◌≤◌, ◌++◌, vec_len, vec
 ghost use Rattle.std.specs.Prelude.{OnOk, OnErr};
 ghost use Rattle.std.specs.Io.KnownBytes.{Appends};
 ghost use Rattle.kob_script.specs.Printed.{stopped_text};
-ghost use Rattle.kob_text.specs.Limits.{piece_limit};
-ghost use Rattle.kob_text.specs.Output.{AppendsPart, AppendsAllBut};
+ghost use Rattle.kob_text.specs.Output.{piece_limit, AppendsPart, AppendsAllBut};
 
 use crate::limits::PIECE_LIMIT;
 use crate::transfer::write_all;

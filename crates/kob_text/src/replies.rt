@@ -9,7 +9,7 @@ ghost use Rattle.kob_partition.specs.Retained.{retained_meaning};
 ghost use Rattle.kob_rights.specs.declared.event.Event as event;
 ghost use Rattle.kob_script.specs.Checks.{checked};
 ghost use Rattle.kob_script.specs.Printed.{reply_text};
-ghost use Rattle.kob_text.specs.Limits.{piece_limit};
+ghost use Rattle.kob_text.specs.Output.{piece_limit};
 ghost use Rattle.kob_text.specs.Output.{IsWritten, WritesPartOfRun, WritesRun, replies_from};
 ghost use Rattle.kob_text.specs.Output.{replies_to};
 

@@ -2,7 +2,7 @@
 
 ghost use Rattle.std.specs.Prelude.{◌≡◌, ◌-◌, ◌<◌, ◌≤◌, length, take, OnOk, IfOk};
 ghost use Rattle.std.specs.Io.KnownBytes.{Consumes, IsAtEnd};
-ghost use Rattle.kob_text.specs.Limits.{read_limit};
+ghost use Rattle.kob_text.specs.Output.{read_limit};
 
 use crate::limits::READ_LIMIT;
 use std::io::{ErrorKind, Read};

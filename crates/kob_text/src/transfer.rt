@@ -4,8 +4,7 @@ ghost use Rattle.std.specs.List.{concat};
 ghost use Rattle.std.specs.Prelude.{◌≡◌, ◌<◌, ◌≤◌, length, IfOk, IfSome, IsErrOf, OnErr, OnOk};
 ghost use Rattle.std.specs.Io.KnownBytes.{Appends};
 ghost use Rattle.kob_script.specs.Script.{AreWholeLines};
-ghost use Rattle.kob_text.specs.Limits.{script_limit};
-ghost use Rattle.kob_text.specs.Output.{AppendsPart};
+ghost use Rattle.kob_text.specs.Output.{script_limit, AppendsPart};
 
 use crate::fault::InputFault;
 use crate::input::Input;
