@@ -5,7 +5,7 @@ use Rattle.std.proofs.lemmas.Grind.{flat_map-append}
 use Rattle.std.proofs.lemmas.List.{take_more}
 use Rattle.std.proofs.lemmas.Str.{IsAscii-append}
 use Rattle.kob_names.specs.Binding.{Binding}
-use Rattle.kob_acl_cli.specs.PrintedList.{binding_line, list_text}
+use Rattle.kob_acl_cli.specs.Lines.{binding_line, list_text}
 
 -- one line more
 pub list_ascii_more : (bindings : List (ℕ × Binding)) (i : ℕ) (item : ℕ × Binding) → i < length bindings

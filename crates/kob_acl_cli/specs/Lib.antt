@@ -2,5 +2,4 @@ pub mod Commands
 pub mod Lines
 pub mod Mixes
 pub mod Parts
-pub mod PrintedList
 pub mod Targets

@@ -1,10 +1,12 @@
 -- How clap reads the words of a line.
-use Rattle.std.specs.Prelude.{◌≡◌, ℕ, Bool, true, false, List, [], ◌∷◌, fold, map, codes, unwrap_or, Option, Some, None}
+use Rattle.std.specs.Prelude.{◌≡◌, ℕ, Bool, true, false, List, [], ◌∷◌, fold, map, codes, unwrap_or, Option, Some, None, ◌++◌, flat_map}
 use Rattle.std.specs.Borrow.{Bor}
 use Rattle.clap.specs.Words.{App, Kinds, Row, Rule, all_of, fault_of, first_of, matches_of, new_app, new_rule, one_of, takes, with_rule}
 use Rattle.clap.specs.declared.builder.action.ArgAction.{ArgAction}
 use Rattle.clap.specs.declared.builder.action.ArgAction.TheVariants.{Append, Set, SetTrue}
 use Rattle.kob_acl_cli.specs.declared.args.CliArgs.{CliArgs}
+use Rattle.kob_names.specs.Binding.{Binding}
+use Rattle.kob_words.specs.PrintedBinding.{binding_text}
 
 -- the texts behind references
 abbrev pub texts : List (Bor (List ℕ)) → List (List ℕ)
@@ -100,3 +102,12 @@ pub record IsReadOf (rows : List Row) (args : CliArgs) : Type 0 where
   pub producer : IsFlag rows (codes "producer") args.producer
   pub consumer : IsFlag rows (codes "consumer") args.consumer
   pub idempotent : IsFlag rows (codes "idempotent") args.idempotent
+
+-- How lists of bindings are printed.
+
+-- a line of its own
+abbrev pub binding_line : ℕ × Binding → List ℕ
+binding_line (serial, binding) = binding_text serial binding ++ codes "\n"
+
+abbrev pub list_text : List (ℕ × Binding) → List ℕ
+list_text bindings = flat_map binding_line bindings

@@ -1,11 +1,7 @@
 -- What the words of a line mean, and those that are not read.
 use Rattle.std.specs.Prelude.{ℕ, List, [], ◌∷◌, filter_map, Option, Some, None, unwrap_or, codes, ◌≡◌, ◌⊎◌, Bool, ◌++◌, map, filter, is_some, is_none, Result, Ok, Err}
-use Rattle.kob_names.specs.declared.filter.FilterPattern.{FilterPattern}
+use Rattle.kob_names.specs.Types.{FilterPattern, Operation, All, Permission, Allow, Deny}
 use Rattle.kob_names.specs.declared.filter.FilterPattern.TheVariants.{Literal}
-use Rattle.kob_names.specs.declared.kinds.Operation.{Operation}
-use Rattle.kob_names.specs.declared.kinds.Operation.TheVariants.{All}
-use Rattle.kob_names.specs.declared.kinds.Permission.{Permission}
-use Rattle.kob_names.specs.declared.kinds.Permission.TheVariants.{Allow, Deny}
 use Rattle.kob_words.specs.Kinds.{operation_named, filter_pattern_named}
 use Rattle.kob_acl_cli.specs.declared.args.CliArgs.{CliArgs}
 use Rattle.kob_acl_cli.specs.declared.parts.Holders.{Holders}

@@ -1,19 +1,10 @@
 -- The resources that options name, the operations meant on each, and the rules for them.
 use Rattle.std.specs.Prelude.{ℕ, List, [], ◌∷◌, ◌++◌, map, codes, if◌then◌else◌, flat_map, Some}
-use Rattle.kob_names.specs.declared.filter.FilterPattern.{FilterPattern}
+use Rattle.kob_names.specs.Types.{FilterPattern, ResourceKind, Topic, Group, Cluster, TransactionalId, Operation, Read, Write, Create, Describe, IdempotentWrite, Draft, BindingFilter, PatternKind, Literal, Prefixed, Permission}
 use Rattle.kob_acl_cli.specs.Mixes.{only_if, has_convenience}
-use Rattle.kob_names.specs.declared.kinds.ResourceKind.{ResourceKind}
-use Rattle.kob_names.specs.declared.kinds.ResourceKind.TheVariants.{Topic, Group, Cluster, TransactionalId}
 use Rattle.kob_acl_cli.specs.declared.args.CliArgs.{CliArgs}
 use Rattle.kob_acl_cli.specs.declared.target.Target.{Target}
-use Rattle.kob_names.specs.declared.kinds.Operation.{Operation}
-use Rattle.kob_names.specs.declared.kinds.Operation.TheVariants.{Read, Write, Create, Describe, IdempotentWrite}
 use Rattle.kob_acl_cli.specs.declared.access.Access.{Access}
-use Rattle.kob_names.specs.declared.draft.Draft.{Draft}
-use Rattle.kob_names.specs.declared.filter.BindingFilter.{BindingFilter}
-use Rattle.kob_names.specs.declared.kinds.PatternKind.{PatternKind}
-use Rattle.kob_names.specs.declared.kinds.PatternKind.TheVariants.{Literal, Prefixed}
-use Rattle.kob_names.specs.declared.kinds.Permission.{Permission}
 use Rattle.kob_acl_cli.specs.declared.parts.Holders.{Holders}
 use Rattle.kob_acl_cli.specs.declared.rule.Rule.{Rule}
 use Rattle.kob_names.specs.declared.filter.FilterPattern.TheVariants as filter

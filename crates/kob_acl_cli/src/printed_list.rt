@@ -2,7 +2,7 @@
 
 ghost use Rattle.std.specs.Prelude.{◌≡◌, ◌++◌, IfOk, OnOk, string_bytes};
 ghost use Rattle.std.specs.Str.{IsAscii};
-ghost use Rattle.kob_acl_cli.specs.PrintedList.{binding_line, list_text};
+ghost use Rattle.kob_acl_cli.specs.Lines.{binding_line, list_text};
 
 use kob_names::Binding;
 use kob_words::print_binding;

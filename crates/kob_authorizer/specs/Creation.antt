@@ -3,7 +3,7 @@ use Rattle.std.specs.Prelude.{ℕ, ◌≡◌, ◌≢◌, ◌≤◌, AllPairs, Co
 use Rattle.std.specs.List.{find, fold, enumerate_from, filter_map, list_any}
 use Rattle.std.specs.Option.{option_map}
 use Rattle.kob_names.specs.Binding.{same_binding, Binding}
-use Rattle.kob_authorizer.specs.Contents.{Contents, IsRising, State}
+use Rattle.kob_authorizer.specs.Decide.{Contents, IsRising, State}
 use Rattle.kob_authorizer.specs.declared.fault.CreateFault.{CreateFault}
 use Rattle.kob_authorizer.specs.declared.fault.CreateFault.TheVariants.{TooMany, SerialsSpent}
 

@@ -1,18 +1,37 @@
--- The verdict on a question, read off the list of bindings in force (Kafka documentation,
--- "Authorization and ACLs"; `allow.everyone.if.no.acl.found` among the settings of a broker).
-use Rattle.std.specs.Prelude.{List, ℕ, Bool, true, false, ◌&&◌, not, [], ◌∷◌, Option, Some, None, ◌≡◌, ◌≤◌, IsTrue, Contains}
-use Rattle.kob_names.specs.declared.kinds.Operation.{Operation}
-use Rattle.kob_names.specs.declared.kinds.ResourceKind.{ResourceKind}
+-- What an authorizer holds.
+use Rattle.std.specs.Prelude.{Bool, List, [], ◌∷◌, ℕ, ◌+◌, ◌≤◌, true, false, ◌&&◌, not, Option, Some, None, ◌≡◌, IsTrue, Contains}
+use Rattle.kob_names.specs.Binding.{Binding}
+use Rattle.kob_names.specs.Types.{Operation, ResourceKind, Permission, Allow, Deny, Verdict, Super, AllowedBy, DeniedBy, NoAllow, NoAclFound}
 use Rattle.std.specs.List.{filter, list_any, AllByRecursion}
 use Rattle.kob_names.specs.Access.{covers, matches, reaches}
 use Rattle.kob_names.specs.Same.{same_permission, same_resource, same_text}
-use Rattle.kob_names.specs.Binding.{Binding}
-use Rattle.kob_names.specs.declared.kinds.Permission.{Permission}
-use Rattle.kob_names.specs.declared.kinds.Permission.TheVariants.{Allow, Deny}
-use Rattle.kob_names.specs.declared.verdict.Verdict.{Verdict}
-use Rattle.kob_names.specs.declared.verdict.Verdict.TheVariants.{Super, AllowedBy, DeniedBy, NoAllow, NoAclFound}
-use Rattle.kob_authorizer.specs.Contents.{Contents}
 use Rattle.kob_authorizer.specs.declared.question.Question as program
+
+-- the bindings in force with their serials, in rising serials, the super users, whether what no
+-- binding matches is open to everyone, and the serial that comes next
+pub record Contents : Type 0 where
+  pub entries : List (ℕ × Binding)
+  pub supers : List (List ℕ)
+  pub everyone : Bool
+  pub next : ℕ
+
+-- the contents, and for how many more bindings there is room already
+pub record State : Type 0 where
+  pub contents : Contents
+  pub room : ℕ
+
+-- nothing is in force yet, and 1 is the next serial
+abbrev pub fresh_contents : List (List ℕ) → Bool → Contents
+fresh_contents supers everyone =
+    record { entries = []; supers = supers; everyone = everyone; next = 1 }
+
+-- the serials rise from low on, and are below high
+abbrev pub IsRising : ℕ → List (ℕ × Binding) → ℕ → Type 0
+IsRising low [] high = low ≤ high
+IsRising low (entry ∷ rest) high = (low ≤ entry.0) × IsRising (entry.0 + 1) rest high
+
+-- The verdict on a question, read off the list of bindings in force (Kafka documentation,
+-- "Authorization and ACLs"; `allow.everyone.if.no.acl.found` among the settings of a broker).
 
 -- who asks from where for which operation on what
 pub record Question : Type 0 where

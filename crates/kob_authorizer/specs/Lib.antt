@@ -1,4 +1,3 @@
-pub mod Contents
 pub mod Creation
 pub mod Decide
 pub mod Index

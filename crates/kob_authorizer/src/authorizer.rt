@@ -1,7 +1,7 @@
 //! The authorizer: a list of bindings, and the trees that index it.
 
 ghost use Rattle.std.specs.Prelude.{◌≡◌, ◌≢◌, ◌≤◌, IfErr, IfOk, None, OnErr, OnOk, Some, length};
-ghost use Rattle.kob_authorizer.specs.Contents.{IsRising, fresh_contents};
+ghost use Rattle.kob_authorizer.specs.Decide.{IsRising, fresh_contents};
 ghost use Rattle.kob_authorizer.specs.Creation.{CanCreate, Creates, addition, with_creation};
 ghost use Rattle.kob_authorizer.specs.Decide.{decide, question_of, IsTrueVerdict};
 ghost use Rattle.kob_authorizer.specs.Index.{CanDelete, bindings_left, bindings_taken};
@@ -38,7 +38,7 @@ pub struct Authorizer {
 
 impl Model for Authorizer {
     ghost use Rattle.std.specs.Prelude.{◌-◌, ◌≤◌, length, vec_len, vec_capacity};
-    ghost use Rattle.kob_authorizer.specs.Contents.{IsRising, State};
+    ghost use Rattle.kob_authorizer.specs.Decide.{IsRising, State};
     ghost use Rattle.kob_authorizer.specs.Index.{Indexes};
     ghost use Rattle.kob_authorizer.specs.Creation.{binding_limit};
 

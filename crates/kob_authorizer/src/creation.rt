@@ -2,7 +2,7 @@
 
 ghost use Rattle.std.specs.Prelude.{◌≡◌, ◌≢◌, ◌+◌, ◌≤◌, ◌++◌, IfErr, IfOk, None, OnOk, Some};
 ghost use Rattle.std.specs.Prelude.{length, map, vec_capacity, vec_len};
-ghost use Rattle.kob_authorizer.specs.Contents.{IsRising};
+ghost use Rattle.kob_authorizer.specs.Decide.{IsRising};
 ghost use Rattle.kob_authorizer.specs.Creation.{Creates, binding_limit, serial_limit, create_fault};
 ghost use Rattle.kob_authorizer.specs.Index.{Indexes, leaf_of, AreRising};
 

@@ -1,7 +1,7 @@
 //! Laws of the definitions. These functions do nothing: their contracts are the laws.
 
 ghost use Rattle.std.specs.Prelude.{◌≡◌, ◌↔◌, Contains, IsTrue, List, ℕ, false};
-ghost use Rattle.kob_authorizer.specs.Contents.{Contents, IsRising};
+ghost use Rattle.kob_authorizer.specs.Decide.{Contents, IsRising};
 ghost use Rattle.kob_authorizer.specs.Creation.{AreDistinct, AreInForce, OnlyAdds, addition};
 ghost use Rattle.kob_authorizer.specs.Decide.{decide, decide_by_bindings, Question};
 ghost use Rattle.kob_authorizer.specs.Index.{bindings_left};

@@ -3,17 +3,15 @@ pub use Rattle.indexmap.specs.IndexMap.{insert_entry}
 pub use Rattle.kob_authorizer.proofs.Creating.{added_rises}
 pub use Rattle.kob_authorizer.proofs.Entries.{removed_rises}
 pub use Rattle.kob_authorizer.proofs.Verdicts.{true_verdict}
-pub use Rattle.kob_authorizer.specs.Contents.{Contents, IsRising}
+pub use Rattle.kob_authorizer.specs.Decide.{Contents, IsRising}
 pub use Rattle.kob_authorizer.specs.Creation.{Added, add_one}
 pub use Rattle.kob_broker.specs.Records.{HasRoom, IsBatchOutcome, outcome_by, outcome_told, prepared_for, refusal_by, header_bytes, record_bytes, offset_before, with_start, fetch_reasons, fetched_at, batch_reasons, judged_at, offset_told, place_reasons, with_batch, BatchOutcome, Unchanged, Prepared, Batch, Idem, Record, AppendFault, Placement, Judgement, Next, code_of, Produce, Offset}
-pub use Rattle.kob_broker.specs.Change.{Makes, MakesFor, state_of, Broker}
+pub use Rattle.kob_broker.specs.Step.{Makes, MakesFor, state_of, Broker, Outcome, after, after_write, body, effect, effect_by, named, partition_in, reasons_against, refusal, RunsAlike, StepsAlike, replies_of, state_after, step, step_by, CreateTopics, DeleteGroups, DeleteRecords, DeleteTopics, Fetch, ListOffsets, OffsetCommit, OffsetFetch}
 pub use Rattle.kob_broker.specs.Bindings.{draft_reasons, Draft}
-pub use Rattle.kob_broker.specs.Denial.{Denied, Done, Refused, denial_naming, denial_of, describes_cluster, describes_group, describes_topic, first_unmet, is_met, question, verdict, is_granted, Verdict, Check, denial_code, rights}
-pub use Rattle.kob_broker.specs.Step.{Outcome, after, after_write, body, effect, effect_by, named, partition_in, reasons_against, refusal, RunsAlike, StepsAlike, replies_of, state_after, step, step_by, CreateTopics, DeleteGroups, DeleteRecords, DeleteTopics, Fetch, ListOffsets, OffsetCommit, OffsetFetch}
+pub use Rattle.kob_broker.specs.Denial.{Denied, Done, Refused, denial_naming, denial_of, describes_cluster, describes_group, describes_topic, first_unmet, is_met, question, verdict, is_granted, Verdict, Check, denial_code, rights, end_at, first_reason}
 pub use Rattle.kob_broker.specs.Justice.{HoldsInForce, access_after, changed_access, in_force_at, AgreeOnAccess, EachBlamed, EachGranted, EachJust, IsBlame, IsDenial, IsJust, LeavesUnlessDone, SameDenial, SomeGranted, AreThose, EachLists, Lists, ListsGroups, ListsTopics, StandsIn, SaysNothingSpent, asked_in, asked_of, is_spent, Code}
 pub use Rattle.kob_broker.specs.Groups.{groups_shown, offset_commit_reasons}
 pub use Rattle.kob_broker.specs.Topics.{counted, metadata_of, metadata_reasons, metadata_request}
-pub use Rattle.kob_broker.specs.Reasons.{end_at, first_reason}
 pub use Rattle.kob_broker.specs.State.{State, open_state, state_map, Binding, Settings, Event, Reason, Reply, Request}
 pub use Rattle.kob_catalog.proofs.Topics.{topics_of_same_log, has_topic_mapped, listed_mapped, partition_count_mapped, partition_of_mapped, with_partition_mapped, without_topic_mapped, has_there, written_is_read}
 pub use Rattle.kob_catalog.specs.Kept.{new_topic, catalog_log, empty_log, topics_of, with_log}

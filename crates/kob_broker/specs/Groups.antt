@@ -8,8 +8,7 @@ use Rattle.kob_rights.specs.declared.on_groups.DeleteGroups.{DeleteGroups}
 use Rattle.kob_rights.specs.declared.on_groups.OffsetCommit.{OffsetCommit}
 use Rattle.kob_rights.specs.declared.on_groups.OffsetFetch.{OffsetFetch}
 use Rattle.kob_rights.specs.declared.reason.Reason.TheVariants as reasons
-use Rattle.kob_broker.specs.Denial.{describes_cluster, describes_group}
-use Rattle.kob_broker.specs.Reasons.{named_reasons}
+use Rattle.kob_broker.specs.Denial.{describes_cluster, describes_group, named_reasons}
 use Rattle.kob_broker.specs.State.{Contents, Event, Reason, State}
 
 module _ {P : Type 0} where

@@ -1,10 +1,8 @@
 pub mod State
 pub mod Denial
-pub mod Reasons
 pub mod Records
 pub mod Topics
 pub mod Groups
 pub mod Bindings
 pub mod Step
-pub mod Change
 pub mod Justice

@@ -1,7 +1,7 @@
 -- What a broker holds, whatever its partitions are. The types that the definitions of the broker
 -- speak of are passed on from here.
 use Rattle.std.specs.Prelude.{ℕ, List, [], map}
-pub use Rattle.kob_authorizer.specs.Contents.{Contents, fresh_contents}
+pub use Rattle.kob_authorizer.specs.Decide.{Contents, fresh_contents}
 use Rattle.kob_authorizer.specs.Creation.{addition}
 pub use Rattle.kob_catalog.specs.Topics.{Topic, has_partition, has_topic, listed, listed_where, partition_count, partition_of, topic_map, topics_map, with_partition, without_topic}
 use Rattle.kob_groups.specs.Groups.{Groups, no_groups}

@@ -27,7 +27,7 @@ impl Broker {
     ghost use Rattle.std.specs.Prelude.{IfOk, IfErr, IsErrOf, OnOk, OnErr, Some, None};
     ghost use Rattle.kob_authorizer.specs.Creation.{create_fault};
     ghost use Rattle.kob_authorizer.specs.declared.fault.CreateFault.TheVariants as limits;
-    ghost use Rattle.kob_broker.specs.Change.{IsReady, Makes, reply_of, state_of, state_with};
+    ghost use Rattle.kob_broker.specs.Step.{IsReady, Makes, reply_of, state_of, state_with};
     ghost use Rattle.kob_broker.specs.Topics.{delete_topics_after};
     ghost use Rattle.kob_broker.specs.Step.{effect, step, replies_of, state_after};
     ghost use Rattle.kob_broker.specs.State.{open_state, settings_of};
@@ -254,7 +254,7 @@ impl Broker {
 }
 
 ghost use Rattle.std.specs.Prelude.{◌≡◌, ◌++◌, ◌∷◌, [], IfOk, IsErrOf, OnOk, Some, None, map};
-ghost use Rattle.kob_authorizer.specs.Contents.{fresh_contents};
+ghost use Rattle.kob_authorizer.specs.Decide.{fresh_contents};
 ghost use Rattle.kob_authorizer.specs.Creation.{create_fault};
 ghost use Rattle.kob_authorizer.specs.declared.fault.CreateFault.TheVariants as limits;
 ghost use Rattle.kob_broker.specs.State.{with_bindings};

@@ -5,8 +5,7 @@
 
 ghost use Rattle.std.specs.List.{All};
 ghost use Rattle.std.specs.Prelude.{◌≡◌, ◌≤◌, ◌+◌, List, false, length};
-ghost use Rattle.kob_authorizer.specs.Contents.{Contents};
-ghost use Rattle.kob_authorizer.specs.Decide.{decide_by_bindings};
+ghost use Rattle.kob_authorizer.specs.Decide.{Contents, decide_by_bindings};
 ghost use Rattle.kob_names.specs.declared.settings.Settings.{Settings};
 ghost use Rattle.kob_rights.specs.Requests.{OffsetsWithin};
 ghost use Rattle.kob_rights.specs.Table.{Check};

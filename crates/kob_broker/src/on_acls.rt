@@ -2,9 +2,9 @@
 
 ghost use Rattle.std.specs.List.{flat_map};
 ghost use Rattle.std.specs.Prelude.{◌≡◌, ◌++◌, ◌∷◌, [], IfOk, IfErr, OnOk, None};
-ghost use Rattle.kob_broker.specs.Change.{MakesFor, state_of};
+ghost use Rattle.kob_broker.specs.Step.{MakesFor, state_of};
 ghost use Rattle.kob_broker.specs.Bindings.{draft_reasons, IsUnlessRefused};
-ghost use Rattle.kob_broker.specs.Reasons.{first_reason};
+ghost use Rattle.kob_broker.specs.Denial.{first_reason};
 ghost use Rattle.kob_rights.specs.declared.request.Request.TheVariants as requests;
 
 use crate::broker::Broker;

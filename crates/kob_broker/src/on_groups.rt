@@ -2,8 +2,7 @@
 
 ghost use Rattle.std.specs.List.{filter};
 ghost use Rattle.std.specs.Prelude.{◌≡◌, IfOk, None, OnErr, is_some};
-ghost use Rattle.kob_broker.specs.Change.{MakesFor, state_of, Makes};
-ghost use Rattle.kob_broker.specs.Step.{refusal, effect};
+ghost use Rattle.kob_broker.specs.Step.{MakesFor, state_of, Makes, refusal, effect};
 ghost use Rattle.kob_broker.specs.Denial.{describes_group};
 ghost use Rattle.kob_broker.specs.Groups.{groups_shown};
 ghost use Rattle.kob_names.specs.TextRules.{group_fault};

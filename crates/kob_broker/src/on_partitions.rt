@@ -1,8 +1,8 @@
 //! What is done about the records of a partition, except for a batch.
 
 ghost use Rattle.std.specs.Prelude.{◌≡◌, IfErr, IfOk, OnOk, Some, true};
-ghost use Rattle.kob_broker.specs.Change.{MakesFor};
-ghost use Rattle.kob_broker.specs.Reasons.{IsUnnamed};
+ghost use Rattle.kob_broker.specs.Step.{MakesFor};
+ghost use Rattle.kob_broker.specs.Denial.{IsUnnamed};
 ghost use Rattle.kob_catalog.specs.Kept.{topics_of};
 ghost use Rattle.kob_catalog.specs.Topics.{has_topic, partition_of};
 ghost use Rattle.kob_rights.specs.declared.request.Request.TheVariants as requests;

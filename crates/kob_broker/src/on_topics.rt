@@ -1,8 +1,7 @@
 //! What is done about topics.
 
 ghost use Rattle.std.specs.Prelude.{◌≡◌, IfOk, None, OnErr, Some};
-ghost use Rattle.kob_broker.specs.Change.{MakesFor, state_of, Makes};
-ghost use Rattle.kob_broker.specs.Step.{refusal, effect};
+ghost use Rattle.kob_broker.specs.Step.{MakesFor, state_of, Makes, refusal, effect};
 ghost use Rattle.kob_broker.specs.Topics.{metadata_request};
 ghost use Rattle.kob_partition.specs.Retained.{retained_meaning};
 ghost use Rattle.kob_rights.specs.declared.request.Request.TheVariants as requests;

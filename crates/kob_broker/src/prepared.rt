@@ -2,7 +2,7 @@
 
 ghost use Rattle.std.specs.Prelude.{◌≡◌};
 ghost use Rattle.kob_rights.specs.Reason.{code_of};
-ghost use Rattle.kob_broker.specs.Change.{reply_of};
+ghost use Rattle.kob_broker.specs.Step.{reply_of};
 
 use kob_authorizer::{PreparedCreate, PreparedDelete};
 use kob_catalog::PreparedTopic;

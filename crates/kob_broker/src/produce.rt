@@ -1,10 +1,10 @@
 //! A batch appended to a partition, and the ids of producers.
 
 ghost use Rattle.std.specs.Prelude.{◌≡◌, IfOk, Some};
-ghost use Rattle.kob_broker.specs.Change.{MakesFor, state_of};
+ghost use Rattle.kob_broker.specs.Step.{MakesFor, state_of};
 ghost use Rattle.kob_broker.specs.Records.{IsBatchOutcome, outcome_told, prepared_for};
 ghost use Rattle.kob_broker.specs.Records.{batch_reasons, is_bad_sequence, is_unknown_producer};
-ghost use Rattle.kob_broker.specs.Reasons.{first_reason};
+ghost use Rattle.kob_broker.specs.Denial.{first_reason};
 ghost use Rattle.kob_rights.specs.declared.request.Request.TheVariants as requests;
 
 use crate::batch_outcome::BatchOutcome;

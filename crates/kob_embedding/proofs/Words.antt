@@ -18,11 +18,10 @@ pub use Rattle.kob_outbox.specs.declared.fault.RecordFault.{RecordFault}
 pub use Rattle.kob_partition.specs.Retained.{Retained}
 pub use Rattle.kob_pipeline.proofs.BrokerSteps.{legal_is_history}
 pub use Rattle.kob_pipeline.proofs.PlanLaws.{holds_a_prefix}
-pub use Rattle.kob_pipeline.specs.Delivery.{ReachesInOrder}
-pub use Rattle.kob_pipeline.specs.Premises.{ArePrivate}
+pub use Rattle.kob_pipeline.specs.Plans.{ReachesInOrder}
+pub use Rattle.kob_pipeline.specs.View.{ArePrivate, view_after}
 pub use Rattle.kob_pipeline.specs.Served.{served_to}
-pub use Rattle.kob_pipeline.specs.View.{view_after}
-pub use Rattle.kob_router.specs.Partitioner.{dispatch_of}
+pub use Rattle.kob_router.specs.Run.{dispatch_of}
 pub use Rattle.kob_router.specs.Line.{AreServed}
 pub use Rattle.kob_router.specs.Tick.{scene_of}
 pub use Rattle.kob_router.specs.declared.dispatch.Target.{Target}

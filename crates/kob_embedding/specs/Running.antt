@@ -4,8 +4,8 @@ use Rattle.kob_inbox.specs.Contents.{Contents}
 use Rattle.kob_inbox.specs.declared.fetcher.Fetcher.{Fetcher}
 use Rattle.kob_lines.specs.Relayed.{HasConsumerRun, Relayed, HasServiceRun}
 use Rattle.kob_outbox.specs.Contents.{Event}
-use Rattle.kob_pipeline.specs.Delivery.{ReachesInOrder}
-use Rattle.kob_router.specs.Partitioner.{dispatch_of}
+use Rattle.kob_pipeline.specs.Plans.{ReachesInOrder}
+use Rattle.kob_router.specs.Run.{dispatch_of}
 use Rattle.kob_router.specs.declared.line.Call.{Call}
 use Rattle.kob_shared.specs.declared.journal.Entry.{Entry}
 use Rattle.kob_router.specs.Line.{AreServed}

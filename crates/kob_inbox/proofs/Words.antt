@@ -1,8 +1,7 @@
 -- The names that the proofs cite, passed on from one place.
 pub use Rattle.kob_inbox.specs.Run.{first_partitions, cursor_of, standing, with_cursor, with_progress, IsConsumerRun, IsDue, Move, after, after_answer, after_done, behind, due, taken_of}
-pub use Rattle.kob_inbox.specs.Contents.{Contents, Intake, IsOnce, Arrival, answer_to, arrivals, intake_of, is_there, taken_in, with_intake, with_record, arrival_from, placed_intake}
+pub use Rattle.kob_inbox.specs.Contents.{Contents, Intake, IsOnce, Arrival, answer_to, arrivals, intake_of, is_there, taken_in, with_intake, with_record, arrival_from, placed_intake, fault_of}
 pub use Rattle.kob_inbox.specs.Database.{HasLast, IsInbox, contents, Holds, IsReadable, IsShown, contents_in, inbox_tree, key_in, key_value, placed_row, shown_intake, inbox, inbox_schema, inbox_table}
-pub use Rattle.kob_inbox.specs.Faults.{fault_of}
 pub use Rattle.kob_inbox.specs.Run.Move.{Called, Restarted}
 pub use Rattle.kob_inbox.specs.Tick.{Hears, Scene, Ticks, state_of}
 pub use Rattle.kob_inbox.specs.declared.cursors.Cursor.{Cursor}
@@ -30,7 +29,7 @@ pub use Rattle.kob_rights.specs.declared.request.Request.{Request}
 pub use Rattle.kob_rights.specs.declared.request.Request.TheVariants.{Fetch, OffsetCommit}
 pub use Rattle.kob_router.specs.Route.{event_id}
 pub use Rattle.kob_router.specs.Line.{Adds}
-pub use Rattle.kob_router.specs.Partitioner.{same_place}
+pub use Rattle.kob_router.specs.Run.{same_place}
 pub use Rattle.kob_router.specs.declared.line.Call.{Call}
 pub use Rattle.kob_router.specs.declared.line.Delivery.TheVariants.{Lost}
 pub use Rattle.kob_router.specs.declared.place.Place.{Place}

@@ -10,6 +10,11 @@ use Rattle.kob_inbox.specs.declared.inbox.TakeIn.{TakeIn}
 use Rattle.kob_inbox.specs.declared.inbox.TakeIn.TheVariants.{Taken, Seen, NoEventId}
 use Rattle.kob_inbox.specs.declared.inbox_row.InboxRow.{InboxRow}
 use Rattle.kob_inbox.specs.declared.origin.Origin.{Origin}
+use Rattle.sqlite.specs.declared.error.Error.{Error}
+use Rattle.sqlite.specs.declared.error.Error.TheVariants.{SqliteFailure}
+use Rattle.sqlite.specs.declared.error.ErrorCode.TheVariants.{OutOfMemory}
+use Rattle.kob_inbox.specs.declared.fault.InboxFault.{InboxFault}
+use Rattle.kob_inbox.specs.declared.fault.InboxFault.TheVariants.{Memory, Store}
 
 -- an event that was taken in: its id in lower-case hyphenated form, where it stood, what it said
 pub record Intake : Type 0 where
@@ -99,3 +104,10 @@ arrival_from from message = record {
   offset = from.offset;
   message = message;
 }
+
+-- What becomes of an error of the database.
+
+-- lack of memory is told apart from all else
+abbrev pub fault_of : Error → InboxFault
+fault_of (SqliteFailure OutOfMemory) = Memory
+fault_of _ = Store

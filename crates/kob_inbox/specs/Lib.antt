@@ -1,5 +1,4 @@
 pub mod Contents
 pub mod Database
-pub mod Faults
 pub mod Run
 pub mod Tick

@@ -1,7 +1,7 @@
 -- What a consumer may do to a broker and an inbox.
 use Rattle.std.specs.Prelude.{ℕ, zero, suc, List, [], ◌∷◌, ◌++◌, true, if◌then◌else◌, Option, None, Some, ◌≡◌, ◌+◌, ◌%◌, ◌≤◌, length, take, false, slice_get, unwrap_or}
 use Rattle.kob_router.specs.declared.place.Place.{Place}
-use Rattle.kob_router.specs.Partitioner.{same_place}
+use Rattle.kob_router.specs.Run.{same_place}
 use Rattle.kob_inbox.specs.declared.cursors.Cursor.{Cursor}
 use Rattle.kob_inbox.specs.declared.cursors.Standing.{Standing}
 pub use Rattle.kob_names.specs.declared.record.Record.{Record}

@@ -15,7 +15,7 @@ pub enum InboxFault {
 
 impl From<Error> for InboxFault {
     ghost use Rattle.std.specs.Prelude.{◌≡◌};
-    ghost use Rattle.kob_inbox.specs.Faults.{fault_of};
+    ghost use Rattle.kob_inbox.specs.Contents.{fault_of};
 
     ghost from_gives = { λ error fault. fault ≡ fault_of error };
 

@@ -1,6 +1,5 @@
 -- The names that the lemmas cite, passed on from one place.
-pub use Rattle.kob_broker.specs.Change.{state_of}
-pub use Rattle.kob_broker.specs.Step.{step}
+pub use Rattle.kob_broker.specs.Step.{state_of, step}
 pub use Rattle.kob_inbox.specs.Run.{IsConsumerRun, Move, after, calls_of, start}
 pub use Rattle.kob_inbox.specs.Run.Move.{Called, Restarted}
 pub use Rattle.kob_inbox.specs.Tick.{Scene, Ticks}
@@ -23,16 +22,14 @@ pub use Rattle.kob_rights.specs.declared.event.Event.{Event}
 pub use Rattle.kob_rights.specs.declared.reply.Reply.{Reply}
 pub use Rattle.kob_rights.specs.declared.request.Request.{Request}
 pub use Rattle.kob_router.proofs.Runs.{calls_append, run_append}
-pub use Rattle.kob_router.specs.Partitioner.{Dispatching}
-pub use Rattle.kob_router.specs.Run.{Hand, IsRecordable, IsRouterRun, State, after_acknowledgement, events_of}
+pub use Rattle.kob_router.specs.Run.{Dispatching, Hand, IsRecordable, IsRouterRun, State, after_acknowledgement, events_of}
 pub use Rattle.kob_router.specs.Run.Move.{Recorded, Swept, Took}
 pub use Rattle.kob_router.specs.Tick.{IsFirst, IsOfTick, IsOneTick}
 pub use Rattle.kob_router.specs.declared.line.Call.{Call}
 pub use Rattle.kob_router.specs.declared.line.Delivery.{Delivery}
 pub use Rattle.kob_router.specs.declared.line.Delivery.TheVariants.{Delivered, Lost}
 pub use Rattle.kob_shared.proofs.Journals.{reply_fits}
-pub use Rattle.kob_shared.specs.Journals.{Record, after_event, entry, outcome_of}
-pub use Rattle.kob_shared.specs.Sessions.{Seat, event_by}
+pub use Rattle.kob_shared.specs.Journals.{Record, after_event, entry, outcome_of, Seat, event_by}
 pub use Rattle.std.proofs.Common.{List, None, Option, Some, [], ap, append-nil, arith, false, inl, inr, length, refl, subst, sym, take, true, ℕ, ◌++◌, ◌+◌, ◌∙◌, ◌∷◌, ◌≡◌, ◌⊎◌}
 pub use Rattle.std.proofs.lemmas.Bool.Decides.{nat_tests}
 pub use Rattle.std.proofs.lemmas.List.Elements.{All-cons, All-nil, filter-append}

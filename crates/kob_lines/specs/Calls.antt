@@ -3,8 +3,7 @@ use Rattle.std.specs.Prelude.{◌≡◌, ◌⊎◌, ◌≤◌, ℕ, List, [], �
 use Rattle.std.specs.List.{All}
 use Rattle.kob_router.specs.Line.{AreServed, Served}
 use Rattle.kob_router.specs.declared.line.Call.{Call}
-use Rattle.kob_shared.specs.Journals.{Record}
-use Rattle.kob_shared.specs.Sessions.{Seat, IsServed, event_by}
+use Rattle.kob_shared.specs.Journals.{Record, Seat, IsServed, event_by}
 use Rattle.kob_shared.specs.declared.journal.Entry.{Entry}
 use Rattle.kob_rights.specs.declared.reply.Reply.{Reply}
 use Rattle.kob_rights.specs.declared.request.Request.{Request}

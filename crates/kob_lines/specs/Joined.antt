@@ -5,8 +5,7 @@ use Rattle.std.proofs.lemmas.List.{map-append}
 use Rattle.std.proofs.lemmas.List.Elements.{All-append, All-nil}
 use Rattle.kob_router.specs.Line.{AreServed, Served}
 use Rattle.kob_router.specs.declared.line.Call.{Call}
-use Rattle.kob_shared.specs.Journals.{Record}
-use Rattle.kob_shared.specs.Sessions.{Seat}
+use Rattle.kob_shared.specs.Journals.{Record, Seat}
 use Rattle.kob_lines.specs.Calls.{ArePassedOn, IsEntryOf, Journals, KeepsSeat, PassesCallsOn, served_in}
 
 pub served_append : (xs ys : List Call) (ss ts : List Served) → AreServed xs ss → AreServed ys ts

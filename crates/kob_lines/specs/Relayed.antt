@@ -1,12 +1,11 @@
 -- An outbox, and the router that sends its rows.
 use Rattle.std.specs.Prelude.{◌≡◌, ℕ, List, length, option_map}
 use Rattle.kob_outbox.specs.Contents.{Contents, Event, empty, up_to}
-use Rattle.kob_router.specs.Partitioner.{dispatch_of, Dispatching}
+use Rattle.kob_router.specs.Run.{dispatch_of, Dispatching, IsRouterRun, events_of}
 use Rattle.kob_router.specs.Tick.{IsFirst, IsOneTick, Ticks, hand_of, scene_of}
 use Rattle.kob_router.specs.declared.line.Call.{Call}
 use Rattle.kob_router.specs.declared.sender.Sender.{Sender}
 use Rattle.kob_router.specs.declared.tick.Tick.{Tick}
-use Rattle.kob_router.specs.Run.{IsRouterRun, events_of}
 use Rattle.kob_inbox.specs.declared.fetcher.Subscription.{Subscription}
 use Rattle.kob_inbox.specs.Run.{IsConsumerRun}
 use Rattle.kob_router.specs.Run as routers

@@ -1,13 +1,12 @@
 //! A line over a borrowed broker.
 
 ghost use Rattle.std.specs.Prelude.{◌≡◌, [], None, IfOk, OnErr, OnOk};
-ghost use Rattle.kob_broker.specs.Change.{state_of};
-ghost use Rattle.kob_broker.specs.Step.{step};
+ghost use Rattle.kob_broker.specs.Step.{state_of, step};
 ghost use Rattle.kob_lines.specs.Calls.{IsServedAtMostOnce};
 ghost use Rattle.kob_partition.specs.Retained.{retained_meaning};
 ghost use Rattle.kob_rights.specs.Requests.{Fits};
 ghost use Rattle.kob_router.specs.Line.{Adds, IsFaithful};
-ghost use Rattle.kob_shared.specs.Sessions.{event_by};
+ghost use Rattle.kob_shared.specs.Journals.{event_by};
 
 use crate::calls::Calls;
 use crate::event::event_of;

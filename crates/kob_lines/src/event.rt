@@ -1,7 +1,7 @@
 //! The event that a line makes of a request.
 
 ghost use Rattle.std.specs.Prelude.{◌≡◌, IfOk};
-ghost use Rattle.kob_shared.specs.Sessions.{event_by};
+ghost use Rattle.kob_shared.specs.Journals.{event_by};
 
 use kob_names::{Host, PlainValue, Principal};
 use kob_rights::{Event, Request};

@@ -4,8 +4,7 @@ ghost use Rattle.std.specs.Prelude.{◌≡◌, ◌≤◌, [], None, IfErr, IfOk,
 ghost use Rattle.std.specs.Prelude.{length};
 ghost use Rattle.kob_lines.specs.Calls.{IsServedAtMostOnce, IsServedIfHeard};
 ghost use Rattle.kob_router.specs.Line.{Adds, IsFaithful};
-ghost use Rattle.kob_shared.specs.Journals.{after_event, outcome_of};
-ghost use Rattle.kob_shared.specs.Sessions.{IsStaleOnlyBelow, event_by};
+ghost use Rattle.kob_shared.specs.Journals.{after_event, outcome_of, IsStaleOnlyBelow, event_by};
 ghost use Rattle.kob_rights.specs.Requests.{Fits, OffsetsWithin};
 
 use crate::calls::Calls;

@@ -5,7 +5,7 @@ ghost use Rattle.kob_outbox.specs.Contents.{Event, stored_event, next_seq};
 ghost use Rattle.kob_outbox.specs.declared.change.Change.{Change};
 ghost use Rattle.kob_outbox.specs.declared.event.OutboxEvent.{OutboxEvent};
 ghost use Rattle.kob_lines.specs.Relayed.{HasServiceRun};
-ghost use Rattle.kob_router.specs.Partitioner.{Dispatching};
+ghost use Rattle.kob_router.specs.Run.{Dispatching};
 ghost use Rattle.kob_router.specs.Run.Move.{Recorded, Restarted, Swept};
 ghost use Rattle.kob_router.specs.Run.{IsRecordable, IsRouterRun, Move, State, after, start};
 ghost use Rattle.kob_router.specs.Tick.{IsOneTick, Scene, Ticks};

@@ -1,8 +1,6 @@
 pub mod Types
 pub mod View
 pub mod Served
-pub mod Delivery
-pub mod Premises
 pub mod Noting
 pub mod Steps
 pub mod Plans

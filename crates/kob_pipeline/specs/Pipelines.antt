@@ -1,7 +1,7 @@
 -- What a pipeline leaves of a plan, how it may fail, and how the laws speak of what is left.
 use Rattle.std.specs.Prelude.{◌≡◌, ℕ, ◌+◌, List, length, Some, option_map, slice_get, [], map}
 use Rattle.std.specs.List.{AllZip, AllByRecursion}
-use Rattle.kob_broker.specs.Change.{state_of}
+use Rattle.kob_broker.specs.Step.{state_of}
 use Rattle.kob_pipeline.specs.Types.{State, Retained, BeginsWith, EachIsAnswered, IsKept, IsTornAt, events_in, notes_of, told_in, NamesOneOf, Noted, WorkerEnd, Plan, Settings, Record, records_of, stored_row, dispatch_of, Place, taken_in, placed_intake, taken_of, InboxEnd, OutboxEnd, ConsumerPlan, Service}
 use Rattle.kob_rights.specs.declared.event.Event.{Event}
 use Rattle.kob_shared.specs.Journals.{IsLegal, opened_by}
@@ -12,8 +12,7 @@ use Rattle.kob_pipeline.specs.declared.fault.PipelineFault.{PipelineFault}
 use Rattle.kob_pipeline.specs.declared.fault.PipelineFault.TheVariants.{TooManyWorkers, JournalFull, Stopped, Torn}
 use Rattle.kob_inbox.specs.declared.inbox_row.InboxRow.{InboxRow}
 use Rattle.kob_pipeline.specs.View.{view_after}
-use Rattle.kob_pipeline.specs.Delivery.{IsTakenInOrder, IsWaitingOrSent}
-use Rattle.kob_pipeline.specs.Plans.{rows_of_service}
+use Rattle.kob_pipeline.specs.Plans.{IsTakenInOrder, IsWaitingOrSent, rows_of_service}
 use Rattle.kob_pipeline.specs.declared.end.WorkerEnd.TheVariants.{Inbox, Outbox}
 use Rattle.kob_outbox.specs.Contents as outboxes
 use Rattle.kob_inbox.specs.Contents as inboxes

@@ -19,12 +19,12 @@ pub use Rattle.kob_rights.specs.declared.reply.Body.{Body}
 pub use Rattle.kob_rights.specs.declared.reply.Reply.{Reply}
 pub use Rattle.kob_rights.specs.declared.request.Request.{Request}
 pub use Rattle.kob_rights.specs.declared.request.Request.TheVariants.{DeleteGroups, DeleteTopics, Fetch, InitProducerId, OffsetCommit, OffsetFetch, Produce}
-pub use Rattle.kob_router.specs.Partitioner.{Dispatching, dispatch_of, same_place}
+pub use Rattle.kob_router.specs.Run.{Dispatching, dispatch_of, same_place}
 pub use Rattle.kob_router.specs.Line.{AreServed, Served}
 pub use Rattle.kob_router.specs.declared.line.Call.{Call}
 pub use Rattle.kob_router.specs.declared.place.Place.{Place}
 pub use Rattle.kob_shared.specs.Fleets.{BeginsWith, EachIsAnswered, IsAnswered, IsKept, IsTornAt, events_of_script}
 pub use Rattle.kob_shared.specs.Runs.{NamesOneOf, events_in, notes_of, told_in}
-pub use Rattle.kob_shared.specs.Sessions.{AtDesk, Noted}
+pub use Rattle.kob_shared.specs.Journals.{AtDesk, Noted}
 pub use Rattle.kob_shared.specs.declared.faults.CallFault.{CallFault}
 pub use Rattle.kob_shared.specs.declared.journal.Entry.{Entry}

@@ -8,8 +8,8 @@ ghost use Rattle.kob_broker.specs.State.{State};
 ghost use Rattle.kob_partition.specs.Retained.{Retained};
 ghost use Rattle.kob_shared.specs.Journals.{IsLegal, opened_by};
 ghost use Rattle.kob_shared.specs.declared.journal.Entry.{Entry};
-ghost use Rattle.kob_pipeline.specs.Premises.{Commits, IsSoleCommitter, IsSoleProducer, Produces};
-ghost use Rattle.kob_pipeline.specs.Premises.{ActsAlone, IsReserved, NoSuperUser};
+ghost use Rattle.kob_pipeline.specs.View.{Commits, IsSoleCommitter, IsSoleProducer, Produces};
+ghost use Rattle.kob_pipeline.specs.View.{ActsAlone, IsReserved, NoSuperUser};
 
 /// A worker is the only producer of a topic under three conditions. At each place of a legal
 /// journal the bindings in force let only one principal write to the topic. Only this worker acts

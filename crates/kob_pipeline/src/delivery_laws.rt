@@ -5,17 +5,15 @@ ghost use Rattle.std.specs.List.{AllByRecursion};
 ghost use Rattle.kob_inbox.specs.Run.{taken_of, Move as ConsumerMove, State as ConsumerState};
 ghost use Rattle.kob_inbox.specs.declared.fetcher.Subscription.{Subscription};
 ghost use Rattle.kob_partition.specs.Retained.{records_of};
-ghost use Rattle.kob_router.specs.Partitioner.{dispatch_of};
-ghost use Rattle.kob_router.specs.Run.{Move as RouterMove, State as RouterState};
+ghost use Rattle.kob_router.specs.Run.{dispatch_of, Move as RouterMove, State as RouterState};
 ghost use Rattle.kob_router.specs.declared.dispatch.Target.{Target};
 ghost use Rattle.kob_router.specs.declared.place.Place.{Place};
 ghost use Rattle.kob_shared.specs.declared.journal.Entry.{Entry};
-ghost use Rattle.kob_pipeline.specs.Delivery.{IsTakenInOrder, IsDelivered, rows_of, ReachesInOrder};
-ghost use Rattle.kob_pipeline.specs.Delivery.{IsWaitingOrSent};
+ghost use Rattle.kob_pipeline.specs.Plans.{IsTakenInOrder, IsDelivered, rows_of, ReachesInOrder};
+ghost use Rattle.kob_pipeline.specs.Plans.{IsWaitingOrSent};
 ghost use Rattle.kob_pipeline.specs.Served.{IsConsumerPart, IsServicePart};
-ghost use Rattle.kob_pipeline.specs.Premises.{ArePrivate, IsNeverDeleted, IsSoleCommitter};
-ghost use Rattle.kob_pipeline.specs.Premises.{IsSoleProducer};
-ghost use Rattle.kob_pipeline.specs.View.{IsHistory, View, opening_view};
+ghost use Rattle.kob_pipeline.specs.View.{ArePrivate, IsNeverDeleted, IsSoleCommitter};
+ghost use Rattle.kob_pipeline.specs.View.{IsSoleProducer, IsHistory, View, opening_view};
 
 /// Take a partition of a topic to which only the service sends, and that nobody deletes. Its event
 /// ids, each at its first offset, are a prefix of those of the recorded rows that are routed there.

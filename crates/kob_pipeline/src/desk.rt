@@ -1,7 +1,7 @@
 //! Desks, which are sessions with notes, for the workers of a plan.
 
 ghost use Rattle.std.specs.Prelude.{◌≡◌, IfOk};
-ghost use Rattle.kob_shared.specs.Sessions.{nothing};
+ghost use Rattle.kob_shared.specs.Journals.{nothing};
 
 use kob_names::{Host, PlainValue, Principal};
 use kob_shared::{Desk, SharedBroker};

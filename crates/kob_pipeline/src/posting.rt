@@ -5,11 +5,10 @@ ghost use Rattle.std.specs.Prelude.{◌-◌, OnErr, OnOk, false, length, option_
 ghost use Rattle.std.specs.Prelude.{unwrap_or};
 ghost use Rattle.kob_outbox.specs.Contents.{id_text, stored_row, first_bad, later_than};
 ghost use Rattle.kob_outbox.specs.Contents.{is_recorded, next_seq};
-ghost use Rattle.kob_router.specs.Partitioner.{dispatch_of};
-ghost use Rattle.kob_router.specs.Run.{start};
+ghost use Rattle.kob_router.specs.Run.{dispatch_of, start};
 ghost use Rattle.kob_router.specs.Tick.{IsFirst, hand_of, state_of};
 ghost use Rattle.kob_pipeline.specs.declared.plan.ServiceStep.TheVariants as steps;
-ghost use Rattle.kob_pipeline.specs.Delivery.{IsPrefixOf};
+ghost use Rattle.kob_pipeline.specs.Plans.{IsPrefixOf};
 ghost use Rattle.kob_pipeline.specs.Steps.{ServiceGoesOn, IsServiceStep, Leads, Steps, standing};
 
 use crate::end::OutboxEnd;
@@ -34,7 +33,7 @@ pub(crate) struct Posting {
 }
 
 impl Posting {
-    ghost use Rattle.kob_shared.specs.Sessions.{AtDesk};
+    ghost use Rattle.kob_shared.specs.Journals.{AtDesk};
 
     /// A service's database and router, before its first step.
     pub(crate) fn open(alloc: Global, service: &Service) -> Result<Posting, StepFault>

@@ -16,9 +16,8 @@ use Rattle.kob_policy_text.specs.declared.item.Target.{Target}
 use Rattle.kob_policy_text.specs.declared.origin.Origin.{Origin}
 use Rattle.kob_policy_text.specs.declared.origin.Omission.{Omission}
 use Rattle.kob_policy_text.specs.Lines.{Says}
-use Rattle.kob_authorizer.specs.Contents.{Contents}
+use Rattle.kob_authorizer.specs.Decide.{Contents, decide, Question}
 use Rattle.kob_authorizer.specs.Creation.{Added, addition}
-use Rattle.kob_authorizer.specs.Decide.{decide, Question}
 use Rattle.kob_names.specs.declared.verdict.Verdict.{Verdict}
 use Rattle.kob_names.specs.Access.{is_granted}
 use Rattle.kob_script.specs.declared.fault.ScriptError.TheVariants as script_error

@@ -8,9 +8,8 @@ use Rattle.kob_router.specs.declared.sender.Sender.{Sender}
 use Rattle.kob_router.specs.declared.tick.Tick.{Tick}
 use Rattle.kob_router.specs.declared.tick.Tick.TheVariants.{Moved, Idle, Repeat, Stopped}
 use Rattle.kob_router.specs.declared.tick.StopReason.{StopReason}
-use Rattle.kob_router.specs.Partitioner.{Dispatching, dispatch_of, place_of, has_place, with_sequence_for}
+use Rattle.kob_router.specs.Run.{Dispatching, dispatch_of, place_of, has_place, with_sequence_for, Call, Denied, Done, InitProducerId, Produce, ProduceRequest, Producer, Refused, Reply, Request, Sequence, Hand, State, Move, IsRouterRun, IsDone, calls_of, next_row, IsSending, after_acknowledgement}
 use Rattle.kob_router.specs.Line.{one_more}
-use Rattle.kob_router.specs.Run.{Call, Denied, Done, InitProducerId, Produce, ProduceRequest, Producer, Refused, Reply, Request, Sequence, Hand, State, Move, IsRouterRun, IsDone, calls_of, next_row, IsSending, after_acknowledgement}
 use Rattle.kob_router.specs.Run.Move.{Called, Took}
 use Rattle.kob_router.specs.declared.tick.StopReason.TheVariants as stop
 use Rattle.kob_rights.specs.declared.reply.Body.TheVariants as bodies

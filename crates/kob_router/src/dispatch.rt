@@ -3,7 +3,7 @@
 ghost use Rattle.std.specs.Prelude.{◌≡◌, ◌<◌, IfOk};
 ghost use Rattle.kob_outbox.specs.Contents.{stored_row};
 ghost use Rattle.kob_router.specs.Route.{OkIfSome};
-ghost use Rattle.kob_router.specs.Partitioner.{dispatch_of, place_of};
+ghost use Rattle.kob_router.specs.Run.{dispatch_of, place_of};
 
 use crate::fault::RecordFault;
 use crate::partitioner::partition_of;

@@ -9,7 +9,7 @@ ghost use Rattle.kob_rights.specs.declared.on_partitions.Produce.{Produce as Pro
 ghost use Rattle.kob_rights.specs.declared.reply.Reply.{Reply};
 ghost use Rattle.kob_rights.specs.declared.request.Request.{Request};
 ghost use Rattle.kob_rights.specs.declared.request.Request.TheVariants.{Produce};
-ghost use Rattle.kob_router.specs.Partitioner.{Dispatching, dispatch_of, place_of};
+ghost use Rattle.kob_router.specs.Run.{Dispatching, dispatch_of, place_of};
 ghost use Rattle.kob_router.specs.Route.{event_id, key_of, message_of};
 ghost use Rattle.kob_router.specs.Run.{IsRouterRun, IsSending, KeepsRow, MayCall, Move, State};
 ghost use Rattle.kob_router.specs.declared.dispatch.Dispatch.{Dispatch};

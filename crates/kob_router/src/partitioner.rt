@@ -1,8 +1,8 @@
 //! The partition of a key, as Kafka's default partitioner picks it.
 
 ghost use Rattle.std.specs.Prelude.{◌≡◌, ◌<◌, ◌+◌, ◌≤◌, length, slice_index};
-ghost use Rattle.kob_router.specs.Partitioner.{last_mix, murmur2, partition_of, with_bytes};
-ghost use Rattle.kob_router.specs.Partitioner.{with_rest, with_upper_bits, with_word, word};
+ghost use Rattle.kob_router.specs.Run.{last_mix, murmur2, partition_of, with_bytes};
+ghost use Rattle.kob_router.specs.Run.{with_rest, with_upper_bits, with_word, word};
 
 const FACTOR: u32 = 0x5bd1e995;
 

@@ -1,7 +1,7 @@
 //! Partitions of topics, by name and number.
 
 ghost use Rattle.std.specs.Prelude.{◌≡◌};
-ghost use Rattle.kob_router.specs.Partitioner.{same_place};
+ghost use Rattle.kob_router.specs.Run.{same_place};
 
 use kob_names::{PlainValue, Text};
 use std::alloc::{AllocError, Global};

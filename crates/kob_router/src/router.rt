@@ -34,9 +34,8 @@ impl Model for Router {
 impl Router {
     ghost use Rattle.std.specs.Prelude.{None, [], option_map};
     ghost use Rattle.kob_outbox.specs.Contents.{Contents};
-    ghost use Rattle.kob_router.specs.Partitioner.{dispatch_of};
+    ghost use Rattle.kob_router.specs.Run.{dispatch_of, after};
     ghost use Rattle.kob_router.specs.Run.Move.{Restarted};
-    ghost use Rattle.kob_router.specs.Run.{after};
     ghost use Rattle.kob_router.specs.Tick.{IsFirst, IsOneTick, Ticks, hand_of, scene_of, state_of};
 
     /// A router for topics with this number of partitions each, 1 to 1,000. It has no producer id,

@@ -41,7 +41,7 @@ pub struct Sender {
 
 impl Sender {
     ghost use Rattle.std.specs.Prelude.{[], Some, None};
-    ghost use Rattle.kob_router.specs.Partitioner.{dispatch_of};
+    ghost use Rattle.kob_router.specs.Run.{dispatch_of};
     ghost use Rattle.kob_router.specs.Tick.{Acknowledges, HasHand, Introduces, Requests, Takes};
     ghost use Rattle.kob_router.specs.Tick.{IsAtMostOne, IsHeld, IsOneTick, IsPlaced, Ticks};
     ghost use Rattle.kob_router.specs.Tick.{hand_of, scene_of, state_of};

@@ -1,8 +1,7 @@
 //! The next sequence on each partition.
 
 ghost use Rattle.std.specs.Prelude.{◌≡◌, [], OnErr, OnOk, true};
-ghost use Rattle.kob_router.specs.Partitioner.{has_place, with_sequence_for, sequence_of};
-ghost use Rattle.kob_router.specs.Partitioner.{after_use};
+ghost use Rattle.kob_router.specs.Run.{has_place, with_sequence_for, sequence_of, after_use};
 
 use crate::place::{Place, is_same_place};
 use kob_names::PlainValue;

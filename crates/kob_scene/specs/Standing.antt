@@ -1,9 +1,8 @@
 -- The broker after the requests of a scene, and the topics that exist then.
 use Rattle.std.specs.List.{fold}
 use Rattle.std.specs.Prelude.{ℕ, Bool, not, List, [], ◌∷◌, ◌++◌, filter}
-use Rattle.kob_broker.specs.Change.{state_of}
+use Rattle.kob_broker.specs.Step.{state_of, step}
 use Rattle.kob_broker.specs.State.{State, open_state}
-use Rattle.kob_broker.specs.Step.{step}
 use Rattle.kob_names.specs.Same.{same_text}
 use Rattle.kob_partition.specs.Retained.{Retained, retained_meaning}
 use Rattle.kob_rights.specs.declared.event.Event.{Event}

@@ -2,7 +2,7 @@
 
 ghost use Rattle.std.specs.Prelude.{◌≡◌, filter, IfOk, OnOk};
 ghost use Rattle.std.specs.List.{fold};
-ghost use Rattle.kob_broker.specs.Change.{state_of};
+ghost use Rattle.kob_broker.specs.Step.{state_of};
 ghost use Rattle.kob_broker.specs.State.{open_state};
 ghost use Rattle.kob_scene.specs.Standing.{after_event, after_step, end_of, is_other, seen};
 ghost use Rattle.kob_scene.specs.Standing.{topics_after, topics_done};

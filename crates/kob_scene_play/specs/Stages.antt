@@ -15,7 +15,7 @@ use Rattle.kob_shared.specs.Journals.{opened_by}
 use Rattle.std.specs.Fmt.{decimal}
 use Rattle.kob_scene_text.specs.PrintedRequest.{entry_text}
 use Rattle.kob_shared.specs.declared.journal.Entry.{Entry}
-use Rattle.kob_pipeline.specs.Premises.{ArePrivate, IsBreach}
+use Rattle.kob_pipeline.specs.View.{ArePrivate, IsBreach}
 use Rattle.kob_pipeline.specs.declared.premises.Breach.{Breach}
 use Rattle.kob_pipeline.specs.declared.premises.Premise.{Premise}
 use Rattle.kob_router.specs.Line.{one_more}

@@ -8,7 +8,7 @@ use Rattle.kob_inbox.specs.declared.fetcher.Fetcher.{Fetcher}
 use Rattle.kob_inbox.specs.declared.tick.Tick.{Tick as ConsumerAnswer}
 use Rattle.kob_lines.specs.declared.lossy.Loss.{Loss}
 use Rattle.kob_outbox.specs.Contents.{Contents as OutboxContents, id_text, stored_row, first_bad, first_after, state_at, up_to, is_recorded, next_seq}
-use Rattle.kob_router.specs.Partitioner.{dispatch_of}
+use Rattle.kob_router.specs.Run.{dispatch_of}
 use Rattle.kob_router.specs.declared.line.Call.{Call}
 use Rattle.kob_router.specs.declared.sender.Sender.{Sender}
 use Rattle.kob_router.specs.declared.tick.Tick.{Tick as RouterAnswer}

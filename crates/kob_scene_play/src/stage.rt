@@ -2,7 +2,7 @@
 
 ghost use Rattle.std.specs.Prelude.{◌≡◌, ◌++◌, ◌∷◌, [], IfOk, OnOk, map};
 ghost use Rattle.std.specs.Option.{option_copied};
-ghost use Rattle.kob_broker.specs.Change.{state_of};
+ghost use Rattle.kob_broker.specs.Step.{state_of};
 ghost use Rattle.kob_broker.specs.State.{settings_of};
 ghost use Rattle.kob_scene_play.specs.Stages.{IsOpened, declared_consumer, declared_service};
 ghost use Rattle.kob_scene_play.specs.Stages.{consumer_numbered, name_by, service_numbered};

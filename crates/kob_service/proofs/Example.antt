@@ -79,7 +79,7 @@ placed n = ap place_of (goes_here n)
 
 -- what is in hand is sent
 is_sent : (s : router.State) (id base n : ℕ) → s.producer ≡ Some (producer id) → s.hand ≡ Some (held n)
-    → Rattle.kob_router.specs.Partitioner.sequence_of s.sequences here ≡ base
+    → Rattle.kob_router.specs.Run.sequence_of s.sequences here ≡ base
     → router.IsSending (dispatch_of target) s (sends id base n)
 is_sent s id base n has_producer has_hand next = record {
   producer = producer id;

@@ -17,17 +17,15 @@ pub use Rattle.kob_outbox.specs.declared.change.Change.{Change}
 pub use Rattle.kob_outbox.specs.declared.event.OutboxEvent.{OutboxEvent}
 pub use Rattle.kob_partition.specs.Retained.{records_of, Retained}
 pub use Rattle.kob_pipeline.proofs.PlanLaws.{holds_a_prefix}
-pub use Rattle.kob_pipeline.specs.Delivery.{IsDelivered, IsTakenInOrder, ReachesInOrder, rows_of, rows_of_aggregate, taken_ids, told_id}
-pub use Rattle.kob_pipeline.specs.Premises.{ActsAlone, ArePrivate, Commits, IsNeverDeleted, IsPrivate, IsReserved, IsSoleCommitter, NoSuperUser, Produces}
+pub use Rattle.kob_pipeline.specs.Plans.{IsDelivered, IsTakenInOrder, ReachesInOrder, rows_of, rows_of_aggregate, taken_ids, told_id}
+pub use Rattle.kob_pipeline.specs.View.{ActsAlone, ArePrivate, Commits, IsNeverDeleted, IsPrivate, IsReserved, IsSoleCommitter, NoSuperUser, Produces, IsHistory, IsSameView, View, opening_view, with_batch, with_commit, with_producer, without_topic}
 pub use Rattle.kob_pipeline.specs.Served.{IsConsumerPart, IsServicePart}
-pub use Rattle.kob_pipeline.specs.View.{IsHistory, IsSameView, View, opening_view, with_batch, with_commit, with_producer, without_topic}
 pub use Rattle.kob_rights.specs.declared.code.Code.TheVariants.{TopicAuthorizationFailed}
 pub use Rattle.kob_rights.specs.declared.reply.Reply.{Reply}
 pub use Rattle.kob_rights.specs.declared.reply.Reply.TheVariants.{Denied, Done}
 pub use Rattle.kob_rights.specs.declared.request.Request.{Request}
 pub use Rattle.kob_rights.specs.declared.request.Request.TheVariants.{CreateAcls, CreateTopics, DeleteTopics, Fetch, InitProducerId, OffsetCommit, OffsetFetch, Produce}
-pub use Rattle.kob_router.specs.Partitioner.{dispatch_of, place_of}
-pub use Rattle.kob_router.specs.Run.{Hand, batch_of}
+pub use Rattle.kob_router.specs.Run.{dispatch_of, place_of, Hand, batch_of}
 pub use Rattle.kob_router.specs.declared.dispatch.Target.{Target}
 pub use Rattle.kob_router.specs.declared.line.Call.{Call}
 pub use Rattle.kob_router.specs.declared.place.Place.{Place}

@@ -1,9 +1,8 @@
 -- The names that the lemmas cite, passed on from one place.
 pub use Rattle.kob_authorizer.proofs.Creating.{added_rises, in_turn_at_once}
 pub use Rattle.kob_broker.proofs.Steps.{replies_of_append, reply_at, state_after_append}
-pub use Rattle.kob_broker.specs.Change.{state_of}
+pub use Rattle.kob_broker.specs.Step.{state_of, replies_of, step, step_by}
 pub use Rattle.kob_broker.specs.State.{State, settings_of, with_bindings}
-pub use Rattle.kob_broker.specs.Step.{replies_of, step, step_by}
 pub use Rattle.kob_broker.specs.declared.broker.Broker.{Broker}
 pub use Rattle.kob_names.specs.declared.settings.Settings.{Settings}
 pub use Rattle.kob_partition.specs.Retained.{Retained, retained_meaning}
@@ -12,8 +11,7 @@ pub use Rattle.kob_rights.specs.declared.event.Event.{Event}
 pub use Rattle.kob_rights.specs.declared.reply.Reply.{Reply}
 pub use Rattle.kob_shared.specs.Fleets.{BeginsWith, DifferAt, EachIsAnswered, Follows, IsAnswered, IsDifference, IsFirstDifference, IsFleet, IsKept, IsRising, IsTornAt, RisesWithin, asked_of_all, claims, claims_of, entries_asked, entries_told, events_of_script, mine, mine_from}
 pub use Rattle.kob_shared.specs.Runs.{IsAsNoted, IsFirstFault, IsFullOnlyPast, IsNamedWithin, IsTaken, IsTear, IsTornOnlyWhere, NamesFirstFault, NamesOneOf, NamesWorkerWithin, events_in, notes_of, told_in}
-pub use Rattle.kob_shared.specs.Journals.{Continuation, EachEntryIsJust, EachEntryIsOneStep, IsContinued, IsFresh, IsLegal, IsReached, IsSound, Record, after_event, begun_after, continued_by, entries_made, entry, entry_limit, events_of, opened_by, outcome_of}
-pub use Rattle.kob_shared.specs.Sessions.{IsServed, Noted, event_by}
+pub use Rattle.kob_shared.specs.Journals.{Continuation, EachEntryIsJust, EachEntryIsOneStep, IsContinued, IsFresh, IsLegal, IsReached, IsSound, Record, after_event, begun_after, continued_by, entries_made, entry, entry_limit, events_of, opened_by, outcome_of, IsServed, Noted, event_by}
 pub use Rattle.kob_shared.specs.declared.compare.Difference.{Difference}
 pub use Rattle.kob_shared.specs.declared.faults.CallFault.{CallFault}
 pub use Rattle.kob_shared.specs.declared.fleet_stop.FleetStop.{FleetStop}

@@ -1,4 +1,3 @@
 pub mod Journals
-pub mod Sessions
 pub mod Fleets
 pub mod Runs

@@ -3,8 +3,7 @@ use Rattle.std.specs.Prelude.{◌≡◌, ℕ, ◌+◌, ◌<◌, ◌≤◌, List,
 use Rattle.kob_rights.specs.declared.event.Event.{Event}
 use Rattle.kob_shared.specs.declared.journal.Receipt.{Receipt}
 use Rattle.kob_names.specs.declared.settings.Settings.{Settings}
-use Rattle.kob_shared.specs.Journals.{Record, entry_limit}
-use Rattle.kob_shared.specs.Sessions.{Noted}
+use Rattle.kob_shared.specs.Journals.{Record, entry_limit, Noted}
 use Rattle.kob_shared.specs.declared.compare.Difference.{Difference}
 use Rattle.kob_shared.specs.declared.faults.CallFault.{CallFault}
 use Rattle.kob_shared.specs.declared.fleet_stop.FleetStop.{FleetStop}

@@ -2,7 +2,7 @@
 
 ghost use Rattle.std.specs.Prelude.{◌≡◌, ◌<◌, ◌^◌, length, vec_len, vec_capacity, IfErr, OnOk};
 ghost use Rattle.std.specs.Prelude.{OnErr};
-ghost use Rattle.kob_shared.specs.Sessions.{IsHeard, nothing, IsStaleOnlyBelow};
+ghost use Rattle.kob_shared.specs.Journals.{IsHeard, nothing, IsStaleOnlyBelow};
 
 use crate::faults::CallFault;
 use crate::journal::Receipt;
@@ -26,7 +26,7 @@ pub struct Desk<'a> {
 impl<'a> Model for Desk<'a> {
     ghost use Rattle.std.specs.Prelude.{◌≡◌, length};
     ghost use Rattle.kob_shared.specs.Fleets.{RisesWithin};
-    ghost use Rattle.kob_shared.specs.Sessions.{AtDesk};
+    ghost use Rattle.kob_shared.specs.Journals.{AtDesk};
 
     ghost Value = { AtDesk };
 

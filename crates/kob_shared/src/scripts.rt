@@ -3,7 +3,7 @@
 ghost use Rattle.std.specs.Prelude.{◌≡◌, ◌≤◌, ◌<◌, ◌↔◌, length, vec_len, IfOk, IfErr, IsTrue};
 ghost use Rattle.std.specs.Prelude.{IsErrOf};
 ghost use Rattle.std.specs.List.{AllZip};
-ghost use Rattle.kob_broker.specs.Change.{state_of};
+ghost use Rattle.kob_broker.specs.Step.{state_of};
 ghost use Rattle.kob_broker.specs.State.{settings_of};
 ghost use Rattle.kob_shared.specs.Journals.{IsFresh, opened_by, IsSound, entry_limit, worker_limit};
 ghost use Rattle.kob_shared.specs.Fleets.{Follows, asked_of_all, entries_asked, events_of_script};

@@ -3,7 +3,7 @@
 ghost use Rattle.std.specs.Prelude.{◌≡◌, ◌+◌, ◌<◌, ◌≤◌, IfOk, IfErr, OnErr};
 ghost use Rattle.kob_rights.specs.Requests.{OffsetsWithin, Fits};
 ghost use Rattle.kob_shared.specs.Journals.{IsContinued, IsPast, IsSound, entry_limit, place_limit};
-ghost use Rattle.kob_shared.specs.Sessions.{Seat, event_by, IsServed, IsStaleOnlyBelow};
+ghost use Rattle.kob_shared.specs.Journals.{Seat, event_by, IsServed, IsStaleOnlyBelow};
 
 use crate::continued::Continued;
 use crate::faults::{CallFault, PlacesUsedUp};
@@ -183,7 +183,7 @@ pub struct Session<'a> {
 }
 
 impl<'a> Model for Session<'a> {
-    ghost use Rattle.kob_shared.specs.Sessions.{Seat};
+    ghost use Rattle.kob_shared.specs.Journals.{Seat};
 
     ghost Value = { Seat };
 

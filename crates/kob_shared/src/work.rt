@@ -22,7 +22,7 @@ pub struct Done<E> {
 
 /// What a worker of a fleet does in a thread of its own.
 pub trait Work {
-    ghost use Rattle.kob_shared.specs.Sessions.{Noted};
+    ghost use Rattle.kob_shared.specs.Journals.{Noted};
 
     /// What all workers share.
     type Shared;

@@ -2,9 +2,8 @@
 pub use Rattle.bstr.proofs.lemmas.LineLemmas.{EndsLine, lines-append}
 pub use Rattle.kob_broker.proofs.Lifting.{runs_alike}
 pub use Rattle.kob_broker.proofs.Steps.{replies_one_more, state_one_more}
-pub use Rattle.kob_broker.specs.Change.{state_of}
+pub use Rattle.kob_broker.specs.Step.{state_of, replies_of, state_after, step}
 pub use Rattle.kob_broker.specs.State.{State, open_state}
-pub use Rattle.kob_broker.specs.Step.{replies_of, state_after, step}
 pub use Rattle.kob_partition.specs.Meaning.{Meaning}
 pub use Rattle.kob_partition.specs.Retained.{retained_meaning}
 pub use Rattle.kob_rights.specs.declared.event.Event.{Event}

@@ -3,8 +3,7 @@
 ghost use Rattle.std.specs.Prelude.{◌≡◌, ◌<◌, ◌≤◌, List, [], ◌∷◌, Ok, length};
 ghost use Rattle.std.specs.Prelude.{vec_len, vec_capacity};
 ghost use Rattle.std.specs.Prelude.{IfOk, OnOk, OnErr};
-ghost use Rattle.kob_broker.specs.Change.{state_of};
-ghost use Rattle.kob_broker.specs.Step.{step, replies_of};
+ghost use Rattle.kob_broker.specs.Step.{state_of, step, replies_of};
 ghost use Rattle.kob_partition.specs.Retained.{retained_meaning};
 ghost use Rattle.kob_rights.specs.declared.event.Event as event;
 ghost use Rattle.kob_script.specs.Checks.{checked};

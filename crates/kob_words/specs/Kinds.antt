@@ -2,16 +2,8 @@
 use Rattle.std.specs.Prelude.{ℕ, List, [], ◌∷◌, Option, codes, Some, if◌then◌else◌}
 use Rattle.std.specs.List.{find}
 use Rattle.std.specs.Str.{str_eq_ignore_ascii_case}
-use Rattle.kob_names.specs.declared.kinds.Operation.{Operation}
-use Rattle.kob_names.specs.declared.kinds.Operation.TheVariants.{All, Read, Write, Create, Delete, Alter, Describe, ClusterAction, DescribeConfigs, AlterConfigs, IdempotentWrite}
-use Rattle.kob_names.specs.declared.kinds.ResourceKind.{ResourceKind}
-use Rattle.kob_names.specs.declared.kinds.ResourceKind.TheVariants.{Topic, Group, Cluster, TransactionalId}
+use Rattle.kob_names.specs.Types.{Operation, All, Read, Write, Create, Delete, Alter, Describe, ClusterAction, DescribeConfigs, AlterConfigs, IdempotentWrite, ResourceKind, Topic, Group, Cluster, TransactionalId, FilterPattern, PatternKind, Literal, Prefixed, Permission, Allow, Deny}
 use Rattle.std.specs.Option.{option_map}
-use Rattle.kob_names.specs.declared.filter.FilterPattern.{FilterPattern}
-use Rattle.kob_names.specs.declared.kinds.PatternKind.{PatternKind}
-use Rattle.kob_names.specs.declared.kinds.PatternKind.TheVariants.{Literal, Prefixed}
-use Rattle.kob_names.specs.declared.kinds.Permission.{Permission}
-use Rattle.kob_names.specs.declared.kinds.Permission.TheVariants.{Allow, Deny}
 use Rattle.kob_names.specs.declared.filter.FilterPattern.TheVariants as filter
 
 -- the first of these with a name, in any ASCII case

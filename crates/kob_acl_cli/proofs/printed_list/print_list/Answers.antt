@@ -2,7 +2,7 @@ use Rattle.std.proofs.Common.{arith, append_assoc, take}
 use Rattle.std.proofs.lemmas.Grind.{common_steps}
 use Rattle.std.proofs.lemmas.Str.{IsUtf8-from_ascii}
 use Rattle.kob_acl_cli.proofs.AsciiList.{list_ascii_more}
-use Rattle.kob_acl_cli.specs.PrintedList.{list_text}
+use Rattle.kob_acl_cli.specs.Lines.{list_text}
 use Rattle.kob_acl_cli.proofs.printed_list.print_list.Goals as goal
 
 pub loop-serial-preserved : goal.loop-serial-preserved

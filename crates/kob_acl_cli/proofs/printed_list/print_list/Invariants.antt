@@ -1,6 +1,6 @@
 use Rattle.std.proofs.Common.{◌≡◌, take}
 use Rattle.std.specs.Str.{IsAscii}
-use Rattle.kob_acl_cli.specs.PrintedList.{list_text}
+use Rattle.kob_acl_cli.specs.Lines.{list_text}
 use Rattle.kob_acl_cli.proofs.printed_list.print_list.Given as goal
 
 abbrev pub invariant-loop-serial : goal.invariant-loop-serial
