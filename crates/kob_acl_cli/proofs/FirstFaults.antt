@@ -2,8 +2,7 @@
 use Rattle.std.proofs.Common.{◌≡◌, ◌+◌, ◌<◌, ℕ, Bool, true, List, [], ◌∷◌, ◌++◌, length, get_or, take, drop, filter, sym, inr}
 use Rattle.std.proofs.lemmas.List.{take-append-drop, drop_more}
 use Rattle.std.proofs.lemmas.List.Elements.{filter-append}
-use Rattle.kob_acl_cli.specs.Commands.{faults}
-use Rattle.kob_acl_cli.specs.Parts.{IsFirstFault, bad_names, misread_words}
+use Rattle.kob_acl_cli.specs.Commands.{faults, IsFirstFault, bad_names, misread_words}
 use Rattle.kob_acl_cli.specs.Mixes.{has_one_action, refusals}
 use Rattle.kob_acl_cli.specs.declared.args.CliArgs.{CliArgs}
 use Rattle.kob_acl_cli.specs.declared.fault.CommandFault.{CommandFault}

@@ -3,8 +3,8 @@
 ghost use Rattle.std.specs.Prelude.{◌≡◌, ◌++◌, ◌∷◌, [], map, OnOk, IfOk};
 ghost use Rattle.kob_names.specs.declared.kinds.Operation.TheVariants.{IdempotentWrite};
 ghost use Rattle.kob_names.specs.declared.kinds.ResourceKind.TheVariants.{Topic};
-ghost use Rattle.kob_acl_cli.specs.Targets.{access, accesses, accesses_to, cluster};
-ghost use Rattle.kob_acl_cli.specs.Targets.{convenience_accesses, targets_named, topic_operations};
+ghost use Rattle.kob_acl_cli.specs.Commands.{access, accesses, accesses_to, cluster};
+ghost use Rattle.kob_acl_cli.specs.Commands.{convenience_accesses, targets_named, topic_operations};
 
 use crate::args::CliArgs;
 use crate::mixes::has_convenience;

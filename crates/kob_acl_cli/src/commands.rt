@@ -2,7 +2,7 @@
 
 ghost use Rattle.std.specs.Prelude.{◌≡◌, ◌++◌, [], map, false, IfOk, IfErr, IsErrOf, OnOk};
 ghost use Rattle.kob_acl_cli.specs.Commands as commands;
-ghost use Rattle.kob_acl_cli.specs.Parts.{IsFirstFault};
+ghost use Rattle.kob_acl_cli.specs.Commands.{IsFirstFault};
 ghost use Rattle.kob_acl_cli.specs.Mixes as mixes;
 
 use crate::access::accesses;

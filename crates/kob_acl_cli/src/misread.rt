@@ -2,9 +2,9 @@
 
 ghost use Rattle.std.specs.Prelude.{◌≡◌, [], ◌∷◌, filter, IfOk, IfErr};
 ghost use Rattle.std.specs.Option.{option_to_list};
-ghost use Rattle.kob_acl_cli.specs.Parts.{Reads, IsFirstFault, bad_names, is_no_principal};
-ghost use Rattle.kob_acl_cli.specs.Parts.{is_no_host, is_no_operation, is_no_pattern_type};
-ghost use Rattle.kob_acl_cli.specs.Parts.{operations_named, pattern_type};
+ghost use Rattle.kob_acl_cli.specs.Commands.{Reads, IsFirstFault, bad_names, is_no_principal};
+ghost use Rattle.kob_acl_cli.specs.Commands.{is_no_host, is_no_operation, is_no_pattern_type};
+ghost use Rattle.kob_acl_cli.specs.Commands.{operations_named, pattern_type};
 
 use crate::fault::CommandFault;
 use kob_names::{

@@ -1,7 +1,7 @@
 //! Which options may be used together, and which others they need.
 
 ghost use Rattle.std.specs.Prelude.{◌≡◌, [], None, IfSome};
-ghost use Rattle.kob_acl_cli.specs.Parts.{IsFirstFault};
+ghost use Rattle.kob_acl_cli.specs.Commands.{IsFirstFault};
 ghost use Rattle.kob_acl_cli.specs.Mixes as mixes;
 
 use crate::args::CliArgs;

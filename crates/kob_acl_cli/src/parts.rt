@@ -3,9 +3,9 @@
 ghost use Rattle.std.specs.Prelude.{◌≡◌, [], codes, filter, IfErr, IfOk, OnOk};
 ghost use Rattle.kob_names.specs.declared.kinds.Operation.TheVariants.{All};
 ghost use Rattle.kob_names.specs.declared.kinds.Permission.TheVariants.{Allow, Deny};
-ghost use Rattle.kob_acl_cli.specs.Parts.{IsFirstFault, Reads, bad_names, is_no_host};
-ghost use Rattle.kob_acl_cli.specs.Parts.{is_no_operation, misread_words, operations_named};
-ghost use Rattle.kob_acl_cli.specs.Parts.{or_default, parts};
+ghost use Rattle.kob_acl_cli.specs.Commands.{IsFirstFault, Reads, bad_names, is_no_host};
+ghost use Rattle.kob_acl_cli.specs.Commands.{is_no_operation, misread_words, operations_named};
+ghost use Rattle.kob_acl_cli.specs.Commands.{or_default, parts};
 
 use crate::args::CliArgs;
 use crate::fault::CommandFault;

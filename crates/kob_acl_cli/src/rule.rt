@@ -1,7 +1,7 @@
 //! The product of principals, hosts and operations on resources.
 
 ghost use Rattle.std.specs.Prelude.{◌≡◌, ◌++◌, OnOk, IfOk};
-ghost use Rattle.kob_acl_cli.specs.Targets as rules;
+ghost use Rattle.kob_acl_cli.specs.Commands as rules;
 
 use crate::access::Access;
 use crate::parts::Holders;

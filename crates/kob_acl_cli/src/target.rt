@@ -1,7 +1,7 @@
 //! The resources that options name.
 
 ghost use Rattle.std.specs.Prelude.{◌≡◌, ◌++◌, map, OnOk, IfOk};
-ghost use Rattle.kob_acl_cli.specs.Targets.{target, cluster, targets_named, targets};
+ghost use Rattle.kob_acl_cli.specs.Commands.{target, cluster, targets_named, targets};
 
 use crate::args::CliArgs;
 use kob_names::{FilterPattern, Items, PlainValue, ResourceKind, Text};

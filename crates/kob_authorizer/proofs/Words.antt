@@ -7,8 +7,7 @@ pub use Rattle.kob_authorizer.specs.declared.hits.Hits.{Hits}
 pub use Rattle.kob_authorizer.specs.declared.index.Index.{Index}
 pub use Rattle.kob_authorizer.specs.declared.patterns.Patterns.{Patterns}
 pub use Rattle.kob_names.proofs.SameBindings.{permission_decides, resource_decides, same_binding_decides}
-pub use Rattle.kob_names.specs.Access.{covers, matches, matches_by, reaches, is_granted}
-pub use Rattle.kob_names.specs.Binding.{Binding}
+pub use Rattle.kob_names.specs.Binding.{covers, matches, matches_by, reaches, is_granted, Binding}
 pub use Rattle.kob_names.specs.Filter.{takes}
 pub use Rattle.kob_names.specs.Same.{same_resource, same_text}
 pub use Rattle.kob_names.specs.declared.filter.BindingFilter.{BindingFilter}
@@ -20,8 +19,7 @@ pub use Rattle.kob_names.specs.declared.verdict.Verdict.{Verdict}
 pub use Rattle.kob_prefix_tree.proofs.HeldLaws.{along_has_literal, along_has_prefixed, held_added_other, held_added_same, held_empty, held_removed_all_other, held_removed_all_same, walk_only}
 pub use Rattle.kob_prefix_tree.proofs.WalkLemmas.{none_sought, taken_of_second}
 pub use Rattle.kob_prefix_tree.specs.Held.{Held, serials_of, with_serial, without_serials, without_in_turn, serials_along, PrefixMap, added, held, removed_all, walk_of}
-pub use Rattle.kob_prefix_tree.specs.Contents.{part_of}
-pub use Rattle.kob_prefix_tree.specs.WalkLeft.{left_of}
+pub use Rattle.kob_prefix_tree.specs.Contents.{part_of, left_of}
 pub use Rattle.kob_prefix_tree.specs.declared.kind.PatternKind.{PatternKind}
 pub use Rattle.std.proofs.Common.{All, Bool, Contains, Err, IfSome, IsTrue, List, MatchResult, None, Ok, Option, Result, Some, ap, append-nil, append_assoc, arith, codes, cond, drop, false, get_or, inl, inr, is_some, length, length-append, map, min, nat_eq, not, refl, rules, subst, suc, sym, take, true, vec_len, zero, [], ℕ, ◌&&◌, ◌++◌, ◌+◌, ◌<◌, ◌==◌, ◌||◌, ◌↔◌, ◌∙◌, ◌∷◌, ◌≡◌, ◌≢◌, ◌≤◌, ◌⊎◌}
 pub use Rattle.std.proofs.Math.Bool.{and-false, and-true, or-false, or-true, or_assoc}

@@ -1,9 +1,8 @@
 -- What an authorizer holds.
 use Rattle.std.specs.Prelude.{Bool, List, [], ◌∷◌, ℕ, ◌+◌, ◌≤◌, true, false, ◌&&◌, not, Option, Some, None, ◌≡◌, IsTrue, Contains}
-use Rattle.kob_names.specs.Binding.{Binding}
+use Rattle.kob_names.specs.Binding.{Binding, covers, matches, reaches}
 use Rattle.kob_names.specs.Types.{Operation, ResourceKind, Permission, Allow, Deny, Verdict, Super, AllowedBy, DeniedBy, NoAllow, NoAclFound}
 use Rattle.std.specs.List.{filter, list_any, AllByRecursion}
-use Rattle.kob_names.specs.Access.{covers, matches, reaches}
 use Rattle.kob_names.specs.Same.{same_permission, same_resource, same_text}
 use Rattle.kob_authorizer.specs.declared.question.Question as program
 

@@ -216,8 +216,7 @@ passes_at test entries serial =
 abbrev pub least_passing : (ℕ × Binding → Bool) → List (ℕ × Binding) → List ℕ → Option ℕ
 least_passing test entries serials = reduce min (filter (passes_at test entries) serials)
 
--- the least of these serials whose entries are denies that speak of what is asked, and the least of
--- those whose entries are such allows
+-- the least of these serials whose entries are denies that hit, and the least of such allows
 abbrev pub least_hits : List (ℕ × Binding) → Question → List ℕ → Hits
 least_hits entries question serials = record {
   deny = least_passing (is_hit Deny question) entries serials;

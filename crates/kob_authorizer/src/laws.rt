@@ -6,8 +6,7 @@ ghost use Rattle.kob_authorizer.specs.Creation.{AreDistinct, AreInForce, OnlyAdd
 ghost use Rattle.kob_authorizer.specs.Decide.{decide, decide_by_bindings, Question};
 ghost use Rattle.kob_authorizer.specs.Index.{bindings_left};
 ghost use Rattle.kob_authorizer.specs.Decide.{IsTrueVerdict, NoneHits, NoneMatches};
-ghost use Rattle.kob_names.specs.Binding.{Binding};
-ghost use Rattle.kob_names.specs.Access.{is_granted};
+ghost use Rattle.kob_names.specs.Binding.{Binding, is_granted};
 ghost use Rattle.kob_names.specs.declared.filter.BindingFilter.{BindingFilter};
 ghost use Rattle.kob_names.specs.declared.kinds.Permission.TheVariants.{Allow, Deny};
 ghost use Rattle.kob_names.specs.declared.verdict.Verdict.{Verdict};

@@ -3,7 +3,7 @@
 ghost use Rattle.std.specs.Prelude.{◌≡◌, IfOk, OnOk, vec_items};
 ghost use Rattle.std.specs.List.{fold};
 ghost use Rattle.std.specs.Option.{option_map};
-ghost use Rattle.kob_prefix_tree.specs.WalkLeft.{left_of};
+ghost use Rattle.kob_prefix_tree.specs.Contents.{left_of};
 ghost use Rattle.kob_authorizer.specs.Index.{no_patterns, patterns_of, tree_of};
 ghost use Rattle.kob_authorizer.specs.Index.{with_entry, with_pattern, listed_by};
 ghost use Rattle.kob_authorizer.specs.Index.{serials_beside, without_removal};

@@ -5,7 +5,7 @@ use Rattle.std.specs.Option.{option_map}
 use Rattle.std.specs.List.{list_any}
 use Rattle.kob_names.specs.declared.kinds.Operation.TheVariants.{Describe}
 pub use Rattle.kob_names.specs.declared.verdict.Verdict.{Verdict}
-pub use Rattle.kob_names.specs.Access.{is_granted}
+pub use Rattle.kob_names.specs.Binding.{is_granted}
 use Rattle.kob_authorizer.specs.Decide.{decide, Question, question_of}
 pub use Rattle.kob_rights.specs.Table.{Check, on_cluster, on_group, on_topic, denial_code, rights}
 pub use Rattle.kob_rights.specs.declared.reply.Reply.TheVariants.{Denied, Done, Refused}
@@ -42,8 +42,7 @@ module _ {P : Type 0} (m : Meaning P) where
   end_at None = 0
   end_at (Some partition) = m.end partition
 
--- Which requests are denied, and how, and what a principal may describe: by the event, the super
--- users, the switch and the bindings in force alone.
+-- Which requests are denied, what may be described: by event, super users, switch and bindings.
 
 -- what is asked of the authorizer for an alternative
 abbrev pub question : Event → Check → Question

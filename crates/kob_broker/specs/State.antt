@@ -1,5 +1,4 @@
--- What a broker holds, whatever its partitions are. The types that the definitions of the broker
--- speak of are passed on from here.
+-- What a broker holds, whatever its partitions are. The types it speaks of are passed on here.
 use Rattle.std.specs.Prelude.{ℕ, List, [], map}
 pub use Rattle.kob_authorizer.specs.Decide.{Contents, fresh_contents}
 use Rattle.kob_authorizer.specs.Creation.{addition}

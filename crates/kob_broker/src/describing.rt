@@ -2,7 +2,7 @@
 
 ghost use Rattle.std.specs.Prelude.{◌≡◌};
 ghost use Rattle.kob_authorizer.specs.Decide.{decide, question_of};
-ghost use Rattle.kob_names.specs.Access.{is_granted};
+ghost use Rattle.kob_names.specs.Binding.{is_granted};
 ghost use Rattle.kob_broker.specs.Denial.{describes_cluster, describes_group, describes_topic};
 
 use kob_authorizer::Authorizer;

@@ -2,7 +2,7 @@
 
 ghost use Rattle.std.specs.Prelude.{◌≡◌, IfOk};
 ghost use Rattle.std.specs.List.{list_any};
-ghost use Rattle.kob_names.specs.Access.{is_granted};
+ghost use Rattle.kob_names.specs.Binding.{is_granted};
 ghost use Rattle.kob_broker.specs.Denial.{verdicts_view};
 
 use kob_names::{Items, Verdict};

@@ -13,8 +13,7 @@ abbrev pub lends_log : MutBor (List LogKept) → ℕ → Option (MutBor LogKept)
 lends_log topic partition r =
     LendsIf topic_row log_row topic r (slice_set topic.now partition) topic.now
 
--- the partition of that number of the topic of that name is what was left behind r, and after a
--- refusal the catalog stays as it is
+-- the partition is what was left behind r, and after a refusal the catalog stays as it is
 abbrev pub lends_named : MutBor CatalogKept → List ℕ → ℕ → Result (MutBor LogKept) PartitionFault
     → Fml
 lends_named catalog name partition r =

@@ -64,8 +64,7 @@ pub data Move : Type 0 where
   -- a call; of the records that were heard so many are taken in
   Called : (call : Call) (count : ℕ) → Move
 
--- the request that is due on a partition that stands so: its position is asked for first, records
--- that were passed are committed, and else the next ones are fetched
+-- what is due on a partition: its position, else a commit of what was passed, else the next fetch
 abbrev pub due : Subscription → Place → Option Standing → Request
 due t place None =
     OffsetFetch (record { group = t.group; topic = place.topic; partition = place.partition })
@@ -119,8 +118,7 @@ taken_from (Fetch asked) (bodies.Records records) count =
     arrivals (place_at asked.topic asked.partition) (take count records)
 taken_from request body count = []
 
--- the cursors then: a position is what is committed, or 0 where nothing is; records that are taken
--- in move it behind them; and what was committed is no longer due
+-- a position is what is committed, or 0; what is taken in moves it; what was committed is not due
 abbrev pub cursors_after : List Cursor → Request → Body → ℕ → List Cursor
 cursors_after cursors (OffsetFetch asked) (bodies.Commit committed) count =
     with_cursor cursors (record {

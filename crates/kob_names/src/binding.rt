@@ -1,8 +1,7 @@
 //! Bindings: drafts that break no rule.
 
 ghost use Rattle.std.specs.Prelude.{◌≡◌, ◌↔◌, IsTrue, None};
-ghost use Rattle.kob_names.specs.Access.{covers};
-ghost use Rattle.kob_names.specs.Binding.{draft_fault, same_binding};
+ghost use Rattle.kob_names.specs.Binding.{covers, draft_fault, same_binding};
 ghost use Rattle.kob_names.specs.TextRules.{OkUnlessFault};
 
 use crate::draft::{BindingFault, Draft};

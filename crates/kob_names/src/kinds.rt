@@ -1,7 +1,7 @@
 //! The parts of a binding: kinds of resources, operations, kinds of patterns and permissions.
 
 ghost use Rattle.std.specs.Prelude.{◌≡◌};
-ghost use Rattle.kob_names.specs.Access.{reaches, is_implied};
+ghost use Rattle.kob_names.specs.Binding.{reaches, is_implied};
 
 use crate::plain_value::PlainValue;
 use std::alloc::{AllocError, Global};

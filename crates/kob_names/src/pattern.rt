@@ -1,7 +1,7 @@
 //! Patterns: which names of a kind of resource a binding matches.
 
 ghost use Rattle.std.specs.Prelude.{◌≡◌, IfOk};
-ghost use Rattle.kob_names.specs.Access.{matches};
+ghost use Rattle.kob_names.specs.Binding.{matches};
 
 use crate::kinds::PatternKind;
 use crate::plain_value::PlainValue;

@@ -1,7 +1,7 @@
 //! The authorizer's verdicts.
 
 ghost use Rattle.std.specs.Prelude.{◌≡◌};
-ghost use Rattle.kob_names.specs.Access.{is_granted};
+ghost use Rattle.kob_names.specs.Binding.{is_granted};
 
 use crate::plain_value::PlainValue;
 use std::alloc::{AllocError, Global};

@@ -4,8 +4,7 @@ use Rattle.std.specs.Coded.{Coded, code_by, coded×, coded_list, coded_option, c
 use Rattle.std.specs.Map.{set_value}
 use Rattle.kob_names.specs.Same.{same_text}
 
--- the names with their values, in order of insertion, for how many more there is room, how many holes
--- stand where entries went, and which name stands at each place
+-- names with values in order of insertion, room for more, holes of entries gone, names by place
 pub record Ordered (V : Type 0) : Type 0 where
   pub entries : List (List ℕ × V)
   pub room : ℕ

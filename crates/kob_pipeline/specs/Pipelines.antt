@@ -89,8 +89,7 @@ outbox_in left = record outboxes.empty { events = map stored_row left.rows.items
 abbrev pub inbox_in : InboxEnd → inboxes.Contents
 inbox_in left = map (λ (row : InboxRow). (placed_intake row).1) left.rows.items
 
--- what the consumer took in from the place, also what it had seen before, is in the order of the
--- partition's records; and what it took in from all its places makes its inbox
+-- what the consumer took in of a place is in order of its records; all of it makes its inbox
 pub record TakesInOrder (plan : Plan) (end : PipelineEnd) (k : ℕ) (consumer : ConsumerPlan)
     (place : Place) : Type 0 where
   pub noted : Noted
@@ -100,8 +99,7 @@ pub record TakesInOrder (plan : Plan) (end : PipelineEnd) (k : ℕ) (consumer : 
   pub order : IsTakenInOrder place (records_at plan end place) (taken_of run.work.moves)
   pub inbox : inbox_in left ≡ taken_in [] (taken_of run.work.moves)
 
--- no row that a service recorded is lost: it stands past the mark in the outbox that is left, or the
--- journal has a PRODUCE of its record that was done
+-- a row recorded stands past the mark in the outbox that is left, or a PRODUCE of it was done
 abbrev pub IsNoneLost : Plan → PipelineEnd → Type 0
 IsNoneLost plan end = (k : ℕ) (service : Service) (left : OutboxEnd)
     → slice_get plan.services.items k ≡ Some service

@@ -116,8 +116,7 @@ pub record IsTakenInOrder (place : Place) (records : List Record) (arrived : Lis
       AllByRecursion (λ (a : Arrival). slice_get records a.offset ≡ Some a.message)
       (from_place place arrived)
 
--- the entry is a PRODUCE of the worker that was done: of the record that the route makes of the
--- row, to the place where the row is routed
+-- the entry is a PRODUCE of the worker, done: of the row's record, to the place of its route
 pub record Sends (route : Dispatching) (worker : ℕ) (row : Event) (e : Entry) : Type 0 where
   pub dispatch : Dispatch
   pub asked : ProduceRequest

@@ -55,8 +55,7 @@ pub record Leads {S T M : Type 0} (does : Doing S T M) (old : Standing S) (what 
   pub done : does old.state what moves served new.state
   pub noted : AreNoted served old.desk new.desk
 
--- a worker made all its steps from the start on, and noted all that it was served, each event for
--- its principal and its host
+-- a worker made all its steps, and noted all it was served, for its principal and its host
 pub record HasWorked {S T M : Type 0} (does : Doing S T M) (start : S) (planned : List T)
     (principal host : List ℕ) (noted : Noted) : Type 0 where
   pub moves : List M

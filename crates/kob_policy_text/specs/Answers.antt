@@ -4,17 +4,14 @@ use Rattle.std.specs.Fmt.{decimal}
 use Rattle.std.specs.List.{list_all, list_any}
 use Rattle.kob_authorizer.specs.Decide.{is_hit, question_of}
 use Rattle.kob_authorizer.specs.Decide as authorizer
-use Rattle.kob_names.specs.Binding.{Binding}
+use Rattle.kob_names.specs.Binding.{Binding, is_granted}
 use Rattle.kob_names.specs.Types.{Describe, Allow, Topic, Verdict}
 use Rattle.kob_names.specs.declared.verdict.Verdict.TheVariants as verdict
-use Rattle.kob_names.specs.Access.{is_granted}
 use Rattle.kob_names.specs.Same.{same_permission}
 use Rattle.kob_rights.specs.Table.{Check, rights}
 use Rattle.kob_rights.specs.declared.event.Event.{Event}
 use Rattle.kob_script.specs.Printed.{verdict_text}
-use Rattle.kob_words.specs.Kinds.{operation_name, resource_name}
-use Rattle.kob_words.specs.PrintedBinding.{binding_text}
-use Rattle.kob_words.specs.PrintedText.{bytes_text}
+use Rattle.kob_words.specs.Words.{operation_name, resource_name, bytes_text, binding_text}
 use Rattle.kob_policy_text.specs.AtHand.{AtHand, asked_at_hand, others_at_hand, with_bindings}
 use Rattle.kob_policy_text.specs.declared.item.LeftOut.{LeftOut}
 use Rattle.kob_policy_text.specs.declared.item.LeftOut.TheVariants as left_out

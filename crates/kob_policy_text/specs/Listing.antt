@@ -11,7 +11,7 @@ use Rattle.bstr.specs.Trim.{trim_start_by, trim_end_by}
 use Rattle.memchr.specs.Find.{first_of, matches, rmatches}
 use Rattle.kob_script.specs.declared.fault.FaultKind.TheVariants.{BadLine, BadWord}
 use Rattle.kob_names.specs.Types.{Operation, ClusterAction, DescribeConfigs, AlterConfigs, IdempotentWrite, PatternKind, Literal, Prefixed, Permission, Allow, Deny, ResourceKind, TransactionalId}
-use Rattle.kob_words.specs.Kinds.{operation_named, resource_named, pattern_named, permission_named}
+use Rattle.kob_words.specs.Words.{operation_named, resource_named, pattern_named, permission_named}
 use Rattle.kob_policy_text.specs.declared.item.Grant.{Grant}
 use Rattle.kob_policy_text.specs.declared.item.Item.{Item}
 use Rattle.kob_policy_text.specs.declared.item.Target.{Target}

@@ -1,7 +1,7 @@
 -- A policy: the bindings of some files in the order in which they are read, the super users, and
 -- whether what no binding matches is open to everyone.
 use Rattle.std.specs.Prelude.{◌≡◌, ◌+◌, ℕ, Bool, false, List, [], ◌∷◌, ◌++◌, remove, Option, Some, None, Result, Ok, Err, is_none, if◌then◌else◌, ◌==◌, position}
-use Rattle.kob_names.specs.Binding.{Binding, draft_fault}
+use Rattle.kob_names.specs.Binding.{Binding, draft_fault, is_granted}
 use Rattle.kob_script.specs.declared.fault.FaultKind.{FaultKind}
 use Rattle.kob_script.specs.declared.fault.FaultKind.TheVariants.{BadName, NoResource}
 use Rattle.kob_script.specs.declared.fault.Fault.{Fault}
@@ -19,7 +19,6 @@ use Rattle.kob_policy_text.specs.Lines.{Says}
 use Rattle.kob_authorizer.specs.Decide.{Contents, decide, Question}
 use Rattle.kob_authorizer.specs.Creation.{Added, addition}
 use Rattle.kob_names.specs.declared.verdict.Verdict.{Verdict}
-use Rattle.kob_names.specs.Access.{is_granted}
 use Rattle.kob_script.specs.declared.fault.ScriptError.TheVariants as script_error
 use Rattle.kob_script.specs.declared.fault.LineError.TheVariants as line_error
 use Rattle.kob_policy_text.specs.declared.item.Item.TheVariants as item

@@ -11,7 +11,7 @@ use Rattle.kob_script.specs.declared.fault.FaultKind.TheVariants.{BadLine, BadWo
 use Rattle.kob_script.specs.declared.fault.Fault.{Fault}
 use Rattle.kob_script.specs.Words.{◌>>=◌, text_of, principal_of, host_of, Word, words_of}
 use Rattle.kob_script.specs.Script.{lines_in}
-use Rattle.kob_words.specs.Kinds.{operation_named, resource_named}
+use Rattle.kob_words.specs.Words.{operation_named, resource_named}
 use Rattle.kob_policy_text.specs.declared.question.Asker.{Asker}
 use Rattle.kob_policy_text.specs.declared.question.Question.{Question}
 use Rattle.kob_policy_text.specs.declared.question.Question.TheVariants.{May, Ask, Who, Sees, Unused, Shadowed}

@@ -4,12 +4,11 @@ pub use Rattle.core.proofs.alloc.Shapes.{after}
 pub use Rattle.core.proofs.atomic.Steps.{Ptr-Good}
 pub use Rattle.kob_prefix_tree.specs.Cells.{KnowsEnd, values_of}
 pub use Rattle.kob_prefix_tree.specs.Tree.{ChangedAt, Entries, behind, entries_below, entries_in, IsNeat, behind_one, count, held_in, siblings, value_at, without, Tree, leaf, node, Contents, Trie, bare, led_by, sibling, void}
-pub use Rattle.kob_prefix_tree.specs.Contents.{contents, end_of, seen, trie_of, EndsAt, IsWay, LeadsNowhere, is_bare, kept_behind, unwound, with_child, held_from}
+pub use Rattle.kob_prefix_tree.specs.Contents.{contents, end_of, seen, trie_of, EndsAt, IsWay, LeadsNowhere, is_bare, kept_behind, unwound, with_child, held_from, unread_of, ahead_of, left_of, longer_prefixes, serials_beyond}
 pub use Rattle.kob_prefix_tree.specs.Held.{Held, has_serials, is_nothing, nothing, serials_of, with_serial, without_serials, has_in_turn, without_in_turn, IsLongestInUse, common_length, prefixes, serials_along, PrefixMap, added, held, removed_all}
 pub use Rattle.kob_prefix_tree.specs.Nodes.{Leads, if_none, last_of, leading_to, linked_row, size, tree_of, with_others}
 pub use Rattle.kob_prefix_tree.specs.Owned.{NodeOf, Pointer, low, node_of, nodes_lent, nodes_own, pointer_codes, way}
 pub use Rattle.kob_prefix_tree.specs.Path.{ArePacked, Parts, key_of}
-pub use Rattle.kob_prefix_tree.specs.WalkLeft.{unread_of, ahead_of, left_of, longer_prefixes, serials_beyond}
 pub use Rattle.kob_prefix_tree.specs.declared.branch.Branch.{Branch}
 pub use Rattle.kob_prefix_tree.specs.declared.cells.Serial.{Serial}
 pub use Rattle.kob_prefix_tree.specs.declared.kind.PatternKind.{PatternKind}

@@ -1,5 +1,4 @@
--- What a key holds, its literal serials and its prefixed ones; the tree as a finite map from keys to
--- these, and what is read off it along a name.
+-- What a key holds; the tree as a finite map from keys to it, and what is read along a name.
 use Rattle.std.specs.Prelude.{ℕ, Bool, false, ◌==◌, if◌then◌else◌, List, [], ◌∷◌, ◌+◌, nat_eq, length, ◌++◌, ◌≡◌, ◌≢◌, ◌≤◌, map, unwrap_or}
 use Rattle.std.specs.List.{list_any, flat_map}
 use Rattle.kob_prefix_tree.specs.declared.kind.PatternKind.{PatternKind}

@@ -6,4 +6,3 @@ pub mod Owned
 pub mod Path
 pub mod Serials
 pub mod Tree
-pub mod WalkLeft

@@ -17,8 +17,7 @@ room_of_first (node item heap c below n after) = 22 - length item.tail
 abbrev pub ArePacked : Tree Item → Type 0
 ArePacked t = 23 * count t ≡ length (key_of t) + room_of_first t
 
--- so many bytes of the tail begin the key, which goes on with the rest, and otherwise than the tail
--- where this goes on
+-- so many bytes of the tail begin the key, which goes on with the rest, unlike the tail if it can
 pub record Parts (tail key : List ℕ) (count : ℕ) (rest : List ℕ) : Type 0 where
   pub within : count ≤ length tail
   pub key_is : key ≡ take count tail ++ rest

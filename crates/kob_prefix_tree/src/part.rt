@@ -1,8 +1,7 @@
 //! The part of a tree whose keys have a common prefix.
 ghost use Rattle.std.specs.Prelude.{◌≡◌, ◌∷◌, ◌++◌, List, ℕ};
 ghost use Rattle.kob_prefix_tree.specs.Held.{serials_of, serials_along};
-ghost use Rattle.kob_prefix_tree.specs.Contents.{held_from, part_of};
-ghost use Rattle.kob_prefix_tree.specs.WalkLeft.{left_of};
+ghost use Rattle.kob_prefix_tree.specs.Contents.{held_from, part_of, left_of};
 
 use crate::kind::PatternKind;
 use crate::place::Place;

@@ -2,8 +2,7 @@
 ghost use Rattle.std.specs.Prelude.{◌≡◌, ◌≢◌, ◌∷◌, ◌++◌, ◌≤◌, ℕ, List, length, IfSome, MatchOption};
 ghost use Rattle.kob_prefix_tree.specs.Held.{nothing, serials_of, IsLongestInUse};
 ghost use Rattle.kob_prefix_tree.specs.Tree.{bare, held_in, IsNeat};
-ghost use Rattle.kob_prefix_tree.specs.Contents.{node_contents, seen};
-ghost use Rattle.kob_prefix_tree.specs.WalkLeft.{unread_of};
+ghost use Rattle.kob_prefix_tree.specs.Contents.{node_contents, seen, unread_of};
 
 use crate::kind::PatternKind;
 use crate::link::Link;

@@ -1,7 +1,7 @@
 //! The serials of one key of one kind.
 ghost use Rattle.std.specs.Prelude.{◌≡◌, [], ◌∷◌, ◌++◌, ◌↔◌, IfOk, IsTrue, MatchOption};
 ghost use Rattle.kob_prefix_tree.specs.Held.{has_in_turn, without_in_turn};
-ghost use Rattle.kob_prefix_tree.specs.WalkLeft.{unread_of};
+ghost use Rattle.kob_prefix_tree.specs.Contents.{unread_of};
 
 use crate::cells::{Cells, Serial};
 use crate::link::Link;

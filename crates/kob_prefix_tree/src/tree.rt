@@ -2,9 +2,8 @@
 ghost use Rattle.std.specs.Prelude.{◌≡◌, ◌∷◌, ◌++◌, ◌+◌, ◌≤◌, length, OnOk, OnErr, IfOk};
 ghost use Rattle.std.specs.FinMap as map;
 ghost use Rattle.kob_prefix_tree.specs.Held.{has_serial, has_serials, serials_of};
-ghost use Rattle.kob_prefix_tree.specs.Contents.{part_of};
+ghost use Rattle.kob_prefix_tree.specs.Contents.{part_of, left_of};
 ghost use Rattle.kob_prefix_tree.specs.Held.{held, added, removed, removed_all, walk_of, IsLevels};
-ghost use Rattle.kob_prefix_tree.specs.WalkLeft.{left_of};
 
 use crate::branch::Branch;
 use crate::kind::PatternKind;

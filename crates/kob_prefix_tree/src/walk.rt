@@ -1,9 +1,8 @@
 //! The serials along a name, one at a time.
 ghost use Rattle.std.specs.Prelude.{◌≡◌, [], ◌++◌};
 ghost use Rattle.std.specs.Iterator.{YieldsFirst, item_count};
-ghost use Rattle.kob_prefix_tree.specs.Contents.{seen};
+ghost use Rattle.kob_prefix_tree.specs.Contents.{seen, left_of, serials_beyond, unread_of};
 ghost use Rattle.kob_prefix_tree.specs.Tree.{held_in};
-ghost use Rattle.kob_prefix_tree.specs.WalkLeft.{left_of, serials_beyond, unread_of};
 
 use crate::kind::PatternKind;
 use crate::place::Place;

@@ -1,4 +1,4 @@
 pub mod Reason
 pub mod Table
 pub mod Requests
-pub use Rattle.kob_names.specs.Access
+pub use Rattle.kob_names.specs.Binding

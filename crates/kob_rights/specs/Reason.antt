@@ -1,5 +1,4 @@
--- The error codes of Kafka's protocol with their numbers and names, and the reasons to refuse a
--- request with their codes and names.
+-- Kafka's error codes with numbers and names, and the reasons to refuse a request with theirs.
 use Rattle.std.specs.Prelude.{List, ℕ, codes}
 use Rattle.kob_rights.specs.declared.code.Code.{Code}
 use Rattle.kob_rights.specs.declared.code.Code.TheVariants.{UnknownTopicOrPartition, InvalidRequest, MessageTooLarge, OffsetOutOfRange, InvalidTopicException, TopicAlreadyExists, InvalidPartitions, UnknownProducerId, InvalidProducerEpoch, OutOfOrderSequenceNumber, InvalidGroupId, GroupIdNotFound, TopicAuthorizationFailed, GroupAuthorizationFailed, ClusterAuthorizationFailed}

@@ -11,8 +11,7 @@ use Rattle.kob_rights.specs.declared.reply.Reply.{Reply}
 abbrev pub one_more : ℕ → ℕ
 one_more count = min (count + 1) 18446744073709551615
 
--- A delivered reply stands in the call that was added. A lost call was added with no reply, or it
--- was not made, which is counted.
+-- A delivered reply stands in the call; a lost call has none, or was not made, which is counted.
 abbrev pub Adds : List Call → List Call → ℕ → ℕ → Request → Delivery → Type 0
 Adds before now unmade then_unmade request (Delivered reply) =
     (now ≡ before ++ record { request = request; heard = Some reply } ∷ []) × (then_unmade ≡ unmade)

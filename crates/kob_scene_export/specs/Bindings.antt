@@ -2,8 +2,7 @@
 use Rattle.std.specs.Prelude.{ℕ, Bool, true, false, ◌&&◌, List, ◌++◌, codes}
 use Rattle.kob_names.specs.Types.{Draft, IdempotentWrite, PatternKind, Literal, Prefixed, Permission, Allow, Deny, ResourceKind, Topic, Group, Cluster, TransactionalId, Pattern}
 use Rattle.kob_names.specs.Same.{same_operation}
-use Rattle.kob_words.specs.Kinds.{operation_name}
-use Rattle.kob_words.specs.PrintedText.{bytes_text}
+use Rattle.kob_words.specs.Words.{operation_name, bytes_text}
 use Rattle.kob_scene_export.specs.Plain.{comment_unless, is_plain}
 
 abbrev pub principal_option : Permission → List ℕ

@@ -3,7 +3,7 @@ use Rattle.std.specs.Prelude.{ℕ, List, ◌++◌, codes}
 use Rattle.kob_router.specs.declared.settings.RouteBy.{RouteBy}
 use Rattle.kob_router.specs.declared.settings.RouteBy.TheVariants.{AggregateType, AggregateId}
 use Rattle.kob_router.specs.declared.settings.RouteSettings.{RouteSettings}
-use Rattle.kob_words.specs.PrintedText.{bytes_text}
+use Rattle.kob_words.specs.Words.{bytes_text}
 use Rattle.kob_scene_export.specs.Plain.{comment_unless, is_value}
 
 abbrev pub by_text : RouteBy → List ℕ

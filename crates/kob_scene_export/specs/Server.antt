@@ -2,7 +2,7 @@
 use Rattle.std.specs.Prelude.{ℕ, Bool, true, false, List, ◌++◌, codes, flat_map}
 use Rattle.std.specs.List.{list_all}
 use Rattle.kob_names.specs.declared.settings.Settings.{Settings}
-use Rattle.kob_words.specs.PrintedText.{bytes_text}
+use Rattle.kob_words.specs.Words.{bytes_text}
 use Rattle.kob_scene_export.specs.Plain.{comment_unless, is_plain}
 
 abbrev pub head_text : List ℕ

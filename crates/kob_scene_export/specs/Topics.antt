@@ -1,7 +1,7 @@
 -- Topics, as `kafka-topics.sh` creates them.
 use Rattle.std.specs.Prelude.{ℕ, List, ◌++◌, codes}
 use Rattle.std.specs.Fmt.{decimal}
-use Rattle.kob_words.specs.PrintedText.{bytes_text}
+use Rattle.kob_words.specs.Words.{bytes_text}
 
 -- an option's number, at the end of a line
 abbrev pub counted_text : List ℕ → ℕ → List ℕ

@@ -2,7 +2,7 @@
 
 ghost use Rattle.std.specs.Prelude.{◌≡◌, ◌++◌, OnOk};
 ghost use Rattle.kob_scene_export.specs.Topics.{counted_text, topic_text};
-ghost use Rattle.kob_words.specs.PrintedText.{bytes_text};
+ghost use Rattle.kob_words.specs.Words.{bytes_text};
 
 use kob_words::{push_bytes, push_number};
 use std::alloc::AllocError;

@@ -20,7 +20,7 @@ use Rattle.kob_pipeline.specs.declared.premises.Breach.{Breach}
 use Rattle.kob_pipeline.specs.declared.premises.Premise.{Premise}
 use Rattle.kob_router.specs.Line.{one_more}
 use Rattle.kob_router.specs.declared.place.Place.{Place}
-use Rattle.kob_words.specs.PrintedText.{bytes_text}
+use Rattle.kob_words.specs.Words.{bytes_text}
 use Rattle.kob_inbox.specs.Run as consuming
 use Rattle.kob_pipeline.specs.declared.premises.Premise.TheVariants as premises
 

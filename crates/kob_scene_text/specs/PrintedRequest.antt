@@ -1,7 +1,7 @@
 -- How the bindings of a creation and the filters of bindings are printed.
 use Rattle.std.specs.Prelude.{ℕ, List, ◌++◌, codes, Option, Some, None, [], flat_map}
 use Rattle.kob_names.specs.Types.{Draft, BindingFilter, FilterPattern, Operation, Permission, ResourceKind, Idem, Record}
-use Rattle.kob_words.specs.Kinds.{operation_name, resource_name, pattern_name, permission_name}
+use Rattle.kob_words.specs.Words.{operation_name, resource_name, pattern_name, permission_name, bytes_text}
 use Rattle.kob_scene_text.specs.PrintedRows.{spaced, counted}
 use Rattle.std.specs.Fmt.{decimal}
 use Rattle.kob_rights.specs.declared.event.Event.{Event}
@@ -13,7 +13,6 @@ use Rattle.kob_rights.specs.declared.reply.Reply.{Reply}
 use Rattle.kob_rights.specs.declared.request.Request.{Request}
 use Rattle.kob_rights.specs.declared.request.Request.TheVariants.{Produce, Fetch, Metadata, OffsetCommit, OffsetFetch, ListGroups, DeleteGroups, CreateTopics, DeleteTopics, InitProducerId, DescribeAcls, CreateAcls, DeleteAcls}
 use Rattle.kob_script.specs.Printed.{key_text, outcome_text}
-use Rattle.kob_words.specs.PrintedText.{bytes_text}
 use Rattle.kob_names.specs.declared.filter.FilterPattern.TheVariants as patterns
 use Rattle.kob_rights.specs.declared.on_partitions.Before.TheVariants as bounds
 use Rattle.kob_rights.specs.declared.on_partitions.Which.TheVariants as ends

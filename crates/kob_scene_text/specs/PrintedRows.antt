@@ -6,7 +6,7 @@ use Rattle.kob_outbox.specs.declared.event.OutboxEvent.{OutboxEvent}
 use Rattle.kob_outbox.specs.declared.event.Row.{Row}
 use Rattle.kob_outbox.specs.Contents.{id_text}
 use Rattle.kob_script.specs.Printed.{key_text, outcome_text}
-use Rattle.kob_words.specs.PrintedText.{bytes_text}
+use Rattle.kob_words.specs.Words.{bytes_text}
 use Rattle.kob_inbox.specs.declared.tick.Tick.{Tick as ConsumerTick}
 use Rattle.kob_outbox.specs.declared.fault.RecordFault.{RecordFault}
 use Rattle.kob_outbox.specs.declared.fault.RecordFault.TheVariants.{BadField, DuplicateId, Memory, Store}

@@ -10,7 +10,7 @@ use Rattle.kob_scene_text.specs.declared.fault.StepError.TheVariants.{Memory, Fa
 use Rattle.std.specs.Fmt.{decimal}
 use Rattle.kob_scene_text.specs.declared.fault.SceneFault.{SceneFault}
 use Rattle.kob_script.specs.Printed.{fault_text as line_of_script}
-use Rattle.kob_words.specs.PrintedText.{bytes_text}
+use Rattle.kob_words.specs.Words.{bytes_text}
 use Rattle.kob_script.specs.declared.fault.LineError.TheVariants as line_error
 
 -- a step of reading, and those after it unless it failed

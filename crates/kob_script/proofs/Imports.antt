@@ -2,7 +2,7 @@
 pub use Rattle.bstr.proofs.lemmas.LengthLemmas.{length-lines}
 pub use Rattle.bstr.proofs.lemmas.LineLemmas.{line_len-bounds, lines-nil, lines-step}
 pub use Rattle.bstr.specs.Text.{lines_of, without_terminator}
-pub use Rattle.kob_acl_cli.specs.Parts.{IsFirstFault}
+pub use Rattle.kob_acl_cli.specs.Commands.{IsFirstFault}
 pub use Rattle.kob_names.specs.TextRules.{principal_fault}
 pub use Rattle.kob_script.specs.Checks.{ChecksLine, ChecksNext, fault_at, kept_answer, script_so_far}
 pub use Rattle.kob_script.specs.CommandLines.{AclCommand, CliArgs, Command, CommandFault, Event, Request, acl_commands, acl_request, asking, asks_by_acl, command_named, error_of, events_by, faults_in, line_fault, request_of, row, row_fault, unless_faults}

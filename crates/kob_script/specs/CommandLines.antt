@@ -20,7 +20,7 @@ use Rattle.kob_script.specs.declared.command.Place.TheVariants.{One, OrDash, OrN
 use Rattle.kob_script.specs.declared.command.Place.{Place}
 use Rattle.kob_script.specs.declared.command.Slot.TheVariants as slot
 use Rattle.kob_script.specs.declared.command.Slot.{Slot}
-use Rattle.kob_words.specs.Kinds.{operation_named, resource_named, filter_pattern_named, pattern_named, permission_named}
+use Rattle.kob_words.specs.Words.{operation_named, resource_named, filter_pattern_named, pattern_named, permission_named}
 
 -- what a table has for a word
 abbrev pub known : {A : Type 0} → (List ℕ → Option A) → Word → Result A FaultKind

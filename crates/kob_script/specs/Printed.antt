@@ -9,8 +9,7 @@ use Rattle.kob_rights.specs.declared.reply.Body.{Body}
 use Rattle.kob_rights.specs.declared.reply.Reply.TheVariants.{Denied, Refused, Done}
 use Rattle.kob_rights.specs.declared.reply.Reply.{Reply}
 use Rattle.kob_script.specs.declared.fault.Fault.{Fault}
-use Rattle.kob_words.specs.PrintedBinding.{binding_text}
-use Rattle.kob_words.specs.PrintedText.{bytes_text}
+use Rattle.kob_words.specs.Words.{binding_text, bytes_text}
 use Rattle.kob_script.specs.Words.{FaultKind, rank}
 
 -- an item of a list, after a space

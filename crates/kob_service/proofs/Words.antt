@@ -1,7 +1,7 @@
 -- The names that the lemmas cite, passed on from one place.
 pub use Rattle.kob_broker.specs.State.{State}
 pub use Rattle.kob_inbox.specs.declared.fetcher.Subscription.{Subscription}
-pub use Rattle.kob_names.specs.Access.{covers, reaches}
+pub use Rattle.kob_names.specs.Binding.{covers, reaches}
 pub use Rattle.kob_names.specs.declared.batch.Batch.{Batch}
 pub use Rattle.kob_names.specs.declared.draft.Draft.{Draft}
 pub use Rattle.kob_names.specs.declared.kinds.Operation.{Operation}

@@ -112,8 +112,7 @@ IsOutput (Err fault) Stopped text = ⊥
 abbrev pub HasOutput : Result Script fault.Fault → (List ℕ → Type 0) → Type 0
 HasOutput read P = (ended : Ended) × (text : List ℕ) × IsOutput read ended text × P text
 
--- Something that the bytes may be read as has the property. Bytes without `acl` lines may be read
--- in one way alone.
+-- Some reading of the bytes has the property. Bytes without `acl` lines have one reading alone.
 abbrev pub HasReading : List ℕ → (Result Script fault.Fault → Type 0) → Type 0
 HasReading bytes P = (read : Result Script fault.Fault) × ReadsAs bytes read × P read
 

@@ -9,9 +9,7 @@ use Rattle.std.proofs.lemmas.Str.{IsAscii-append}
 use Rattle.std.proofs.lemmas.Str.Ascii.{IsAscii-nil, IsAscii-cons}
 use Rattle.kob_names.specs.Binding.{Binding}
 use Rattle.kob_names.specs.Types.{Operation, All, Read, Write, Create, Delete, Alter, Describe, ClusterAction, DescribeConfigs, AlterConfigs, IdempotentWrite, PatternKind, Literal, Prefixed, Permission, Allow, Deny, ResourceKind, Topic, Group, Cluster, TransactionalId}
-use Rattle.kob_words.specs.PrintedBinding.{grant_text, target_text, binding_text}
-use Rattle.kob_words.specs.Kinds.{operation_name, resource_name, pattern_name, permission_name}
-use Rattle.kob_words.specs.PrintedText.{bytes_text}
+use Rattle.kob_words.specs.Words.{grant_text, target_text, binding_text, operation_name, resource_name, pattern_name, permission_name, bytes_text}
 
 -- a literal text passes the test by computing
 literal : (text : List ℕ) → list_all is_ascii text ≡ true → IsAscii text

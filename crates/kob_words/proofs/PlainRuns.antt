@@ -5,7 +5,7 @@ use Rattle.std.specs.Str.{IsAscii}
 use Rattle.std.proofs.lemmas.Bool.Decides.{nat_tests}
 use Rattle.std.proofs.lemmas.Str.{IsAscii-append}
 use Rattle.std.proofs.lemmas.Str.Ascii.{IsAscii-nil, IsAscii-cons}
-use Rattle.kob_words.specs.PrintedText.{is_plain, byte_text, bytes_text, plain_length}
+use Rattle.kob_words.specs.Words.{is_plain, byte_text, bytes_text, plain_length}
 
 -- the byte at the front is plain or not
 front_by : (b : Bool) (byte : ℕ) (bytes : List ℕ) → is_plain byte ≡ b

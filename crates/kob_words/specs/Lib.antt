@@ -1,3 +1,1 @@
-pub mod Kinds
-pub mod PrintedBinding
-pub mod PrintedText
+pub mod Words

@@ -2,7 +2,7 @@
 
 ghost use Rattle.std.specs.Prelude.{◌≡◌};
 ghost use Rattle.std.specs.Option.{option_copied};
-ghost use Rattle.kob_words.specs.Kinds.{first_named, operation_name, operation_named};
+ghost use Rattle.kob_words.specs.Words.{first_named, operation_name, operation_named};
 
 use kob_names::Operation;
 

@@ -1,7 +1,7 @@
 //! The words for kinds of pattern, and for what a filter selects.
 
 ghost use Rattle.std.specs.Prelude.{◌≡◌};
-ghost use Rattle.kob_words.specs.Kinds.{pattern_name, pattern_named, filter_pattern_named};
+ghost use Rattle.kob_words.specs.Words.{pattern_name, pattern_named, filter_pattern_named};
 
 use kob_names::{FilterPattern, PatternKind};
 

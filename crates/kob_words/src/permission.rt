@@ -1,7 +1,7 @@
 //! The words for permissions.
 
 ghost use Rattle.std.specs.Prelude.{◌≡◌};
-ghost use Rattle.kob_words.specs.Kinds.{permission_name, permission_named};
+ghost use Rattle.kob_words.specs.Words.{permission_name, permission_named};
 
 use kob_names::Permission;
 

@@ -2,7 +2,7 @@
 
 ghost use Rattle.std.specs.Prelude.{◌≡◌, ◌++◌, OnOk};
 ghost use Rattle.std.specs.Str.{IsAscii};
-ghost use Rattle.kob_words.specs.PrintedBinding.{grant_text, target_text, binding_text};
+ghost use Rattle.kob_words.specs.Words.{grant_text, target_text, binding_text};
 
 use crate::operation::operation_name;
 use crate::pattern::pattern_name;

@@ -4,7 +4,7 @@ ghost use Rattle.std.specs.Prelude.{◌≡◌, ◌<◌, ◌≤◌, ◌++◌, len
 ghost use Rattle.std.specs.Char.{digit_char};
 ghost use Rattle.std.specs.Fmt.{decimal};
 ghost use Rattle.std.specs.Str.{IsAscii};
-ghost use Rattle.kob_words.specs.PrintedText.{is_plain, byte_text, bytes_text, plain_length};
+ghost use Rattle.kob_words.specs.Words.{is_plain, byte_text, bytes_text, plain_length};
 
 use itoa::Buffer;
 use std::alloc::AllocError;

@@ -1,5 +1,5 @@
 use Rattle.std.proofs.Common.{◌≡◌, ◌++◌, take}
-use Rattle.kob_acl_cli.specs.Targets.{accesses_to}
+use Rattle.kob_acl_cli.specs.Commands.{accesses_to}
 use Rattle.kob_acl_cli.proofs.access.push_accesses.Given as goal
 
 abbrev pub invariant-loop-target : goal.invariant-loop-target

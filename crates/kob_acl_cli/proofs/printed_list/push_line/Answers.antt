@@ -1,5 +1,5 @@
 use Rattle.kob_words.proofs.AsciiText.{line_ascii}
-use Rattle.kob_words.specs.PrintedBinding.{binding_text}
+use Rattle.kob_words.specs.Words.{binding_text}
 use Rattle.kob_acl_cli.proofs.printed_list.push_line.Goals as goal
 
 pub returns-clause-ascii : goal.returns-clause-ascii

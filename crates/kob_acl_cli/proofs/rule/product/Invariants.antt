@@ -1,5 +1,5 @@
 use Rattle.std.proofs.Common.{◌≡◌, take}
-use Rattle.kob_acl_cli.specs.Targets.{product}
+use Rattle.kob_acl_cli.specs.Commands.{product}
 use Rattle.kob_acl_cli.proofs.rule.product.Given as goal
 
 abbrev pub invariant-loop-access : goal.invariant-loop-access

@@ -1,5 +1,5 @@
 use Rattle.std.proofs.Common.{◌≡◌, ◌++◌, take, flat_map}
-use Rattle.kob_acl_cli.specs.Targets.{rules_on_host}
+use Rattle.kob_acl_cli.specs.Commands.{rules_on_host}
 use Rattle.kob_acl_cli.proofs.rule.push_of_principal.Given as goal
 
 abbrev pub invariant-loop-host : goal.invariant-loop-host

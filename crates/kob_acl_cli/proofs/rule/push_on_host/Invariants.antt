@@ -1,5 +1,5 @@
 use Rattle.std.proofs.Common.{◌≡◌, ◌++◌, take, map}
-use Rattle.kob_acl_cli.specs.Targets.{rule}
+use Rattle.kob_acl_cli.specs.Commands.{rule}
 use Rattle.kob_acl_cli.proofs.rule.push_on_host.Given as goal
 
 abbrev pub invariant-loop-operation : goal.invariant-loop-operation

@@ -1,5 +1,5 @@
 use Rattle.std.proofs.Common.{◌≡◌, ◌++◌, take, flat_map}
-use Rattle.kob_acl_cli.specs.Targets.{rules_of_principal}
+use Rattle.kob_acl_cli.specs.Commands.{rules_of_principal}
 use Rattle.kob_acl_cli.proofs.rule.push_rules.Given as goal
 
 abbrev pub invariant-loop-principal : goal.invariant-loop-principal

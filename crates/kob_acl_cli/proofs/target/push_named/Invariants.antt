@@ -1,5 +1,5 @@
 use Rattle.std.proofs.Common.{◌≡◌, ◌++◌, take}
-use Rattle.kob_acl_cli.specs.Targets.{targets_named}
+use Rattle.kob_acl_cli.specs.Commands.{targets_named}
 use Rattle.kob_acl_cli.proofs.target.push_named.Given as goal
 
 abbrev pub invariant-loop-name : goal.invariant-loop-name

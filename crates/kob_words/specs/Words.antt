@@ -1,9 +1,12 @@
--- The words for operations, kinds of resource and of pattern, and permissions.
-use Rattle.std.specs.Prelude.{ℕ, List, [], ◌∷◌, Option, codes, Some, if◌then◌else◌}
-use Rattle.std.specs.List.{find}
+-- The words for resources, patterns, operations and permissions; printed texts and bindings.
+use Rattle.std.specs.Prelude.{ℕ, List, [], ◌∷◌, Option, codes, Some, if◌then◌else◌, ◌/◌, ◌%◌, ◌==◌, ◌&&◌, not, Bool, nat_le, flat_map, ◌++◌}
+use Rattle.std.specs.List.{find, prefix_len}
 use Rattle.std.specs.Str.{str_eq_ignore_ascii_case}
 use Rattle.kob_names.specs.Types.{Operation, All, Read, Write, Create, Delete, Alter, Describe, ClusterAction, DescribeConfigs, AlterConfigs, IdempotentWrite, ResourceKind, Topic, Group, Cluster, TransactionalId, FilterPattern, PatternKind, Literal, Prefixed, Permission, Allow, Deny}
 use Rattle.std.specs.Option.{option_map}
+use Rattle.std.specs.Char.{digit_char}
+use Rattle.std.specs.Fmt.{decimal}
+use Rattle.kob_names.specs.Binding.{Binding}
 use Rattle.kob_names.specs.declared.filter.FilterPattern.TheVariants as filter
 
 -- the first of these with a name, in any ASCII case
@@ -72,3 +75,41 @@ permission_name Deny = codes "DENY"
 -- the permission of a name, in any ASCII case
 abbrev pub permission_named : List ℕ → Option Permission
 permission_named name = first_named permission_name (Allow ∷ Deny ∷ []) name
+
+-- How bytes are printed.
+
+-- a byte from 0x21 to 0x7e that is neither `%` nor `=` stands for itself
+abbrev pub is_plain : ℕ → Bool
+is_plain byte = nat_le 0x21 byte && (nat_le byte 0x7e && (not (byte == 37) && not (byte == 61)))
+
+-- any other byte is `%` and two hexadecimal digits
+abbrev pub byte_text : ℕ → List ℕ
+byte_text byte =
+    if is_plain byte then byte ∷ [] else 37 ∷ digit_char (byte / 16) ∷ digit_char (byte % 16) ∷ []
+
+abbrev pub bytes_text : List ℕ → List ℕ
+bytes_text bytes = flat_map byte_text bytes
+
+-- how many bytes at the front stand for themselves
+abbrev pub plain_length : List ℕ → ℕ
+plain_length bytes = prefix_len is_plain bytes
+
+-- How bindings are printed.
+
+-- PERMISSION PRINCIPAL HOST OPERATION
+abbrev pub grant_text : Binding → List ℕ
+grant_text binding =
+    permission_name binding.permission ++ codes " " ++ bytes_text binding.principal
+    ++ codes " " ++ bytes_text binding.host ++ codes " " ++ operation_name binding.operation
+
+-- RESOURCE PATTERN NAME
+abbrev pub target_text : Binding → List ℕ
+target_text binding =
+    resource_name binding.resource ++ codes " " ++ pattern_name binding.pattern.kind
+    ++ codes " " ++ bytes_text binding.pattern.name
+
+-- binding SERIAL PERMISSION PRINCIPAL HOST OPERATION RESOURCE PATTERN NAME
+abbrev pub binding_text : ℕ → Binding → List ℕ
+binding_text serial binding =
+    codes "binding " ++ decimal serial ++ codes " " ++ grant_text binding ++ codes " "
+    ++ target_text binding
