@@ -1,6 +1,16 @@
 -- What the words of a line mean, and what it asks for: its commands, unless a word is misread.
 use Rattle.std.specs.Prelude.{ℕ, List, [], ◌∷◌, filter_map, Option, Some, None, unwrap_or, codes, ◌≡◌, ◌⊎◌, Bool, ◌++◌, map, filter, is_some, is_none, Result, Ok, Err, if◌then◌else◌, flat_map, not, option_map}
-use Rattle.kob_names.specs.Types.{FilterPattern, Operation, All, Permission, Allow, Deny, ResourceKind, Topic, Group, Cluster, TransactionalId, Read, Write, Create, Describe, IdempotentWrite, Draft, BindingFilter, PatternKind, Literal, Prefixed}
+use Rattle.kob_names.specs.declared.filter.FilterPattern.{FilterPattern}
+use Rattle.kob_names.specs.declared.kinds.Operation.{Operation}
+use Rattle.kob_names.specs.declared.kinds.Operation.TheVariants.{All, Read, Write, Create, Describe, IdempotentWrite}
+use Rattle.kob_names.specs.declared.kinds.Permission.{Permission}
+use Rattle.kob_names.specs.declared.kinds.Permission.TheVariants.{Allow, Deny}
+use Rattle.kob_names.specs.declared.kinds.ResourceKind.{ResourceKind}
+use Rattle.kob_names.specs.declared.kinds.ResourceKind.TheVariants.{Topic, Group, Cluster, TransactionalId}
+use Rattle.kob_names.specs.declared.draft.Draft.{Draft}
+use Rattle.kob_names.specs.declared.filter.BindingFilter.{BindingFilter}
+use Rattle.kob_names.specs.declared.kinds.PatternKind.{PatternKind}
+use Rattle.kob_names.specs.declared.kinds.PatternKind.TheVariants.{Literal, Prefixed}
 use Rattle.kob_words.specs.Words.{operation_named, filter_pattern_named}
 use Rattle.kob_acl_cli.specs.declared.args.CliArgs.{CliArgs}
 use Rattle.kob_acl_cli.specs.declared.parts.Holders.{Holders}

@@ -1,7 +1,12 @@
 -- What an authorizer holds.
 use Rattle.std.specs.Prelude.{Bool, List, [], ◌∷◌, ℕ, ◌+◌, ◌≤◌, true, false, ◌&&◌, not, Option, Some, None, ◌≡◌, IsTrue, Contains}
 use Rattle.kob_names.specs.Binding.{Binding, covers, matches, reaches}
-use Rattle.kob_names.specs.Types.{Operation, ResourceKind, Permission, Allow, Deny, Verdict, Super, AllowedBy, DeniedBy, NoAllow, NoAclFound}
+use Rattle.kob_names.specs.declared.kinds.Operation.{Operation}
+use Rattle.kob_names.specs.declared.kinds.ResourceKind.{ResourceKind}
+use Rattle.kob_names.specs.declared.kinds.Permission.{Permission}
+use Rattle.kob_names.specs.declared.kinds.Permission.TheVariants.{Allow, Deny}
+use Rattle.kob_names.specs.declared.verdict.Verdict.{Verdict}
+use Rattle.kob_names.specs.declared.verdict.Verdict.TheVariants.{Super, AllowedBy, DeniedBy, NoAllow, NoAclFound}
 use Rattle.std.specs.List.{filter, list_any, AllByRecursion}
 use Rattle.kob_names.specs.Same.{same_permission, same_resource, same_text}
 use Rattle.kob_authorizer.specs.declared.question.Question as program

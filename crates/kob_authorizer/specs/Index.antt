@@ -1,7 +1,14 @@
 -- The trees beside the list of bindings, and what is found by the serials in them.
 use Rattle.std.specs.Prelude.{List, ◌∷◌, ◌++◌, ℕ, ◌≡◌, Bool, true, false, ◌&&◌, map, Option, None, Some, min, ◌==◌, codes, if◌then◌else◌, [], not}
 use Rattle.kob_names.specs.Binding.{Binding, same_binding}
-use Rattle.kob_names.specs.Types.{ResourceKind, Topic, Group, Cluster, TransactionalId, PatternKind, Literal, Prefixed, Allow, Deny, Pattern, BindingFilter, FilterPattern}
+use Rattle.kob_names.specs.declared.kinds.ResourceKind.{ResourceKind}
+use Rattle.kob_names.specs.declared.kinds.ResourceKind.TheVariants.{Topic, Group, Cluster, TransactionalId}
+use Rattle.kob_names.specs.declared.kinds.PatternKind.{PatternKind}
+use Rattle.kob_names.specs.declared.kinds.PatternKind.TheVariants.{Literal, Prefixed}
+use Rattle.kob_names.specs.declared.kinds.Permission.TheVariants.{Allow, Deny}
+use Rattle.kob_names.specs.declared.pattern.Pattern.{Pattern}
+use Rattle.kob_names.specs.declared.filter.BindingFilter.{BindingFilter}
+use Rattle.kob_names.specs.declared.filter.FilterPattern.{FilterPattern}
 use Rattle.std.specs.List.{filter, fold, find, list_any, reduce}
 use Rattle.kob_names.specs.Same.{same_text, same_resource}
 use Rattle.kob_prefix_tree.specs.Held.{Addition, serials_of, Held, serials_along, PrefixMap, held, added, removed, removed_all}

@@ -1,7 +1,10 @@
 -- From the bindings in force to the worker whose entry it is.
 use Rattle.kob_pipeline.proofs.Words.{ActsAlone, AllByRecursion, Binding, Body, Bool, Commits, Done, Entry, IsLegal, IsReserved, IsReservedFor, IsSoleCommitter, IsSoleProducer, IsTrue, List, NoSuperUser, Option, Produces, Reply, Request, Retained, Settings, Some, [], arith, false, filter, get_or_from_slice_get, inl, inr, nat_tests, of_each, on_group, on_topic, opened_by, refl, rights, slice_get, slice_get-get_or, slice_get_within, subst, suc, take, take-suc, was_kept, ℕ, ◌&&◌, ◌∙◌, ◌∷◌, ◌≡◌, ◌⊎◌}
 use Rattle.kob_names.specs.Binding.{is_granted}
-use Rattle.kob_names.specs.Types.{Operation, Allow, Deny, ResourceKind, Group, Topic}
+use Rattle.kob_names.specs.declared.kinds.Operation.{Operation}
+use Rattle.kob_names.specs.declared.kinds.Permission.TheVariants.{Allow, Deny}
+use Rattle.kob_names.specs.declared.kinds.ResourceKind.{ResourceKind}
+use Rattle.kob_names.specs.declared.kinds.ResourceKind.TheVariants.{Group, Topic}
 use Rattle.kob_names.specs.declared.kinds.Operation.TheVariants.{Read, Write as WriteTo}
 use Rattle.kob_authorizer.specs.Decide.{Contents, decide, first_serial, hits, is_hit, is_super, is_unmatched, unless_open, verdict_of, question_of}
 use Rattle.kob_broker.specs.Justice.{access_after, in_force, Grants, IsJust, EachGranted}

@@ -5,7 +5,10 @@ use Rattle.std.specs.List.{list_all, list_any}
 use Rattle.kob_authorizer.specs.Decide.{is_hit, question_of}
 use Rattle.kob_authorizer.specs.Decide as authorizer
 use Rattle.kob_names.specs.Binding.{Binding, is_granted}
-use Rattle.kob_names.specs.Types.{Describe, Allow, Topic, Verdict}
+use Rattle.kob_names.specs.declared.kinds.Operation.TheVariants.{Describe}
+use Rattle.kob_names.specs.declared.kinds.Permission.TheVariants.{Allow}
+use Rattle.kob_names.specs.declared.kinds.ResourceKind.TheVariants.{Topic}
+use Rattle.kob_names.specs.declared.verdict.Verdict.{Verdict}
 use Rattle.kob_names.specs.declared.verdict.Verdict.TheVariants as verdict
 use Rattle.kob_names.specs.Same.{same_permission}
 use Rattle.kob_rights.specs.Table.{Check, rights}

@@ -4,7 +4,10 @@ use Rattle.std.specs.Prelude.{◌&&◌, Bool, ℕ, List, [], ◌∷◌, ◌++◌
 use Rattle.std.specs.List.{list_any}
 use Rattle.kob_authorizer.specs.Decide.{Question, question_of}
 use Rattle.kob_names.specs.Binding.{Binding}
-use Rattle.kob_names.specs.Types.{Operation, Read, Write, Create, Delete, Alter, Describe, ClusterAction, DescribeConfigs, AlterConfigs, IdempotentWrite, ResourceKind, Topic}
+use Rattle.kob_names.specs.declared.kinds.Operation.{Operation}
+use Rattle.kob_names.specs.declared.kinds.Operation.TheVariants.{Read, Write, Create, Delete, Alter, Describe, ClusterAction, DescribeConfigs, AlterConfigs, IdempotentWrite}
+use Rattle.kob_names.specs.declared.kinds.ResourceKind.{ResourceKind}
+use Rattle.kob_names.specs.declared.kinds.ResourceKind.TheVariants.{Topic}
 use Rattle.kob_names.specs.Same.{same_resource, same_text}
 use Rattle.kob_policy_text.specs.declared.at_hand.Target.{Target}
 

@@ -10,7 +10,14 @@ use Rattle.std.specs.Option.{option_map}
 use Rattle.bstr.specs.Trim.{trim_start_by, trim_end_by}
 use Rattle.memchr.specs.Find.{first_of, matches, rmatches}
 use Rattle.kob_script.specs.declared.fault.FaultKind.TheVariants.{BadLine, BadWord}
-use Rattle.kob_names.specs.Types.{Operation, ClusterAction, DescribeConfigs, AlterConfigs, IdempotentWrite, PatternKind, Literal, Prefixed, Permission, Allow, Deny, ResourceKind, TransactionalId}
+use Rattle.kob_names.specs.declared.kinds.Operation.{Operation}
+use Rattle.kob_names.specs.declared.kinds.Operation.TheVariants.{ClusterAction, DescribeConfigs, AlterConfigs, IdempotentWrite}
+use Rattle.kob_names.specs.declared.kinds.PatternKind.{PatternKind}
+use Rattle.kob_names.specs.declared.kinds.PatternKind.TheVariants.{Literal, Prefixed}
+use Rattle.kob_names.specs.declared.kinds.Permission.{Permission}
+use Rattle.kob_names.specs.declared.kinds.Permission.TheVariants.{Allow, Deny}
+use Rattle.kob_names.specs.declared.kinds.ResourceKind.{ResourceKind}
+use Rattle.kob_names.specs.declared.kinds.ResourceKind.TheVariants.{TransactionalId}
 use Rattle.kob_words.specs.Words.{operation_named, resource_named, pattern_named, permission_named}
 use Rattle.kob_policy_text.specs.declared.item.Grant.{Grant}
 use Rattle.kob_policy_text.specs.declared.item.Item.{Item}

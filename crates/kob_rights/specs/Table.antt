@@ -1,6 +1,10 @@
 -- The operation table (Kafka's documentation, "Authorization and ACLs"), and the codes of denials.
 use Rattle.std.specs.Prelude.{List, ℕ, codes, [], ◌∷◌, Option, Some, None, slice_index_or}
-use Rattle.kob_names.specs.Types.{Operation, ResourceKind, Topic, Group, Cluster, Idem, Read, Write, Create, Delete, Alter, Describe, IdempotentWrite}
+use Rattle.kob_names.specs.declared.kinds.Operation.{Operation}
+use Rattle.kob_names.specs.declared.kinds.ResourceKind.{ResourceKind}
+use Rattle.kob_names.specs.declared.kinds.ResourceKind.TheVariants.{Topic, Group, Cluster}
+use Rattle.kob_names.specs.declared.batch.Idem.{Idem}
+use Rattle.kob_names.specs.declared.kinds.Operation.TheVariants.{Read, Write, Create, Delete, Alter, Describe, IdempotentWrite}
 use Rattle.kob_rights.specs.declared.check.Clause.{Clause}
 use Rattle.kob_rights.specs.declared.check.Clause.TheVariants.{Only, Either}
 use Rattle.kob_rights.specs.declared.check.Rights.{Rights}

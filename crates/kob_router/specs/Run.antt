@@ -9,7 +9,8 @@ use Rattle.kob_outbox.specs.Contents.{Event, Contents, empty, id_text, stored_ev
 use Rattle.kob_router.specs.declared.dispatch.Dispatch.{Dispatch}
 use Rattle.kob_router.specs.declared.dispatch.Target.{Target}
 use Rattle.kob_router.specs.Route.{key_of, routed_row}
-use Rattle.kob_names.specs.Types.{Record, Batch}
+use Rattle.kob_names.specs.declared.record.Record.{Record}
+use Rattle.kob_names.specs.declared.batch.Batch.{Batch}
 pub use Rattle.kob_rights.specs.declared.request.Request.{Request}
 pub use Rattle.kob_rights.specs.declared.request.Request.TheVariants.{InitProducerId, Produce}
 pub use Rattle.kob_rights.specs.declared.on_partitions.Produce.{Produce as ProduceRequest}

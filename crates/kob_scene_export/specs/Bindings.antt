@@ -1,6 +1,14 @@
 -- Bindings, as `kafka-acls.sh` adds them.
 use Rattle.std.specs.Prelude.{ℕ, Bool, true, false, ◌&&◌, List, ◌++◌, codes}
-use Rattle.kob_names.specs.Types.{Draft, IdempotentWrite, PatternKind, Literal, Prefixed, Permission, Allow, Deny, ResourceKind, Topic, Group, Cluster, TransactionalId, Pattern}
+use Rattle.kob_names.specs.declared.draft.Draft.{Draft}
+use Rattle.kob_names.specs.declared.kinds.Operation.TheVariants.{IdempotentWrite}
+use Rattle.kob_names.specs.declared.kinds.PatternKind.{PatternKind}
+use Rattle.kob_names.specs.declared.kinds.PatternKind.TheVariants.{Literal, Prefixed}
+use Rattle.kob_names.specs.declared.kinds.Permission.{Permission}
+use Rattle.kob_names.specs.declared.kinds.Permission.TheVariants.{Allow, Deny}
+use Rattle.kob_names.specs.declared.kinds.ResourceKind.{ResourceKind}
+use Rattle.kob_names.specs.declared.kinds.ResourceKind.TheVariants.{Topic, Group, Cluster, TransactionalId}
+use Rattle.kob_names.specs.declared.pattern.Pattern.{Pattern}
 use Rattle.kob_names.specs.Same.{same_operation}
 use Rattle.kob_words.specs.Words.{operation_name, bytes_text}
 use Rattle.kob_scene_export.specs.Plain.{comment_unless, is_plain}

@@ -1,6 +1,13 @@
 -- How the bindings of a creation and the filters of bindings are printed.
 use Rattle.std.specs.Prelude.{ℕ, List, ◌++◌, codes, Option, Some, None, [], flat_map}
-use Rattle.kob_names.specs.Types.{Draft, BindingFilter, FilterPattern, Operation, Permission, ResourceKind, Idem, Record}
+use Rattle.kob_names.specs.declared.draft.Draft.{Draft}
+use Rattle.kob_names.specs.declared.filter.BindingFilter.{BindingFilter}
+use Rattle.kob_names.specs.declared.filter.FilterPattern.{FilterPattern}
+use Rattle.kob_names.specs.declared.kinds.Operation.{Operation}
+use Rattle.kob_names.specs.declared.kinds.Permission.{Permission}
+use Rattle.kob_names.specs.declared.kinds.ResourceKind.{ResourceKind}
+use Rattle.kob_names.specs.declared.batch.Idem.{Idem}
+use Rattle.kob_names.specs.declared.record.Record.{Record}
 use Rattle.kob_words.specs.Words.{operation_name, resource_name, pattern_name, permission_name, bytes_text}
 use Rattle.kob_scene_text.specs.PrintedRows.{spaced, counted}
 use Rattle.std.specs.Fmt.{decimal}

@@ -7,7 +7,12 @@ use Rattle.kob_acl_cli.specs.declared.commands.AclCommand.TheVariants.{Create, D
 pub use Rattle.kob_acl_cli.specs.declared.commands.AclCommand.{AclCommand}
 use Rattle.kob_acl_cli.specs.declared.fault.CommandFault.TheVariants as options
 pub use Rattle.kob_acl_cli.specs.declared.fault.CommandFault.{CommandFault}
-use Rattle.kob_names.specs.Types.{BindingFilter, FilterPattern, All, Literal, Allow, Topic}
+use Rattle.kob_names.specs.declared.filter.BindingFilter.{BindingFilter}
+use Rattle.kob_names.specs.declared.filter.FilterPattern.{FilterPattern}
+use Rattle.kob_names.specs.declared.kinds.Operation.TheVariants.{All}
+use Rattle.kob_names.specs.declared.kinds.PatternKind.TheVariants.{Literal}
+use Rattle.kob_names.specs.declared.kinds.Permission.TheVariants.{Allow}
+use Rattle.kob_names.specs.declared.kinds.ResourceKind.TheVariants.{Topic}
 use Rattle.kob_names.specs.declared.filter.FilterPattern.TheVariants.{Any}
 pub use Rattle.kob_rights.specs.declared.event.Event.{Event}
 use Rattle.kob_rights.specs.declared.on_partitions.Before.TheVariants as befores

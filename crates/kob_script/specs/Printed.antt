@@ -1,7 +1,9 @@
 -- How replies and faults are printed.
 use Rattle.std.specs.Prelude.{ℕ, List, [], get_or, ◌++◌, codes, length, Option, Some, None, flat_map, ◌+◌, ◌∷◌, decimal}
 use Rattle.kob_names.specs.Binding.{Binding}
-use Rattle.kob_names.specs.Types.{Record, Super, AllowedBy, DeniedBy, NoAllow, NoAclFound, Verdict}
+use Rattle.kob_names.specs.declared.record.Record.{Record}
+use Rattle.kob_names.specs.declared.verdict.Verdict.TheVariants.{Super, AllowedBy, DeniedBy, NoAllow, NoAclFound}
+use Rattle.kob_names.specs.declared.verdict.Verdict.{Verdict}
 use Rattle.kob_rights.specs.Reason.{code_number, code_name, reason_name}
 use Rattle.kob_rights.specs.declared.code.Code.{Code}
 use Rattle.kob_rights.specs.declared.reply.Body.TheVariants.{Created, Deleted, Committed, Serials, Bindings, Offset, Start, Commit, Records, Topics, Groups, Producer}

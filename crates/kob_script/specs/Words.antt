@@ -11,7 +11,8 @@ use Rattle.std.specs.List.{slice_split}
 use Rattle.std.specs.Str.Parse.{digits_value}
 use Rattle.std.specs.Str.{is_utf8, all_ascii_digits}
 use Rattle.kob_names.specs.TextRules.{host_fault, principal_fault}
-use Rattle.kob_names.specs.Types.{Idem, Record}
+use Rattle.kob_names.specs.declared.batch.Idem.{Idem}
+use Rattle.kob_names.specs.declared.record.Record.{Record}
 use Rattle.kob_rights.specs.declared.on_partitions.Before.{Before}
 pub use Rattle.kob_rights.specs.declared.on_partitions.Which.TheVariants.{Start, End}
 use Rattle.kob_rights.specs.declared.on_partitions.Which.{Which}

@@ -8,7 +8,14 @@ use Rattle.std.proofs.lemmas.Bool.Decides.{nat_tests}
 use Rattle.std.proofs.lemmas.Str.{IsAscii-append}
 use Rattle.std.proofs.lemmas.Str.Ascii.{IsAscii-nil, IsAscii-cons}
 use Rattle.kob_names.specs.Binding.{Binding}
-use Rattle.kob_names.specs.Types.{Operation, All, Read, Write, Create, Delete, Alter, Describe, ClusterAction, DescribeConfigs, AlterConfigs, IdempotentWrite, PatternKind, Literal, Prefixed, Permission, Allow, Deny, ResourceKind, Topic, Group, Cluster, TransactionalId}
+use Rattle.kob_names.specs.declared.kinds.Operation.{Operation}
+use Rattle.kob_names.specs.declared.kinds.Operation.TheVariants.{All, Read, Write, Create, Delete, Alter, Describe, ClusterAction, DescribeConfigs, AlterConfigs, IdempotentWrite}
+use Rattle.kob_names.specs.declared.kinds.PatternKind.{PatternKind}
+use Rattle.kob_names.specs.declared.kinds.PatternKind.TheVariants.{Literal, Prefixed}
+use Rattle.kob_names.specs.declared.kinds.Permission.{Permission}
+use Rattle.kob_names.specs.declared.kinds.Permission.TheVariants.{Allow, Deny}
+use Rattle.kob_names.specs.declared.kinds.ResourceKind.{ResourceKind}
+use Rattle.kob_names.specs.declared.kinds.ResourceKind.TheVariants.{Topic, Group, Cluster, TransactionalId}
 use Rattle.kob_words.specs.Words.{grant_text, target_text, binding_text, operation_name, resource_name, pattern_name, permission_name, bytes_text}
 
 -- a literal text passes the test by computing
