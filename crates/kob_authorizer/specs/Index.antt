@@ -22,7 +22,6 @@ use Rattle.kob_prefix_tree.specs.declared.kind.PatternKind as of_tree
 use Rattle.kob_prefix_tree.specs.declared.kind.PatternKind.TheVariants as in_tree
 use Rattle.std.specs.FinMap as finite
 use Rattle.kob_names.specs.declared.filter.FilterPattern.TheVariants as named
-use Rattle.kob_prefix_tree.specs.declared.kind.PatternKind.TheVariants as tree
 
 -- the byte of a kind of resource
 abbrev pub kind_byte : ResourceKind → ℕ
@@ -302,9 +301,9 @@ without_taken wanted contents = record contents { entries = bindings_left wanted
 -- the serials at the pattern that a filter names, where it names one on one kind of resource
 abbrev pub listed_at : Patterns → FilterPattern → Option ResourceKind → Option (List ℕ) → Option (List ℕ)
 listed_at patterns named.Literal (Some resource) (Some name) =
-    Some (serials_of tree.Literal (held (tree_of patterns resource) name))
+    Some (serials_of in_tree.Literal (held (tree_of patterns resource) name))
 listed_at patterns named.Prefixed (Some resource) (Some name) =
-    Some (serials_of tree.Prefixed (held (tree_of patterns resource) name))
+    Some (serials_of in_tree.Prefixed (held (tree_of patterns resource) name))
 listed_at patterns pattern resource name = None
 
 abbrev pub listed_by : Patterns → BindingFilter → Option (List ℕ)
