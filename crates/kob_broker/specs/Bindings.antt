@@ -1,15 +1,12 @@
 -- The creation of bindings.
 use Rattle.std.specs.Prelude.{◌≡◌, ◌==◌, ℕ, Bool, true, nat_lt, List, [], ◌∷◌, ◌++◌, Option, Some, None, length}
 use Rattle.std.specs.List.{flat_map}
-use Rattle.kob_authorizer.specs.Creation.{addition, create_fault}
 use Rattle.kob_authorizer.specs.declared.fault.CreateFault.{CreateFault}
 use Rattle.kob_authorizer.specs.declared.fault.CreateFault.TheVariants as limits
-use Rattle.kob_names.specs.Binding.{is_bad_cluster}
-use Rattle.kob_names.specs.TextRules.{name_limit}
 pub use Rattle.kob_names.specs.declared.draft.Draft.{Draft}
 use Rattle.kob_rights.specs.declared.on_acls.CreateAcls.{CreateAcls}
 use Rattle.kob_rights.specs.declared.reason.Reason.TheVariants as reasons
-use Rattle.kob_broker.specs.State.{Contents, Reason}
+use Rattle.kob_broker.specs.State.{Contents, Reason, addition, create_fault, is_bad_cluster, name_limit}
 use Rattle.kob_broker.specs.declared.on_acls.DraftFault.{DraftFault}
 use Rattle.kob_broker.specs.declared.on_acls.DraftFault.TheVariants.{Refused}
 

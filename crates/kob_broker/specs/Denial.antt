@@ -1,12 +1,11 @@
 -- The reasons to refuse a request, in order, each with whether it holds.
 use Rattle.std.specs.Prelude.{◌≡◌, ◌⊎◌, ℕ, Bool, true, false, not, List, [], ◌∷◌, Option, Some, None, is_some, if◌then◌else◌, ◌+◌, map}
-use Rattle.kob_broker.specs.State.{Meaning, Reason, Topic, has_topic, Contents, Event, Reply}
+use Rattle.kob_broker.specs.State.{Meaning, Reason, Topic, has_topic, Contents, Event, Reply, decide, Question, question_of}
 use Rattle.std.specs.Option.{option_map}
 use Rattle.std.specs.List.{list_any}
 use Rattle.kob_names.specs.declared.kinds.Operation.TheVariants.{Describe}
 pub use Rattle.kob_names.specs.declared.verdict.Verdict.{Verdict}
 pub use Rattle.kob_names.specs.Binding.{is_granted}
-use Rattle.kob_authorizer.specs.Decide.{decide, Question, question_of}
 pub use Rattle.kob_rights.specs.Table.{Check, on_cluster, on_group, on_topic, denial_code, rights}
 pub use Rattle.kob_rights.specs.declared.reply.Reply.TheVariants.{Denied, Done, Refused}
 use Rattle.kob_broker.specs.declared.verdicts.Verdicts.{Verdicts}

@@ -1,15 +1,12 @@
 -- Requests on groups: offsets committed and read back, groups listed and deleted.
 use Rattle.std.specs.Prelude.{ℕ, Bool, not, nat_lt, List, [], ◌∷◌, ◌++◌, Option, is_some, if◌then◌else◌}
 use Rattle.std.specs.List.{filter}
-use Rattle.kob_groups.specs.Groups.{Groups, committed_at, has_group, is_full_for, place_of, with_commit}
-use Rattle.kob_names.specs.TextRules.{group_fault}
-use Rattle.kob_partition.specs.Meaning.{offset_limit}
 use Rattle.kob_rights.specs.declared.on_groups.DeleteGroups.{DeleteGroups}
 use Rattle.kob_rights.specs.declared.on_groups.OffsetCommit.{OffsetCommit}
 use Rattle.kob_rights.specs.declared.on_groups.OffsetFetch.{OffsetFetch}
 use Rattle.kob_rights.specs.declared.reason.Reason.TheVariants as reasons
 use Rattle.kob_broker.specs.Denial.{describes_cluster, describes_group, named_reasons}
-use Rattle.kob_broker.specs.State.{Contents, Event, Reason, State}
+use Rattle.kob_broker.specs.State.{Contents, Event, Reason, State, Groups, committed_at, has_group, is_full_for, place_of, with_commit, group_fault, offset_limit}
 
 module _ {P : Type 0} where
   abbrev pub offset_commit_reasons : State P → Option P → OffsetCommit → List (Bool × Reason)

@@ -1,16 +1,12 @@
 -- The bindings in force at an event's place, and what the replies of a run say in their terms.
 use Rattle.std.specs.Prelude.{◌≡◌, ◌↔◌, ◌⊎◌, ◌+◌, ℕ, Bool, true, false, IsTrue, List, [], ◌∷◌, Option, Some, None, length, map, slice_get, take}
 use Rattle.std.specs.List.{AllByRecursion, AllZip}
-use Rattle.kob_authorizer.specs.Index.{without_taken}
-use Rattle.kob_authorizer.specs.Decide.{IsTrueVerdict}
-use Rattle.kob_groups.specs.Groups.{group_names}
-use Rattle.kob_rights.specs.Requests.{AddBindings, Append, GiveProducerId, RemoveBindings, Write, write_of}
 pub use Rattle.kob_rights.specs.declared.code.Code.{Code}
 use Rattle.kob_rights.specs.declared.reason.Reason.TheVariants.{OffsetsSpent, ProducerIdsSpent, SerialsSpent}
 use Rattle.kob_rights.specs.declared.reply.Body.TheVariants.{Groups, Topics}
 use Rattle.kob_rights.specs.declared.request.Request.TheVariants.{ListGroups}
 use Rattle.kob_broker.specs.Denial.{Check, Denied, Done, Refused, Verdict, denial_code, describes_cluster, describes_group, describes_topic, is_granted, question, rights, verdict}
-use Rattle.kob_broker.specs.State.{Contents, Event, Meaning, Reason, Reply, Request, State, listed, with_bindings}
+use Rattle.kob_broker.specs.State.{Contents, Event, Meaning, Reason, Reply, Request, State, listed, with_bindings, without_taken, IsTrueVerdict, group_names, AddBindings, Append, GiveProducerId, RemoveBindings, Write, write_of}
 use Rattle.kob_broker.specs.Step.{replies_of, state_after, step}
 use Rattle.kob_broker.specs.Topics.{metadata_request}
 

@@ -1,15 +1,12 @@
 -- Requests on topics: created, deleted, listed.
 use Rattle.std.specs.Prelude.{ℕ, Bool, not, List, [], ◌∷◌, ◌++◌, Option, Some, None, is_some, length, nat_le}
-use Rattle.kob_catalog.specs.Kept.{is_bad_count, new_topic}
-use Rattle.kob_catalog.specs.Topics.{topic_limit}
 use Rattle.kob_groups.specs.Groups as groups
-use Rattle.kob_names.specs.TextRules.{topic_fault}
 use Rattle.kob_rights.specs.declared.on_topics.CreateTopics.{CreateTopics}
 use Rattle.kob_rights.specs.declared.on_topics.DeleteTopics.{DeleteTopics}
 use Rattle.kob_rights.specs.declared.reason.Reason.TheVariants as reasons
 use Rattle.kob_rights.specs.declared.request.Request.TheVariants as requests
 use Rattle.kob_broker.specs.Denial.{describes_topic}
-use Rattle.kob_broker.specs.State.{Contents, Event, Meaning, Reason, Request, State, Topic, has_topic, listed_where, partition_count, without_topic}
+use Rattle.kob_broker.specs.State.{Contents, Event, Meaning, Reason, Request, State, Topic, has_topic, listed_where, partition_count, without_topic, is_bad_count, new_topic, topic_limit, topic_fault}
 
 -- a topic that is found, with its number of partitions
 abbrev pub counted : List ℕ → Option ℕ → List (List ℕ × ℕ)

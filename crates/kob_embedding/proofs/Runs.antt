@@ -1,5 +1,5 @@
 -- What becomes of the runs of a service and of a consumer.
-use Rattle.kob_embedding.proofs.Words.{Call, Change, Err, Event, Fetcher, HasConsumerRun, HasRun, HasServiceRun, IsReaderRun, IsSenderRun, IsTick, List, None, Ok, OnErr, OnOk, OutboxEvent, RecordFault, RecordsNoRow, Relayed, Restarted, Result, Subscription, Target, Tick, [], after_record, arith, dispatch_of, empty, false, first_bad, id_text, is_recorded, nat_tests, next_seq, records, scene_of, stored_event, subst, sym, ticks, ℕ, ◌++◌, ◌<◌, ◌^◌, ◌∷◌, ◌≡◌}
+use Rattle.kob_embedding.proofs.Words.{Call, Change, Err, Event, Fetcher, HasConsumerRun, HasRun, HasServiceRun, IsReaderRun, IsSenderRun, IsTick, List, None, Ok, OnErr, OnOk, OutboxEvent, RecordFault, RecordsNoRow, Relayed, Restarted, Result, Subscription, Target, Tick, [], after_record, arith, dispatch_of, empty, false, first_bad, id_text, is_recorded, nat_tests, next_seq, records, point_of, stored_event, subst, sym, ticks, ℕ, ◌++◌, ◌<◌, ◌^◌, ◌∷◌, ◌≡◌}
 use Rattle.kob_router.specs.Tick.{state_of}
 use Rattle.kob_inbox.specs.Contents.{Contents as Inbox}
 use Rattle.kob_inbox.specs.Run as consumer
@@ -62,8 +62,8 @@ pub ticked : (old new : Relayed) (calls then_calls : List Call) (unmade then_unm
     → IsTick old new calls then_calls unmade then_unmade tick → RecordsNoRow old calls new then_calls
 ticked old new calls then_calls unmade then_unmade tick is rows was =
     subst (λ (t : Target). HasServiceRun (dispatch_of t) (state_of new.router new.outbox) then_calls rows) (sym is.0)
-    (ticks (dispatch_of old.router.target) (scene_of old.router old.outbox calls unmade)
-    (scene_of new.router new.outbox then_calls then_unmade) tick rows was is.1)
+    (ticks (dispatch_of old.router.target) (point_of old.router old.outbox calls unmade)
+    (point_of new.router new.outbox then_calls then_unmade) tick rows was is.1)
 
 -- a consumer begins, ticks, and starts again
 
@@ -76,13 +76,13 @@ consumer_begins f inbox calls is empty none = grind (arith, nat_tests)
 
 pub consumer_ticked : (old new : Fetcher) (inbox then_inbox : Inbox) (calls then_calls : List Call)
     (unmade then_unmade : ℕ) (tick : taken_tick.Tick) → new.subscription ≡ old.subscription
-    → taken.Ticks old.subscription (taken.scene_of old inbox calls unmade)
-    (taken.scene_of new then_inbox then_calls then_unmade) tick
+    → taken.Ticks old.subscription (taken.point_of old inbox calls unmade)
+    (taken.point_of new then_inbox then_calls then_unmade) tick
     → IsReaderRun old inbox calls → IsReaderRun new then_inbox then_calls
 consumer_ticked old new inbox then_inbox calls then_calls unmade then_unmade tick same done was =
     subst (λ (t : Subscription). HasConsumerRun t (taken.state_of new then_inbox) then_calls) (sym same)
-    (consumer_courses.ticks old.subscription (taken.scene_of old inbox calls unmade)
-    (taken.scene_of new then_inbox then_calls then_unmade) tick was done)
+    (consumer_courses.ticks old.subscription (taken.point_of old inbox calls unmade)
+    (taken.point_of new then_inbox then_calls then_unmade) tick was done)
 
 pub consumer_restarted : (old new : Fetcher) (inbox : Inbox) (calls : List Call)
     → new.subscription ≡ old.subscription

@@ -23,7 +23,7 @@ pub use Rattle.kob_pipeline.specs.View.{ArePrivate, view_after}
 pub use Rattle.kob_pipeline.specs.Served.{served_to}
 pub use Rattle.kob_router.specs.Run.{dispatch_of}
 pub use Rattle.kob_router.specs.Line.{AreServed}
-pub use Rattle.kob_router.specs.Tick.{scene_of}
+pub use Rattle.kob_router.specs.Tick.{point_of}
 pub use Rattle.kob_router.specs.declared.dispatch.Target.{Target}
 pub use Rattle.kob_router.specs.declared.line.Call.{Call}
 pub use Rattle.kob_router.specs.declared.place.Place.{Place}

@@ -4,7 +4,7 @@ ghost use Rattle.std.specs.Prelude.{◌≡◌, ◌≤◌, [], IfErr, IfOk, IsErr
 ghost use Rattle.std.specs.Prelude.{length, map};
 ghost use Rattle.std.specs.List.{enumerate_from};
 ghost use Rattle.kob_inbox.specs.Contents.{placed_intake};
-ghost use Rattle.kob_inbox.specs.Tick.{Ticks, scene_of};
+ghost use Rattle.kob_inbox.specs.Tick.{Ticks, point_of};
 
 use crate::consumer_end::ConsumerEnd;
 use crate::part::Part;
@@ -72,9 +72,9 @@ impl<L: Line> RunningConsumer<L> {
     pub fn tick(&mut self, alloc: Global) -> Tick
         ensures same { self.new.fetcher.subscription ≡ self.old.fetcher.subscription }
         ensures done { Ticks self.old.fetcher.subscription
-            (scene_of self.old.fetcher self.old.inbox
+            (point_of self.old.fetcher self.old.inbox
             (L.calls self.old.line) (L.unmade self.old.line))
-            (scene_of self.new.fetcher self.new.inbox
+            (point_of self.new.fetcher self.new.inbox
             (L.calls self.new.line) (L.unmade self.new.line))
             result }
         ensures line { L.becomes self.old.line self.new.line }

@@ -1,8 +1,8 @@
 -- A tick of a consumer is put together, and what a run makes of the inbox.
-use Rattle.kob_inbox.proofs.Words.{Bool, Cursor, List, None, Place, [], and_parts, arith, bytes_eq, bytes_eq-Decides, cases_Bool, cond-false, cond-true, cursor_of, drop, drop_more, eqb-true, get_or, length, nat_tests, refl, same_place, set, set_split, standing, take, true, with_cursor, ℕ, ◌++◌, ◌<◌, ◌∷◌, ◌≡◌, Adds, Body, Call, Called, Committed, Contents, Denied, Done, Fetch, Hears, IfNone, IfSome, InboxFault, IsDue, Lost, OffsetCommit, Option, Record, Refused, Repeat, Reply, Request, Scene, Some, Standing, Stopped, Subscription, Tick, Ticks, after_answer, append-nil, arrivals, behind, due, event_id, inl, inr, slice_get, taken_in, with_progress, with_record, ◌+◌, Arrival, IsConsumerRun, Move, Restarted, after, ap, taken_of, ◌≤◌}
+use Rattle.kob_inbox.proofs.Words.{Bool, Cursor, List, None, Place, [], and_parts, arith, bytes_eq, bytes_eq-Decides, cases_Bool, cond-false, cond-true, cursor_of, drop, drop_more, eqb-true, get_or, length, nat_tests, refl, same_place, set, set_split, standing, take, true, with_cursor, ℕ, ◌++◌, ◌<◌, ◌∷◌, ◌≡◌, Adds, Body, Call, Called, Committed, Contents, Denied, Done, Fetch, Hears, IfNone, IfSome, InboxFault, IsDue, Lost, OffsetCommit, Option, Record, Refused, Repeat, Reply, Request, Point, Some, Standing, Stopped, Subscription, Tick, Ticks, after_answer, append-nil, arrivals, behind, due, event_id, inl, inr, slice_get, taken_in, with_progress, with_record, ◌+◌, Arrival, IsConsumerRun, Move, Restarted, after, ap, taken_of, ◌≤◌}
 use Rattle.kob_inbox.specs.Run.{State}
 use Rattle.kob_router.specs.declared.line.Delivery.TheVariants.{Delivered}
-use Rattle.kob_inbox.specs.Tick.{IsAnswer}
+use Rattle.kob_inbox.specs.Tick.{IsReport}
 use Rattle.kob_rights.specs.declared.reply.Body.TheVariants as bodies
 use Rattle.kob_inbox.specs.declared.tick.StopReason.TheVariants as stop
 
@@ -50,9 +50,9 @@ fetch_at t p position = Fetch (record { topic = p.topic; partition = p.partition
 
 -- ---- a tick by what came of its call
 
--- a scene in which all stands but the line
-abbrev pub scene : State → List Call → ℕ → Scene
-scene s calls unmade = record { state = s; calls = calls; unmade = unmade }
+-- a point in which all stands but the line
+abbrev pub point : State → List Call → ℕ → Point
+point s calls unmade = record { state = s; calls = calls; unmade = unmade }
 
 abbrev pub state_with : Contents → List Cursor → ℕ → State
 state_with inbox cursors turn = record { inbox = inbox; cursors = cursors; turn = turn }
@@ -64,25 +64,25 @@ module _ {t : Subscription} {inbox : Contents} {cs ds : List Cursor} {turn : ℕ
   ticks_still : (heard : Option Reply) {tick : Tick}
       → after_answer t (state_with inbox ds turn) asked heard 0 ≡ state_with inbox ds turn
       → now ≡ before ++ record { request = asked; heard = heard } ∷ [] → v ≡ u
-      → IsAnswer t tick (Called (record { request = asked; heard = heard }) 0 ∷ [])
-      → Ticks t (scene (state_with inbox ds turn) before u) (scene (state_with inbox cs turn) now v) tick
+      → IsReport t tick (Called (record { request = asked; heard = heard }) 0 ∷ [])
+      → Ticks t (point (state_with inbox ds turn) before u) (point (state_with inbox cs turn) now v) tick
   ticks_still heard {tick} stays made noted answer = grind (arith, nat_tests)
 
   pub ticks_lost : Adds before now u v asked Lost
-      → Ticks t (scene (state_with inbox ds turn) before u) (scene (state_with inbox cs turn) now v) Repeat
+      → Ticks t (point (state_with inbox ds turn) before u) (point (state_with inbox cs turn) now v) Repeat
   ticks_lost (inl made) = ticks_still None refl made.0 made.1 (inr (asked, refl))
   ticks_lost (inr unmade) = grind (arith, nat_tests, append-nil)
 
   pub ticks_denied : {reply : Reply} (code : _) (verdicts : _) → reply ≡ Denied code verdicts
       → Adds before now u v asked (Delivered reply)
-      → Ticks t (scene (state_with inbox ds turn) before u) (scene (state_with inbox cs turn) now v)
+      → Ticks t (point (state_with inbox ds turn) before u) (point (state_with inbox cs turn) now v)
       (Stopped (stop.Denied code verdicts))
   ticks_denied code verdicts is added =
       let (made, noted) = rw is at added in ticks_still _ refl made noted (asked, refl)
 
   pub ticks_refused : {reply : Reply} (code : _) (reason : _) → reply ≡ Refused code reason
       → Adds before now u v asked (Delivered reply)
-      → Ticks t (scene (state_with inbox ds turn) before u) (scene (state_with inbox cs turn) now v)
+      → Ticks t (point (state_with inbox ds turn) before u) (point (state_with inbox cs turn) now v)
       (Stopped (stop.Refused code reason))
   ticks_refused code reason is added =
       let (made, noted) = rw is at added in ticks_still _ refl made noted (asked, refl)
@@ -91,7 +91,7 @@ module _ {t : Subscription} {inbox : Contents} {cs ds : List Cursor} {turn : ℕ
   pub ticks_heard : {new : State} {reply : Reply} (request : Request) (body : Body) {tick : Tick} → asked ≡ request
       → reply ≡ Done body → Adds before now u v asked (Delivered reply)
       → Hears t (state_with inbox cs turn) new request body tick
-      → Ticks t (scene (state_with inbox ds turn) before u) (scene new now v) tick
+      → Ticks t (point (state_with inbox ds turn) before u) (point new now v) tick
   ticks_heard {new} {reply} request body {tick} due_is is added k = grind (arith, nat_tests)
 
 -- ---- what becomes of a body
@@ -107,7 +107,7 @@ pub took : (t : Subscription) (s : State) (p : Place) (position n after turn : �
     (inbox : Contents) (cursors : List Cursor) {tick : Tick} → n ≤ length rs → 0 < length rs
     → inbox ≡ taken_in s.inbox (arrivals p (take n rs)) → cursors ≡ with_progress s.cursors p n after
     → after ≡ behind position (take n rs) → turn ≡ s.turn
-    → IsAnswer t tick
+    → IsReport t tick
     (Called (record { request = fetch_at t p position; heard = Some (Done (bodies.Records rs)) }) n ∷ [])
     → Hears t s (state_with inbox cursors turn) (fetch_at t p position) (bodies.Records rs) tick
 took t s p position n after turn rs inbox cursors low some taken moved passed stays answer =

@@ -3,7 +3,7 @@ pub use Rattle.kob_inbox.specs.Run.{first_partitions, cursor_of, standing, with_
 pub use Rattle.kob_inbox.specs.Contents.{Contents, Intake, IsOnce, Arrival, answer_to, arrivals, intake_of, is_there, taken_in, with_intake, with_record, arrival_from, placed_intake, fault_of}
 pub use Rattle.kob_inbox.specs.Database.{HasLast, IsInbox, contents, Holds, IsReadable, IsShown, contents_in, inbox_tree, key_in, key_value, placed_row, shown_intake, inbox, inbox_schema, inbox_table}
 pub use Rattle.kob_inbox.specs.Run.Move.{Called, Restarted}
-pub use Rattle.kob_inbox.specs.Tick.{Hears, Scene, Ticks, state_of}
+pub use Rattle.kob_inbox.specs.Tick.{Hears, Point, Ticks, state_of}
 pub use Rattle.kob_inbox.specs.declared.cursors.Cursor.{Cursor}
 pub use Rattle.kob_inbox.specs.declared.cursors.Standing.{Standing}
 pub use Rattle.kob_inbox.specs.declared.fault.InboxFault.{InboxFault}

@@ -19,14 +19,14 @@ abbrev pub state_of : Fetcher → Contents → State
 state_of f inbox = record { inbox = inbox; cursors = f.cursors.items; turn = f.turn }
 
 -- a consumer with its inbox, and what its line tells
-pub record Scene : Type 0 where
+pub record Point : Type 0 where
   pub state : State
   pub calls : List Call
   pub unmade : ℕ
 
 -- both, at one time
-abbrev pub scene_of : Fetcher → Contents → List Call → ℕ → Scene
-scene_of f inbox calls unmade = record { state = state_of f inbox; calls = calls; unmade = unmade }
+abbrev pub point_of : Fetcher → Contents → List Call → ℕ → Point
+point_of f inbox calls unmade = record { state = state_of f inbox; calls = calls; unmade = unmade }
 
 -- some assigned partition has the turn, where there is one
 abbrev pub IsOnTurn : Fetcher → Type 0
@@ -54,22 +54,22 @@ IsReason stop.Memory moves = (moves ≡ []) ⊎ IsCut moves
 IsReason stop.Store moves = IsCut moves
 
 -- what a tick answers, by the one move that it makes
-abbrev pub IsAnswer : Subscription → Tick → List Move → Type 0
-IsAnswer t (Placed position) moves =
+abbrev pub IsReport : Subscription → Tick → List Move → Type 0
+IsReport t (Placed position) moves =
     (asked : PositionRequest) × (committed : Option ℕ)
     × IsCall moves (OffsetFetch asked) (Some (Done (bodies.Commit committed))) 0
     × (position ≡ unwrap_or committed 0)
-IsAnswer t (Took count) moves =
+IsReport t (Took count) moves =
     (asked : FetchRequest) × (records : List (ℕ × Record))
     × IsCall moves (Fetch asked) (Some (Done (bodies.Records records))) count
     × (count ≡ length records) × (0 < count)
-IsAnswer t Committed moves =
+IsReport t Committed moves =
     (asked : CommitRequest) × IsCall moves (OffsetCommit asked) (Some (Done bodies.Committed)) 0
-IsAnswer t Idle moves =
+IsReport t Idle moves =
     ((t.assignment ≡ []) × (moves ≡ []))
     ⊎ ((asked : FetchRequest) × IsCall moves (Fetch asked) (Some (Done (bodies.Records []))) 0)
-IsAnswer t Repeat moves = (moves ≡ []) ⊎ ((request : Request) × IsCall moves request None 0)
-IsAnswer t (Stopped reason) moves = IsReason reason moves
+IsReport t Repeat moves = (moves ≡ []) ⊎ ((request : Request) × IsCall moves request None 0)
+IsReport t (Stopped reason) moves = IsReason reason moves
 
 -- how often calls were not made for lack of memory: of a tick, only a loss without a call tells so
 abbrev pub unmade_by : Tick → List Move → ℕ → ℕ
@@ -78,11 +78,11 @@ unmade_by Repeat [] unmade = one_more unmade
 unmade_by tick [] unmade = unmade
 
 -- the one move of a tick, or none: a run, whose call the line notes and the answer tells of
-pub record Ticks (t : Subscription) (old new : Scene) (tick : Tick) : Type 0 where
+pub record Ticks (t : Subscription) (old new : Point) (tick : Tick) : Type 0 where
   pub moves : List Move
   pub run : IsConsumerRun t old.state moves new.state
   pub calls : new.calls ≡ old.calls ++ calls_of moves
-  pub answer : IsAnswer t tick moves
+  pub answer : IsReport t tick moves
   pub counted : new.unmade ≡ unmade_by tick moves old.unmade
 
 -- what becomes of a body that was heard
@@ -91,5 +91,5 @@ pub record Hears (t : Subscription) (old new : State) (request : Request) (body 
   pub count : ℕ
   pub within : count ≤ length (records_heard (Some (Done body)))
   pub changed : new ≡ after_answer t old request (Some (Done body)) count
-  pub answer : IsAnswer t tick
+  pub answer : IsReport t tick
       (Called (record { request = request; heard = Some (Done body) }) count ∷ [])

@@ -34,7 +34,7 @@ impl Consumer {
     ghost use Rattle.kob_inbox.specs.Contents.{Contents};
     ghost use Rattle.kob_inbox.specs.Run.{after};
     ghost use Rattle.kob_inbox.specs.Run.Move.{Restarted};
-    ghost use Rattle.kob_inbox.specs.Tick.{Ticks, scene_of, state_of};
+    ghost use Rattle.kob_inbox.specs.Tick.{Ticks, point_of, state_of};
 
     /// A consumer that knows no position. The first assigned partition has the first turn; one that
     /// is assigned twice has two turns and one position. A FETCH asks for at most `max` records, of
@@ -69,8 +69,8 @@ impl Consumer {
     pub fn tick<L: Line>(&mut self, alloc: Global, inbox: &mut Inbox, line: &mut L) -> Tick
         ensures same { self.new.subscription ≡ self.old.subscription }
         ensures done { Ticks self.old.subscription
-            (scene_of self.old inbox.old (L.calls line.old) (L.unmade line.old))
-            (scene_of self.new inbox.new (L.calls line.new) (L.unmade line.new))
+            (point_of self.old inbox.old (L.calls line.old) (L.unmade line.old))
+            (point_of self.new inbox.new (L.calls line.new) (L.unmade line.new))
             result }
         ensures line { L.becomes line.old line.new }
     {

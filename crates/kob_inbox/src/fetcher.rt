@@ -82,7 +82,7 @@ impl Fetcher {
     ghost use Rattle.kob_rights.specs.Requests.{IsBodyOf, BodyWithin, greatest_offset};
     ghost use Rattle.kob_inbox.specs.Contents.{Contents};
     ghost use Rattle.kob_inbox.specs.Run.{with_progress, cursor_of, standing, after_answer, due};
-    ghost use Rattle.kob_inbox.specs.Tick.{Hears, IsOnTurn, Ticks, scene_of, state_of};
+    ghost use Rattle.kob_inbox.specs.Tick.{Hears, IsOnTurn, Ticks, point_of, state_of};
 
     /// One step: one request on the partition that has the turn. Capacity for its cursor is
     /// reserved before the request, so that only the inbox can fail once a reply is received.
@@ -91,8 +91,8 @@ impl Fetcher {
         ensures same { self.new.subscription ≡ self.old.subscription }
         ensures turn { IsOnTurn self.new }
         ensures done { Ticks self.old.subscription
-            (scene_of self.old inbox.old (L.calls line.old) (L.unmade line.old))
-            (scene_of self.new inbox.new (L.calls line.new) (L.unmade line.new))
+            (point_of self.old inbox.old (L.calls line.old) (L.unmade line.old))
+            (point_of self.new inbox.new (L.calls line.new) (L.unmade line.new))
             result }
         ensures line { L.becomes line.old line.new }
     {

@@ -1,5 +1,5 @@
 -- A consumer's run goes on.
-use Rattle.kob_lines.proofs.Words.{Call, Called, HasConsumerRun, IsConsumerRun, List, Move, Restarted, Scene, Subscription, Tick, Ticks, [], after, ap, append-nil, calls_of, refl, start, subst, sym, ◌++◌, ◌∙◌, ◌∷◌, ◌≡◌}
+use Rattle.kob_lines.proofs.Words.{Call, Called, HasConsumerRun, IsConsumerRun, List, Move, Restarted, Point, Subscription, Tick, Ticks, [], after, ap, append-nil, calls_of, refl, start, subst, sym, ◌++◌, ◌∙◌, ◌∷◌, ◌≡◌}
 use Rattle.kob_inbox.specs.Run.{State}
 
 pub joined : (t : Subscription) (one two : List Move) (old middle new : State) → IsConsumerRun t old one middle
@@ -23,7 +23,7 @@ on t old new calls now ms was run told = record {
   made = told ∙ ap (λ (cs : List Call). cs ++ calls_of ms) was.made ∙ sym (calls_joined was.moves ms);
 }
 
-pub ticks : (t : Subscription) (old new : Scene) (tick : Tick) → HasConsumerRun t old.state old.calls → Ticks t old new tick
+pub ticks : (t : Subscription) (old new : Point) (tick : Tick) → HasConsumerRun t old.state old.calls → Ticks t old new tick
     → HasConsumerRun t new.state new.calls
 ticks t old new tick was done = on t old.state new.state old.calls new.calls done.moves was done.run done.calls
 

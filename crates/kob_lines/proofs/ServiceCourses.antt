@@ -3,7 +3,7 @@ use Rattle.kob_lines.proofs.Words.{AllByRecursion, Call, Change, Contents, Dispa
 use Rattle.kob_outbox.specs.Contents.{Event}
 use Rattle.kob_router.specs.Run.{Move, after, calls_of, start}
 use Rattle.kob_router.specs.Run.Move.{Called, Restarted}
-use Rattle.kob_router.specs.Tick.{Scene, Ticks}
+use Rattle.kob_router.specs.Tick.{Point, Ticks}
 use Rattle.kob_router.specs.declared.tick.Tick.{Tick}
 
 -- an acknowledgement records nothing
@@ -62,7 +62,7 @@ on route old new calls now rows ns was run told none =
 pub begins : (route : Dispatching) → HasServiceRun route start [] []
 begins route = record { moves = []; run = refl; made = refl; recorded = refl }
 
-pub ticks : (route : Dispatching) (old new : Scene) (tick : Tick) (rows : List Event)
+pub ticks : (route : Dispatching) (old new : Point) (tick : Tick) (rows : List Event)
     → HasServiceRun route old.state old.calls rows → Ticks IsOneTick route old new tick
     → HasServiceRun route new.state new.calls rows
 ticks route old new tick rows was done = grind (arith, nat_tests, on, ticks_record_nothing)

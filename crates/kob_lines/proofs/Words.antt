@@ -2,7 +2,7 @@
 pub use Rattle.kob_broker.specs.Step.{state_of, step}
 pub use Rattle.kob_inbox.specs.Run.{IsConsumerRun, Move, after, calls_of, start}
 pub use Rattle.kob_inbox.specs.Run.Move.{Called, Restarted}
-pub use Rattle.kob_inbox.specs.Tick.{Scene, Ticks}
+pub use Rattle.kob_inbox.specs.Tick.{Point, Ticks}
 pub use Rattle.kob_inbox.specs.declared.fetcher.Subscription.{Subscription}
 pub use Rattle.kob_inbox.specs.declared.tick.Tick.{Tick}
 pub use Rattle.kob_lines.specs.Calls.{GainsAtMost, IsEntryOf, IsHeardOf, IsServedAtMostOnce, IsServedIfHeard, IsServedInSession, Journals, KeepsSeat, PassesCallsOn, PassesOn, reply_of}

@@ -2,7 +2,7 @@
 use Rattle.std.specs.Prelude.{◌≡◌, ℕ, List, length, option_map}
 use Rattle.kob_outbox.specs.Contents.{Contents, Event, empty, up_to}
 use Rattle.kob_router.specs.Run.{dispatch_of, Dispatching, IsRouterRun, events_of}
-use Rattle.kob_router.specs.Tick.{IsFirst, IsOneTick, Ticks, hand_of, scene_of}
+use Rattle.kob_router.specs.Tick.{IsFirst, IsOneTick, Ticks, hand_of, point_of}
 use Rattle.kob_router.specs.declared.line.Call.{Call}
 use Rattle.kob_router.specs.declared.sender.Sender.{Sender}
 use Rattle.kob_router.specs.declared.tick.Tick.{Tick}
@@ -24,8 +24,8 @@ HoldsFirst r = IsFirst (option_map hand_of r.router.hand) r.outbox
 abbrev pub IsTick : Relayed → Relayed → List Call → List Call → ℕ → ℕ → Tick → Type 0
 IsTick old new calls then_calls unmade then_unmade tick =
     (new.router.target ≡ old.router.target)
-    × Ticks IsOneTick (dispatch_of old.router.target) (scene_of old.router old.outbox calls unmade)
-    (scene_of new.router new.outbox then_calls then_unmade) tick
+    × Ticks IsOneTick (dispatch_of old.router.target) (point_of old.router old.outbox calls unmade)
+    (point_of new.router new.outbox then_calls then_unmade) tick
 
 -- one step of a router over some outbox, before and after which the row in hand is the first
 abbrev pub IsSomeTick : List Call → List Call → ℕ → ℕ → Tick → Type 0

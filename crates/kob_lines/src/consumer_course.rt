@@ -4,7 +4,7 @@ ghost use Rattle.std.specs.Prelude.{◌++◌, [], List};
 ghost use Rattle.kob_lines.specs.Relayed.{HasConsumerRun};
 ghost use Rattle.kob_inbox.specs.Run.Move.{Restarted};
 ghost use Rattle.kob_inbox.specs.Run.{IsConsumerRun, Move, State, after, start};
-ghost use Rattle.kob_inbox.specs.Tick.{Scene, Ticks};
+ghost use Rattle.kob_inbox.specs.Tick.{Point, Ticks};
 ghost use Rattle.kob_inbox.specs.declared.fetcher.Subscription.{Subscription};
 ghost use Rattle.kob_inbox.specs.declared.tick.Tick.{Tick};
 ghost use Rattle.kob_router.specs.declared.line.Call.{Call};
@@ -13,7 +13,7 @@ ghost use Rattle.kob_router.specs.declared.line.Call.{Call};
 /// runs of which one begins where the other ends are one.
 pub fn a_consumer_run_goes_on()
     ensures begins { (t : Subscription) → HasConsumerRun t start [] }
-    ensures ticks { (t : Subscription) (old new : Scene) (tick : Tick)
+    ensures ticks { (t : Subscription) (old new : Point) (tick : Tick)
         → HasConsumerRun t old.state old.calls → Ticks t old new tick → HasConsumerRun t new.state new.calls }
     ensures restarts { (t : Subscription) (old : State) (calls : List Call)
         → HasConsumerRun t old calls → HasConsumerRun t (after t old Restarted) calls }

@@ -8,7 +8,7 @@ ghost use Rattle.kob_lines.specs.Relayed.{HasServiceRun};
 ghost use Rattle.kob_router.specs.Run.{Dispatching};
 ghost use Rattle.kob_router.specs.Run.Move.{Recorded, Restarted, Swept};
 ghost use Rattle.kob_router.specs.Run.{IsRecordable, IsRouterRun, Move, State, after, start};
-ghost use Rattle.kob_router.specs.Tick.{IsOneTick, Scene, Ticks};
+ghost use Rattle.kob_router.specs.Tick.{IsOneTick, Point, Ticks};
 ghost use Rattle.kob_router.specs.declared.line.Call.{Call};
 ghost use Rattle.kob_router.specs.declared.tick.Tick.{Tick};
 
@@ -17,7 +17,7 @@ ghost use Rattle.kob_router.specs.declared.tick.Tick.{Tick};
 /// where the other ends are one.
 pub fn a_service_run_goes_on()
     ensures begins { (route : Dispatching) → HasServiceRun route start [] [] }
-    ensures ticks { (route : Dispatching) (old new : Scene) (tick : Tick) (rows : List Event)
+    ensures ticks { (route : Dispatching) (old new : Point) (tick : Tick) (rows : List Event)
         → HasServiceRun route old.state old.calls rows → Ticks IsOneTick route old new tick
         → HasServiceRun route new.state new.calls rows }
     ensures records { (route : Dispatching) (old : State) (calls : List Call) (rows : List Event)

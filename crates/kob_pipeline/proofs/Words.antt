@@ -24,7 +24,7 @@ pub use Rattle.kob_pipeline.specs.Plans.{IsCopy, IsDelivered, IsPrefixOf, IsReco
 pub use Rattle.kob_pipeline.specs.Pipelines.{HasDone, HasLeft, IsEnd, IsNoneLost, IsPipeline, TakesInOrder, consumer_number, consumer_place, inbox_in, notes_in, outbox_in, records_at, service_number}
 pub use Rattle.kob_pipeline.specs.View.{ActsAlone, ArePrivate, Commits, Deletes, IsNeverDeleted, IsNoDeletion, IsOwnCommit, IsOwnProduce, IsPrivate, IsReserved, IsReservedFor, IsSoleCommitter, IsSoleProducer, NoSuperUser, Produces, Accepts, Does, IsGiven, IsHistory, IsSameView, Step, View, batches_of, judged_in, opening_view, read_from, view_after, view_of, with_batch, with_commit, with_producer}
 pub use Rattle.kob_pipeline.specs.Served.{AreMade, AreNotedOrLost, AreServedByLoss, IsConsumerPart, IsEventOf, IsServicePart, served_by_notes, served_to}
-pub use Rattle.kob_pipeline.specs.Steps.{ConsumerGoesOn, Doing, HasEnded, HasWorked, IsConsumerStep, IsConsumption, IsInboxLeft, IsLeft, IsOfConsumerStep, IsOfServiceStep, IsOutboxLeft, IsServiceRun, IsServiceStep, IsWhole, Leads, Planned, ServiceGoesOn, Standing, Steps, planned_as, planned_workers, standing}
+pub use Rattle.kob_pipeline.specs.Steps.{ConsumerGoesOn, Doing, HasEnded, HasWorked, IsConsumerStep, IsConsumption, IsInboxLeft, IsLeft, IsOfConsumerStep, IsOfServiceStep, IsOutboxLeft, IsServiceRun, IsServiceStep, IsWhole, Leads, Planned, ServiceGoesOn, WithDesk, Steps, planned_as, planned_workers, with_desk}
 pub use Rattle.kob_pipeline.specs.Steps.Planned.{Administering, Consuming, Serving}
 pub use Rattle.kob_pipeline.specs.Types.{AreServed, Arrival, AtDesk, Body, Call, CallFault, ConsumerPlan, DeleteGroups, DeleteTopics, Dispatching, EachIsAnswered, Entry, Fetch, InboxEnd, InitProducerId, IsAnswered, IsConsumerRun, IsKept, Loss, Noted, OffsetCommit, OffsetFetch, OutboxEnd, Place, Plain, Plan, Produce, Reply, Request, Retained, Served, Service, ServiceStep, Settings, Subscription, WorkerEnd, dispatch_of, events_in, history, id_text, notes_of, open_state, place_at, plain_meaning, records_of, same_place, stored_event, stored_row, taken_in, taken_of, told_in}
 pub use Rattle.kob_pipeline.specs.declared.end.PipelineEnd.{PipelineEnd}

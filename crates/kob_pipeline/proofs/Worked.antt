@@ -1,5 +1,5 @@
 -- One call at a desk, and those of a tick.
-use Rattle.kob_pipeline.proofs.Words.{All-cons, All-nil, AreMade, AreNotedOrLost, AreServed, AreServedByLoss, AtDesk, Call, CallFault, Change, ConsumerGoesOn, ConsumerPlan, Dispatching, Doing, Err, HasWorked, IfNone, IfOk, IfSome, InboxEnd, IsConsumerStep, IsConsumption, IsEventOf, IsHeard, IsInboxLeft, IsOfConsumerStep, IsOfServiceStep, IsOutboxLeft, IsServiceRun, IsServiceStep, Leads, List, Loss, None, Ok, Option, OutboxEnd, OutboxEvent, Receipt, Reply, Request, Result, Served, Service, ServiceGoesOn, ServiceStep, Some, Standing, Steps, Subscription, [], ap, append-nil, append_assoc, append_cancel_left, arith, dispatch_of, event_at, get_or, get_or_push, inl, inr, later_than, length, length-append, map, nat_tests, nothing, refl, served_by_notes, standing, stored_row, sym, take, take_more, ℕ, ◌++◌, ◌+◌, ◌-◌, ◌<◌, ◌∙◌, ◌∷◌, ◌≡◌}
+use Rattle.kob_pipeline.proofs.Words.{All-cons, All-nil, AreMade, AreNotedOrLost, AreServed, AreServedByLoss, AtDesk, Call, CallFault, Change, ConsumerGoesOn, ConsumerPlan, Dispatching, Doing, Err, HasWorked, IfNone, IfOk, IfSome, InboxEnd, IsConsumerStep, IsConsumption, IsEventOf, IsHeard, IsInboxLeft, IsOfConsumerStep, IsOfServiceStep, IsOutboxLeft, IsServiceRun, IsServiceStep, Leads, List, Loss, None, Ok, Option, OutboxEnd, OutboxEvent, Receipt, Reply, Request, Result, Served, Service, ServiceGoesOn, ServiceStep, Some, WithDesk, Steps, Subscription, [], ap, append-nil, append_assoc, append_cancel_left, arith, dispatch_of, event_at, get_or, get_or_push, inl, inr, later_than, length, length-append, map, nat_tests, nothing, refl, served_by_notes, with_desk, stored_row, sym, take, take_more, ℕ, ◌++◌, ◌+◌, ◌-◌, ◌<◌, ◌∙◌, ◌∷◌, ◌≡◌}
 use Rattle.kob_rights.specs.declared.event.Event.{Event}
 use Rattle.kob_pipeline.specs.Noting.{nothing_is_noted, noted_append}
 use Rattle.kob_router.proofs.Runs.{calls_append, run_append}
@@ -149,11 +149,11 @@ module _ {S T M : Type 0} (does : Doing S T M) where
 
 module _ {S T M : Type 0} {does : Doing S T M} where
   -- no step was made yet
-  pub no_step : {state : S} (desk : AtDesk) → Leads (Steps does) (standing state desk) [] (standing state desk)
+  pub no_step : {state : S} (desk : AtDesk) → Leads (Steps does) (with_desk state desk) [] (with_desk state desk)
   no_step desk = record { moves = []; served = []; done = (refl, refl, refl); noted = nothing_is_noted desk }
 
   -- the steps up to one more place
-  pub leads_more : {old mid new : Standing S} {step : T} (steps : List T) (i : ℕ) → i < length steps
+  pub leads_more : {old mid new : WithDesk S} {step : T} (steps : List T) (i : ℕ) → i < length steps
       → step ≡ get_or steps i step
       → Leads (Steps does) old (take i steps) mid → Leads does mid step new
       → Leads (Steps does) old (take (i + 1) steps) new
@@ -173,14 +173,14 @@ module _ {S T M : Type 0} {does : Doing S T M} where
 
   -- a step that makes no call
   pub leads_still : {old new : S} {step : T} {desk : AtDesk} (moves : List M) → does old step moves [] new
-      → Leads does (standing old desk) step (standing new desk)
+      → Leads does (with_desk old desk) step (with_desk new desk)
   leads_still {desk = desk} moves here =
       record { moves = moves; served = []; done = here; noted = nothing_is_noted desk }
 
   -- what was noted from nothing on is all
   abbrev has_worked : {start state : S} {planned : List T} {principal host : List ℕ} (begun desk : AtDesk)
       → begun.noted ≡ nothing → begun.seat.principal ≡ principal → begun.seat.host ≡ host
-      → Leads (Steps does) (standing start begun) planned (standing state desk)
+      → Leads (Steps does) (with_desk start begun) planned (with_desk state desk)
       → HasWorked does start planned principal host desk.noted
   has_worked {state = state} begun desk none principal host is = record {
     moves = is.moves;
@@ -192,7 +192,7 @@ module _ {S T M : Type 0} {does : Doing S T M} where
 -- an event that may not be recorded is not
 pub not_recorded : {route : Dispatching} {old new : routers.State} {change : Change} {event : OutboxEvent}
     (desk : AtDesk) → new ≡ old → (routers.IsRecordable old.outbox change event → ⊥)
-    → Leads (IsServiceStep route) (standing old desk) (Record change event) (standing new desk)
+    → Leads (IsServiceStep route) (with_desk old desk) (Record change event) (with_desk new desk)
 not_recorded desk same never = leads_still [] (record { run = same; own = (inr (refl, never), refl) })
 
 -- ---- what a worker's steps, its losses and its notes make together
@@ -248,8 +248,8 @@ consumption_of c begun desk left none principal host is =
 
 -- what the steps of a service leave, from the start on
 pub outbox_left : (s : Service) {new : routers.State} {before now : AtDesk} {left : OutboxEnd}
-    → Leads (Steps (IsServiceStep (dispatch_of s.target))) (standing routers.start before) s.steps.items
-    (standing new now)
+    → Leads (Steps (IsServiceStep (dispatch_of s.target))) (with_desk routers.start before) s.steps.items
+    (with_desk new now)
     → map stored_row left.rows.items ≡ later_than 0 new.outbox.events → left.mark ≡ new.outbox.mark
     → IsOutboxLeft s before now left
 outbox_left s {new = new} leads rows mark =
@@ -264,11 +264,11 @@ outbox_left s {new = new} leads rows mark =
 
 -- ---- a tick over a line at a desk is a step of its worker
 
-abbrev pub router_scene : routers.State → List Call → ℕ → router_ticks.Scene
-router_scene state calls unmade = record { state = state; calls = calls; unmade = unmade }
+abbrev pub router_point : routers.State → List Call → ℕ → router_ticks.Point
+router_point state calls unmade = record { state = state; calls = calls; unmade = unmade }
 
-abbrev pub consumer_scene : consumers.State → List Call → ℕ → consumer_ticks.Scene
-consumer_scene state calls unmade = record { state = state; calls = calls; unmade = unmade }
+abbrev pub consumer_point : consumers.State → List Call → ℕ → consumer_ticks.Point
+consumer_point state calls unmade = record { state = state; calls = calls; unmade = unmade }
 
 -- the line is the worker's, whose loss was set
 module _ {loss set then_loss : Loss} {fault : Option CallFault} {calls then_calls : List Call} {unmade then_unmade : ℕ}
@@ -278,15 +278,15 @@ module _ {loss set then_loss : Loss} {fault : Option CallFault} {calls then_call
   ticked : {S T M : Type 0} {does : Doing S T M} {old new : S} {step : T} (moves : List M) (these : List Call)
       → then_calls ≡ calls ++ these
       → ((served : List Served) → AreServedByLoss loss these served → does old step moves served new)
-      → Leads does (standing old before) step (standing new desk)
+      → Leads does (with_desk old before) step (with_desk new desk)
   ticked moves these is done =
       let at = calls_of_a_tick fault loss then_loss calls then_calls these before desk (rw (is_set, same) at made) is in
       record { moves = moves; served = at.served; done = done at.served at.by_loss; noted = at.noted }
 
   pub service_ticked : {route : Dispatching} {old new : routers.State} {tick : RouterAnswer} → ServiceGoesOn tick
-      → router_ticks.Ticks router_ticks.IsOneTick route (router_scene old calls unmade)
-      (router_scene new then_calls then_unmade) tick
-      → Leads (IsServiceStep route) (standing old before) (service_steps.Tick loss) (standing new desk)
+      → router_ticks.Ticks router_ticks.IsOneTick route (router_point old calls unmade)
+      (router_point new then_calls then_unmade) tick
+      → Leads (IsServiceStep route) (with_desk old before) (service_steps.Tick loss) (with_desk new desk)
   service_ticked {tick = tick} goes_on ticks =
       ticked ticks.moves (routers.calls_of ticks.moves) ticks.calls (λ served by. record {
         run = ticks.run;
@@ -301,8 +301,8 @@ module _ {loss set then_loss : Loss} {fault : Option CallFault} {calls then_call
       })
 
   pub consumer_ticked : {t : Subscription} {old new : consumers.State} {tick : ConsumerAnswer} → ConsumerGoesOn tick
-      → consumer_ticks.Ticks t (consumer_scene old calls unmade) (consumer_scene new then_calls then_unmade) tick
-      → Leads (IsConsumerStep t) (standing old before) (consumer_steps.Tick loss) (standing new desk)
+      → consumer_ticks.Ticks t (consumer_point old calls unmade) (consumer_point new then_calls then_unmade) tick
+      → Leads (IsConsumerStep t) (with_desk old before) (consumer_steps.Tick loss) (with_desk new desk)
   consumer_ticked {tick = tick} goes_on ticks =
       ticked ticks.moves (consumers.calls_of ticks.moves) ticks.calls (λ served by. record {
         run = ticks.run;

@@ -1,9 +1,7 @@
 -- What a pipeline leaves of a plan, how it may fail, and how the laws speak of what is left.
 use Rattle.std.specs.Prelude.{◌≡◌, ℕ, ◌+◌, List, length, Some, option_map, slice_get, [], map}
 use Rattle.std.specs.List.{AllZip, AllByRecursion}
-use Rattle.kob_broker.specs.Step.{state_of}
-use Rattle.kob_pipeline.specs.Types.{State, Retained, BeginsWith, EachIsAnswered, IsKept, IsTornAt, events_in, notes_of, told_in, NamesOneOf, Noted, WorkerEnd, Plan, Settings, Record, records_of, stored_row, dispatch_of, Place, taken_in, placed_intake, taken_of, InboxEnd, OutboxEnd, ConsumerPlan, Service}
-use Rattle.kob_rights.specs.declared.event.Event.{Event}
+use Rattle.kob_pipeline.specs.Types.{State, Retained, BeginsWith, EachIsAnswered, IsKept, IsTornAt, events_in, notes_of, told_in, NamesOneOf, Noted, WorkerEnd, Plan, Settings, Record, records_of, stored_row, dispatch_of, Place, taken_in, placed_intake, taken_of, InboxEnd, OutboxEnd, ConsumerPlan, Service, state_of, Event}
 use Rattle.kob_shared.specs.Journals.{IsLegal, opened_by}
 use Rattle.kob_shared.specs.declared.work.Done.{Done}
 use Rattle.kob_pipeline.specs.declared.end.PipelineEnd.{PipelineEnd}

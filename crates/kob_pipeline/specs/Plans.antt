@@ -1,15 +1,13 @@
 -- Plans: which may be run, how much they ask for, and the rows that their services record.
 use Rattle.std.specs.Prelude.{◌≤◌, length, ℕ, ◌+◌, ◌*◌, vec_len, suc, ◌^◌, List, [], ◌∷◌, ◌++◌, Bool, not, ◌&&◌, if◌then◌else◌, is_none, nat_lt, ◌≡◌, false, filter, map, Contains, Option, None, Some, option_map, bytes_eq, nat_eq, slice_get, ◌⊎◌, ◌<◌}
 use Rattle.std.specs.List.{All, sum_by, fold, list_any, AllByRecursion, filter_map, range_with_len, IsDistinct}
-use Rattle.kob_pipeline.specs.Types.{Plan, id_text, stored_event, Service, ServiceStep, Record, Dispatching, same_place, Place, Arrival, Body, Produce, Entry}
+use Rattle.kob_pipeline.specs.Types.{Plan, id_text, stored_event, Service, ServiceStep, Record, Dispatching, same_place, Place, Arrival, Body, Produce, Entry, Move, events_of, Done}
 use Rattle.kob_outbox.specs.Contents.{Event, first_bad, is_recorded, Contents as Outbox, empty}
 use Rattle.kob_outbox.specs.declared.change.Change.{Change}
 use Rattle.kob_outbox.specs.declared.event.OutboxEvent.{OutboxEvent}
 use Rattle.kob_router.specs.Route.{event_id}
-use Rattle.kob_router.specs.Run.{Move, events_of}
 use Rattle.kob_router.specs.declared.dispatch.Dispatch.{Dispatch}
 use Rattle.kob_rights.specs.declared.on_partitions.Produce.{Produce as ProduceRequest}
-use Rattle.kob_rights.specs.declared.reply.Reply.TheVariants.{Done}
 use Rattle.kob_inbox.specs.Contents.{Contents as Inbox, Intake}
 use Rattle.kob_pipeline.specs.declared.plan.ServiceStep.TheVariants as steps
 

@@ -1,7 +1,6 @@
 -- Which calls of a worker were served, which were lost, and what it noted of them.
 use Rattle.std.specs.Prelude.{ℕ, List, [], ◌∷◌, if◌then◌else◌, ◌==◌, ◌≡◌, ◌++◌, Option, None, Some}
-use Rattle.kob_rights.specs.declared.event.Event.{Event}
-use Rattle.kob_pipeline.specs.Types.{Served, AreServed, Entry, dispatch_of, Subscription, Call, AtDesk, CallFault, Loss}
+use Rattle.kob_pipeline.specs.Types.{Served, AreServed, Entry, dispatch_of, Subscription, Call, AtDesk, CallFault, Loss, Event}
 use Rattle.kob_shared.specs.declared.journal.Receipt.{Receipt}
 use Rattle.kob_router.specs.declared.dispatch.Target.{Target}
 use Rattle.std.specs.List.{All}

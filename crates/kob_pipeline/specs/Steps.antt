@@ -1,15 +1,14 @@
 -- What the steps of services and consumers do, and what all workers leave.
 use Rattle.std.specs.Prelude.{◌≡◌, ℕ, List, [], ◌∷◌, ◌++◌, ◌⊎◌, map, length}
 use Rattle.std.specs.List.{All, AllByRecursion, enumerate_from}
-use Rattle.kob_pipeline.specs.Types.{Served, AreServed, AtDesk, Noted, stored_row, Dispatching, dispatch_of, OutboxEnd, Loss, Service, ServiceStep, placed_intake, IsConsumerRun, Subscription, InboxEnd, ConsumerPlan, IsAnswered, events_of_script, WorkerEnd, Plan}
+use Rattle.kob_pipeline.specs.Types.{Served, AreServed, AtDesk, Noted, stored_row, Dispatching, dispatch_of, OutboxEnd, Loss, Service, ServiceStep, placed_intake, IsConsumerRun, Subscription, InboxEnd, ConsumerPlan, IsAnswered, events_of_script, WorkerEnd, Plan, IsRecordable, IsRouterRun}
 use Rattle.kob_pipeline.specs.Served.{AreNoted, IsEventOf, served_by_notes, AreServedByLoss}
-use Rattle.kob_router.specs.Run.{IsRecordable, IsRouterRun}
 use Rattle.kob_router.specs.Run.Move.{Recorded, Restarted as RouterRestarted, Swept}
-use Rattle.kob_router.specs.Tick.{IsAnswer as IsRouterAnswer, IsOfTick, IsOneTick}
+use Rattle.kob_router.specs.Tick.{IsReport as IsRouterReport, IsOfTick, IsOneTick}
 use Rattle.kob_router.specs.declared.tick.Tick.{Tick as RouterTick}
 use Rattle.kob_router.specs.declared.tick.Tick.TheVariants.{Stopped as RouterStopped}
 use Rattle.kob_inbox.specs.Run.Move.{Restarted as ConsumerRestarted}
-use Rattle.kob_inbox.specs.Tick.{IsAnswer as IsConsumerAnswer, unmade_by}
+use Rattle.kob_inbox.specs.Tick.{IsReport as IsConsumerReport, unmade_by}
 use Rattle.kob_inbox.specs.declared.tick.Tick.{Tick as ConsumerTick}
 use Rattle.kob_inbox.specs.declared.tick.Tick.TheVariants.{Stopped as ConsumerStopped}
 use Rattle.kob_pipeline.specs.declared.plan.ConsumerStep.{ConsumerStep}
@@ -40,16 +39,16 @@ Steps {S} {T} {M} does old (step ∷ steps) moves served new =
     × (served ≡ first ++ rest)
 
 -- a worker between two steps: its state, and its desk
-pub record Standing (S : Type 0) : Type 0 where
+pub record WithDesk (S : Type 0) : Type 0 where
   pub state : S
   pub desk : AtDesk
 
-abbrev pub standing : {S : Type 0} → S → AtDesk → Standing S
-standing state desk = record { state = state; desk = desk }
+abbrev pub with_desk : {S : Type 0} → S → AtDesk → WithDesk S
+with_desk state desk = record { state = state; desk = desk }
 
 -- what is done leads from the one to the other, and what was served is noted
-pub record Leads {S T M : Type 0} (does : Doing S T M) (old : Standing S) (what : T)
-    (new : Standing S) : Type 0 where
+pub record Leads {S T M : Type 0} (does : Doing S T M) (old : WithDesk S) (what : T)
+    (new : WithDesk S) : Type 0 where
   pub moves : List M
   pub served : List Served
   pub done : does old.state what moves served new.state
@@ -76,7 +75,7 @@ pub record IsServiceTick (route : Dispatching) (loss : Loss) (moves : List route
   pub few : IsOneTick (routers.calls_of moves)
   pub tick : RouterTick
   pub goes_on : ServiceGoesOn tick
-  pub answer : IsRouterAnswer route tick moves new 0 0
+  pub answer : IsRouterReport route tick moves new 0 0
   pub lost : AreServedByLoss loss (routers.calls_of moves) served
 
 -- the moves of one step: a record is made wherever it may be
@@ -117,7 +116,7 @@ pub record IsConsumerTick (t : Subscription) (loss : Loss) (moves : List consume
     (served : List Served) : Type 0 where
   pub tick : ConsumerTick
   pub goes_on : ConsumerGoesOn tick
-  pub answer : IsConsumerAnswer t tick moves
+  pub answer : IsConsumerReport t tick moves
   pub made : unmade_by tick moves 0 ≡ 0
   pub lost : AreServedByLoss loss (consumers.calls_of moves) served
 
@@ -146,7 +145,7 @@ pub record IsConsumption (consumer : ConsumerPlan) (noted : Noted) (left : Inbox
 pub record IsOutboxLeft (service : Service) (old new : AtDesk) (left : OutboxEnd) : Type 0 where
   pub state : routers.State
   pub leads : Leads (Steps (IsServiceStep (dispatch_of service.target)))
-      (standing routers.start old) service.steps.items (standing state new)
+      (with_desk routers.start old) service.steps.items (with_desk state new)
   pub rows : map stored_row left.rows.items ≡ state.outbox.events
   pub mark : left.mark ≡ state.outbox.mark
 
@@ -154,7 +153,7 @@ pub record IsOutboxLeft (service : Service) (old new : AtDesk) (left : OutboxEnd
 pub record IsInboxLeft (consumer : ConsumerPlan) (old new : AtDesk) (left : InboxEnd) : Type 0 where
   pub state : consumers.State
   pub leads : Leads (Steps (IsConsumerStep consumer.subscription))
-      (standing consumers.start old) consumer.steps.items (standing state new)
+      (with_desk consumers.start old) consumer.steps.items (with_desk state new)
   pub rows : map placed_intake left.rows.items ≡ enumerate_from 1 state.inbox
 
 -- a worker, as it was planned

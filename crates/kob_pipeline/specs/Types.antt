@@ -19,7 +19,7 @@ pub use Rattle.kob_rights.specs.declared.reply.Body.{Body}
 pub use Rattle.kob_rights.specs.declared.reply.Reply.{Reply}
 pub use Rattle.kob_rights.specs.declared.request.Request.{Request}
 pub use Rattle.kob_rights.specs.declared.request.Request.TheVariants.{DeleteGroups, DeleteTopics, Fetch, InitProducerId, OffsetCommit, OffsetFetch, Produce}
-pub use Rattle.kob_router.specs.Run.{Dispatching, dispatch_of, same_place}
+pub use Rattle.kob_router.specs.Run.{Dispatching, dispatch_of, same_place, IsRecordable, IsRouterRun, Move, events_of}
 pub use Rattle.kob_router.specs.Line.{AreServed, Served}
 pub use Rattle.kob_router.specs.declared.line.Call.{Call}
 pub use Rattle.kob_router.specs.declared.place.Place.{Place}
@@ -28,3 +28,6 @@ pub use Rattle.kob_shared.specs.Runs.{NamesOneOf, events_in, notes_of, told_in}
 pub use Rattle.kob_shared.specs.Journals.{AtDesk, Noted}
 pub use Rattle.kob_shared.specs.declared.faults.CallFault.{CallFault}
 pub use Rattle.kob_shared.specs.declared.journal.Entry.{Entry}
+pub use Rattle.kob_rights.specs.declared.reply.Reply.TheVariants.{Denied, Done, Refused}
+pub use Rattle.kob_broker.specs.Step.{state_after, state_of}
+pub use Rattle.kob_rights.specs.declared.event.Event.{Event}

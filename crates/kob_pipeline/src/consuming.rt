@@ -6,7 +6,7 @@ ghost use Rattle.kob_inbox.specs.Contents.{placed_intake};
 ghost use Rattle.kob_inbox.specs.Run.{start};
 ghost use Rattle.kob_inbox.specs.Tick.{state_of};
 ghost use Rattle.kob_pipeline.specs.declared.plan.ConsumerStep.TheVariants as steps;
-ghost use Rattle.kob_pipeline.specs.Steps.{ConsumerGoesOn, IsConsumerStep, Leads, Steps, standing};
+ghost use Rattle.kob_pipeline.specs.Steps.{ConsumerGoesOn, IsConsumerStep, Leads, Steps, with_desk};
 
 use crate::end::InboxEnd;
 use crate::line::DeskLine;
@@ -53,9 +53,9 @@ impl Consuming {
     ) -> Result<(), StepFault>
         requires { line.old.calls.unmade ≡ 0 }
         ensures { OnOk result (Leads (Steps (IsConsumerStep self.old.consumer.subscription))
-            (standing (state_of self.old.consumer self.old.inbox) line.old.desk)
+            (with_desk (state_of self.old.consumer self.old.inbox) line.old.desk)
             steps.now
-            (standing (state_of self.new.consumer self.new.inbox) line.new.desk)) }
+            (with_desk (state_of self.new.consumer self.new.inbox) line.new.desk)) }
     {
         for step in steps {
             self.step(alloc, line, step)?;
@@ -76,9 +76,9 @@ impl Consuming {
         ensures same { OnOk result
             (self.new.consumer.subscription ≡ self.old.consumer.subscription) }
         ensures done { OnOk result (Leads (IsConsumerStep self.old.consumer.subscription)
-            (standing (state_of self.old.consumer self.old.inbox) line.old.desk)
+            (with_desk (state_of self.old.consumer self.old.inbox) line.old.desk)
             step.now
-            (standing (state_of self.new.consumer self.new.inbox) line.new.desk)) }
+            (with_desk (state_of self.new.consumer self.new.inbox) line.new.desk)) }
     {
         match step {
             ConsumerStep::Tick(loss) => self.tick(alloc, line, *loss),
@@ -101,9 +101,9 @@ impl Consuming {
         ensures same { OnOk result
             (self.new.consumer.subscription ≡ self.old.consumer.subscription) }
         ensures done { OnOk result (Leads (IsConsumerStep self.old.consumer.subscription)
-            (standing (state_of self.old.consumer self.old.inbox) line.old.desk)
+            (with_desk (state_of self.old.consumer self.old.inbox) line.old.desk)
             (steps.Tick loss)
-            (standing (state_of self.new.consumer self.new.inbox) line.new.desk)) }
+            (with_desk (state_of self.new.consumer self.new.inbox) line.new.desk)) }
     {
         line.lose(loss);
         let tick = self.consumer.tick(alloc, &mut self.inbox, line);

@@ -9,7 +9,7 @@ ghost use Rattle.kob_router.specs.Run.{dispatch_of, start};
 ghost use Rattle.kob_router.specs.Tick.{IsFirst, hand_of, state_of};
 ghost use Rattle.kob_pipeline.specs.declared.plan.ServiceStep.TheVariants as steps;
 ghost use Rattle.kob_pipeline.specs.Plans.{IsPrefixOf};
-ghost use Rattle.kob_pipeline.specs.Steps.{ServiceGoesOn, IsServiceStep, Leads, Steps, standing};
+ghost use Rattle.kob_pipeline.specs.Steps.{ServiceGoesOn, IsServiceStep, Leads, Steps, with_desk};
 
 use crate::end::OutboxEnd;
 use crate::line::DeskLine;
@@ -61,9 +61,9 @@ impl Posting {
         requires first { IsFirst (option_map hand_of self.old.router.hand) self.old.outbox }
         requires made { line.old.calls.unmade ≡ 0 }
         ensures { OnOk result (Leads (Steps (IsServiceStep (dispatch_of self.old.router.target)))
-            (standing (state_of self.old.router self.old.outbox) line.old.desk)
+            (with_desk (state_of self.old.router self.old.outbox) line.old.desk)
             steps.now
-            (standing (state_of self.new.router self.new.outbox) line.new.desk)) }
+            (with_desk (state_of self.new.router self.new.outbox) line.new.desk)) }
     {
         for step in steps {
             self.step(alloc, line, step)?;
@@ -86,9 +86,9 @@ impl Posting {
         ensures made { OnOk result (line.new.calls.unmade ≡ 0) }
         ensures same { OnOk result (self.new.router.target ≡ self.old.router.target) }
         ensures done { OnOk result (Leads (IsServiceStep (dispatch_of self.old.router.target))
-            (standing (state_of self.old.router self.old.outbox) line.old.desk)
+            (with_desk (state_of self.old.router self.old.outbox) line.old.desk)
             step.now
-            (standing (state_of self.new.router self.new.outbox) line.new.desk)) }
+            (with_desk (state_of self.new.router self.new.outbox) line.new.desk)) }
     {
         match step {
             ServiceStep::Record(change, event) => self.note(change, event),
@@ -110,9 +110,9 @@ impl Posting {
         ensures same { OnOk result (self.new.router ≡ self.old.router) }
         ensures done { OnOk result ((desk : AtDesk)
             → Leads (IsServiceStep (dispatch_of self.old.router.target))
-            (standing (state_of self.old.router self.old.outbox) desk)
+            (with_desk (state_of self.old.router self.old.outbox) desk)
             (steps.Record change.now event.now)
-            (standing (state_of self.new.router self.new.outbox) desk)) }
+            (with_desk (state_of self.new.router self.new.outbox) desk)) }
         ensures fits { OnErr result (first_bad change.now event.now ≡ None) }
         ensures own { IfErr result (λ fault.
             (fault ≡ StepFault.Store) ⊎ (fault ≡ StepFault.Call CallFault.Memory)) }
@@ -137,9 +137,9 @@ impl Posting {
         ensures same { OnOk result (self.new.router ≡ self.old.router) }
         ensures done { OnOk result ((desk : AtDesk)
             → Leads (IsServiceStep (dispatch_of self.old.router.target))
-            (standing (state_of self.old.router self.old.outbox) desk)
+            (with_desk (state_of self.old.router self.old.outbox) desk)
             steps.Sweep
-            (standing (state_of self.new.router self.new.outbox) desk)) }
+            (with_desk (state_of self.new.router self.new.outbox) desk)) }
     {
         self.outbox.sweep()?;
         Ok(())
@@ -159,9 +159,9 @@ impl Posting {
         ensures made { OnOk result (line.new.calls.unmade ≡ 0) }
         ensures same { OnOk result (self.new.router.target ≡ self.old.router.target) }
         ensures done { OnOk result (Leads (IsServiceStep (dispatch_of self.old.router.target))
-            (standing (state_of self.old.router self.old.outbox) line.old.desk)
+            (with_desk (state_of self.old.router self.old.outbox) line.old.desk)
             (steps.Tick loss)
-            (standing (state_of self.new.router self.new.outbox) line.new.desk)) }
+            (with_desk (state_of self.new.router self.new.outbox) line.new.desk)) }
     {
         line.lose(loss);
         let tick = self.router.tick(alloc, &mut self.outbox, line);

@@ -1,13 +1,13 @@
 -- A tick is put together from its parts.
-use Rattle.kob_router.proofs.Words.{AllByRecursion, Bool, Call, Called, Dispatching, EndsHeard, EndsUnmarked, Idle, InitProducerId, IsAnswer, IsAtMostOne, IsDone, IsHeld, IsOfTick, IsOneTick, IsRouterRun, List, MayCall, Move, Moved, Repeat, Reply, Scene, State, Stopped, Tick, Ticks, Took, [], after, ap, append_assoc, arith, calls_of, inl, inr, nat_tests, refl, subst, sym, ℕ, ◌++◌, ◌∙◌, ◌∷◌, ◌≡◌, Acknowledges, Adds, Body, Contents, Done, Err, HasHand, Lost, None, Ok, Option, Request, Requests, Sender, Some, StopReason, after_acknowledgement, append-nil, false, state_of, true, true≢false, Denied, Hand, HeldRow, Introduces, Place, Producer, Refused, Sequence, Takes, bytes_eq-Decides, cases_Bool, cond-false, cond-true, dispatch_of, eq-eqb, hand_of, has_place, option_map, or_left, or_right, producer_after, with_sequence_for}
+use Rattle.kob_router.proofs.Words.{AllByRecursion, Bool, Call, Called, Dispatching, EndsHeard, EndsUnmarked, Idle, InitProducerId, IsReport, IsAtMostOne, IsDone, IsHeld, IsOfTick, IsOneTick, IsRouterRun, List, MayCall, Move, Moved, Repeat, Reply, Point, State, Stopped, Tick, Ticks, Took, [], after, ap, append_assoc, arith, calls_of, inl, inr, nat_tests, refl, subst, sym, ℕ, ◌++◌, ◌∙◌, ◌∷◌, ◌≡◌, Acknowledges, Adds, Body, Contents, Done, Err, HasHand, Lost, None, Ok, Option, Request, Requests, Sender, Some, StopReason, after_acknowledgement, append-nil, false, state_of, true, true≢false, Denied, Hand, HeldRow, Introduces, Place, Producer, Refused, Sequence, Takes, bytes_eq-Decides, cases_Bool, cond-false, cond-true, dispatch_of, eq-eqb, hand_of, has_place, option_map, or_left, or_right, producer_after, with_sequence_for}
 use Rattle.kob_rights.specs.declared.request.Request.TheVariants.{Produce}
 use Rattle.kob_router.specs.declared.line.Delivery.TheVariants.{Delivered}
 use Rattle.kob_router.specs.Tick.{given_call}
 use Rattle.kob_router.specs.declared.tick.StopReason.TheVariants as stop
 
 -- a router with its outbox, and what its line tells
-abbrev pub scene : State → List Call → ℕ → Scene
-scene state calls unmade = record { state = state; calls = calls; unmade = unmade }
+abbrev pub point : State → List Call → ℕ → Point
+point state calls unmade = record { state = state; calls = calls; unmade = unmade }
 
 pub run_append : (route : Dispatching) (ms ns : List Move) (a b c : State) → IsRouterRun route a ms b
     → IsRouterRun route b ns c → IsRouterRun route a (ms ++ ns) c
@@ -41,7 +41,7 @@ unmarked_behind ms ns (front, produce, body, is) =
     (ms ++ front, produce, body, ap (λ (moves : List Move). ms ++ moves) is ∙ sym (append_assoc ms front _))
 
 answer_behind : (route : Dispatching) (tick : Tick) (ms ns : List Move) (new : State) (u t : ℕ)
-    → IsBeginning (calls_of ms) → IsAnswer route tick ns new u t → IsAnswer route tick (ms ++ ns) new u t
+    → IsBeginning (calls_of ms) → IsReport route tick ns new u t → IsReport route tick (ms ++ ns) new u t
 answer_behind route (Moved seq) ms ns new u t begins ((front, call, is), at, same) =
     ((ms ++ front, call, ap (λ (moves : List Move). ms ++ moves) is ∙ sym (append_assoc ms front _)), at, same)
 answer_behind route Idle ms ns new u t begins (known, none, same) = grind (arith, nat_tests, calls_append)
@@ -62,8 +62,8 @@ pub record Begins (route : Dispatching) (old new : State) (before now : List Cal
 
 -- a tick is its beginning and its last part
 pub ticks_behind : {route : Dispatching} {a b c : State} {before middle now : List Call} {u v t : ℕ} {tick : Tick}
-    → Begins route a b before middle → v ≡ u → Ticks IsAtMostOne route (scene b middle v) (scene c now t) tick
-    → Ticks IsOneTick route (scene a before u) (scene c now t) tick
+    → Begins route a b before middle → v ≡ u → Ticks IsAtMostOne route (point b middle v) (point c now t) tick
+    → Ticks IsOneTick route (point a before u) (point c now t) tick
 ticks_behind {route = route} {a = a} {b = b} {c = c} {before = before} {u = u} {t = t} {tick = tick} k same last =
     grind (
       arith,
@@ -80,8 +80,8 @@ ticks_behind {route = route} {a = a} {b = b} {c = c} {before = before} {u = u} {
 pub ticks_once : {shape : List Call → Type 0} {route : Dispatching} {s new : State} {before now : List Call} {u t : ℕ}
     {tick : Tick} (call : Call) (marks : Bool)
     → MayCall route s call.request call.heard marks → new ≡ after s (Called call marks) → now ≡ before ++ call ∷ []
-    → shape (call ∷ []) → IsAnswer route tick (Called call marks ∷ []) new u t → IsHeld route new
-    → Ticks shape route (scene s before u) (scene new now t) tick
+    → shape (call ∷ []) → IsReport route tick (Called call marks ∷ []) new u t → IsHeld route new
+    → Ticks shape route (point s before u) (point new now t) tick
 ticks_once call marks may is made few answer held = record {
   moves = Called call marks ∷ [];
   own = (tt, tt);
@@ -96,15 +96,15 @@ ticks_once call marks may is made few answer held = record {
 
 -- nothing was called
 pub ticks_none : {route : Dispatching} {s : State} {before now : List Call} {u t : ℕ} {tick : Tick} → now ≡ before
-    → IsAnswer route tick [] s u t → IsHeld route s → Ticks IsAtMostOne route (scene s before u) (scene s now t) tick
+    → IsReport route tick [] s u t → IsHeld route s → Ticks IsAtMostOne route (point s before u) (point s now t) tick
 ticks_none same answer held = grind (arith, nat_tests, append-nil)
 
 -- a call after which all stands as it did
 pub ticks_call : {route : Dispatching} (s : Sender) (outbox : Contents) (asked : Request) (heard : Option Reply)
     {before now : List Call} {u t : ℕ} {tick : Tick} → Requests route s asked → IsHeld route (state_of s outbox)
     → now ≡ before ++ record { request = asked; heard = heard } ∷ []
-    → IsAnswer route tick (Called (record { request = asked; heard = heard }) false ∷ []) (state_of s outbox) u t
-    → Ticks IsAtMostOne route (scene (state_of s outbox) before u) (scene (state_of s outbox) now t) tick
+    → IsReport route tick (Called (record { request = asked; heard = heard }) false ∷ []) (state_of s outbox) u t
+    → Ticks IsAtMostOne route (point (state_of s outbox) before u) (point (state_of s outbox) now t) tick
 ticks_call s outbox (Produce produce) heard may held made answer =
     ticks_once (record { request = Produce produce; heard = heard }) false
     (may outbox, λ (e : false ≡ true). absurd (true≢false (sym e))) refl made tt answer held
@@ -113,7 +113,7 @@ ticks_call s outbox _ heard may held made answer = absurd may
 -- a call that was lost
 pub ticks_lost : {route : Dispatching} (s : Sender) (outbox : Contents) (asked : Request) {before now : List Call}
     {u t : ℕ} → Requests route s asked → IsHeld route (state_of s outbox) → Adds before now u t asked Lost
-    → Ticks IsAtMostOne route (scene (state_of s outbox) before u) (scene (state_of s outbox) now t) Repeat
+    → Ticks IsAtMostOne route (point (state_of s outbox) before u) (point (state_of s outbox) now t) Repeat
 ticks_lost s outbox asked may held (inl made) =
     ticks_call s outbox asked None may held made.0 (inl ([], asked, refl, made.1))
 ticks_lost s outbox asked may held (inr unmade) = ticks_none unmade.0 (inr (tt, unmade.1)) held
@@ -126,7 +126,7 @@ held_after route s outbox (held, is) = grind (arith, nat_tests)
 pub ticks_moved : {route : Dispatching} (s : Sender) (outbox : Contents) (asked : Request) (body : Body) {new : State}
     {before now : List Call} {u t seq : ℕ} → Requests route s asked → HasHand s
     → Adds before now u t asked (Delivered (Done body)) → Acknowledges (state_of s outbox) new (Ok seq)
-    → Ticks IsAtMostOne route (scene (state_of s outbox) before u) (scene new now t) (Moved seq)
+    → Ticks IsAtMostOne route (point (state_of s outbox) before u) (point new now t) (Moved seq)
 ticks_moved {route} s outbox (Produce produce) body may has (made, same) done =
     ticks_once (record { request = Produce produce; heard = Some (Done body) }) true
     (may outbox, λ (e : true ≡ true). tt) done.0 made tt
@@ -139,7 +139,7 @@ pub ticks_unmarked : {route : Dispatching} (s : Sender) (outbox : Contents) (ask
     {new : State} {before now : List Call} {u t : ℕ} (reason : StopReason) → Requests route s asked
     → IsHeld route (state_of s outbox) → Adds before now u t asked (Delivered (Done body))
     → Acknowledges (state_of s outbox) new (Err reason)
-    → Ticks IsAtMostOne route (scene (state_of s outbox) before u) (scene new now t) (Stopped reason)
+    → Ticks IsAtMostOne route (point (state_of s outbox) before u) (point new now t) (Stopped reason)
 ticks_unmarked s outbox (Produce produce) body stop.Memory may held (made, same) done =
     rw done (ticks_call s outbox (Produce produce) (Some (Done body)) may held made (inr ([], produce, body, refl), same))
 ticks_unmarked s outbox (Produce produce) body stop.Store may held (made, same) done =
@@ -172,9 +172,9 @@ asked_only : {route : Dispatching} (outbox : Contents) (old new : Sender) (heard
     {before now : List Call} {u t : ℕ} {tick : Tick} → new ≡ record old { producer = new.producer }
     → old.producer ≡ None → new.producer ≡ None → producer_after None InitProducerId heard ≡ None
     → now ≡ before ++ record { request = InitProducerId; heard = heard } ∷ []
-    → IsAnswer route tick (Called (record { request = InitProducerId; heard = heard }) false ∷ [])
+    → IsReport route tick (Called (record { request = InitProducerId; heard = heard }) false ∷ [])
     (state_of new outbox) u t → IsHeld route (state_of old outbox)
-    → Ticks IsOneTick route (scene (state_of old outbox) before u) (scene (state_of new outbox) now t) tick
+    → Ticks IsOneTick route (point (state_of old outbox) before u) (point (state_of new outbox) now t) tick
 asked_only outbox old new heard rest none still same made answer held =
     ticks_once (record { request = InitProducerId; heard = heard }) false (none, refl) (grind (arith, nat_tests)) made tt
     answer (grind (arith, nat_tests))
@@ -182,7 +182,7 @@ asked_only outbox old new heard rest none still same made answer held =
 pub ticks_unknown : {route : Dispatching} (outbox : Contents) (old new : Sender) {before now : List Call} {u t : ℕ}
     (tick : Tick) → new ≡ record old { producer = new.producer }
     → Introduces old.producer new.producer before now u t (Err tick) → IsHeld route (state_of old outbox)
-    → Ticks IsOneTick route (scene (state_of old outbox) before u) (scene (state_of new outbox) now t) tick
+    → Ticks IsOneTick route (point (state_of old outbox) before u) (point (state_of new outbox) now t) tick
 ticks_unknown outbox old new Repeat rest (none, still, inl made) held =
     asked_only outbox old new None rest none still refl made.0 (inl ([], InitProducerId, refl, made.1)) held
 ticks_unknown outbox old new Repeat rest (none, still, inr unmade) held = grind (arith, nat_tests, append-nil)
@@ -242,28 +242,28 @@ module _ (outbox after : Contents) (old one two : Sender) (before middle : List 
 
   pub ready_then : {now : List Call} {t : ℕ} {c : State} {tick : Tick} (taken : Bool)
       → Takes (dispatch_of one.target) outbox one two (Ok taken) → taken ≡ true
-      → Ticks IsAtMostOne (dispatch_of two.target) (scene (state_of two after) middle v) (scene c now t) tick
-      → Ticks IsOneTick (dispatch_of old.target) (scene (state_of old outbox) before u) (scene c now t) tick
+      → Ticks IsAtMostOne (dispatch_of two.target) (point (state_of two after) middle v) (point c now t) tick
+      → Ticks IsOneTick (dispatch_of old.target) (point (state_of old outbox) before u) (point c now t) tick
   ready_then taken takes on last =
       let took : Takes (dispatch_of old.target) outbox one two (Ok true) = grind (arith, nat_tests) in
       let target : two.target ≡ old.target = grind (arith, nat_tests) in
       ticks_behind (begins_taken outbox one two took known) same_unmade (rw (target, same) at last)
 
   pub idle_then : (taken : Bool) → Takes (dispatch_of one.target) outbox one two (Ok taken) → taken ≡ false
-      → Ticks IsOneTick (dispatch_of old.target) (scene (state_of old outbox) before u)
-      (scene (state_of two after) middle v) Idle
+      → Ticks IsOneTick (dispatch_of old.target) (point (state_of old outbox) before u)
+      (point (state_of two after) middle v) Idle
   idle_then taken takes off =
       let took : Takes (dispatch_of one.target) outbox one two (Ok false) = grind (arith, nat_tests) in
       let first = known.held in
-      let last : Ticks IsAtMostOne (dispatch_of old.target) (scene (state_of one outbox) middle v)
-      (scene (state_of two after) middle v) Idle = grind (arith, nat_tests, ticks_none) in
+      let last : Ticks IsAtMostOne (dispatch_of old.target) (point (state_of one outbox) middle v)
+      (point (state_of two after) middle v) Idle = grind (arith, nat_tests, ticks_none) in
       ticks_behind known same_unmade last
 
   pub stopped_then : (reason : StopReason) → Takes (dispatch_of one.target) outbox one two (Err reason)
-      → Ticks IsOneTick (dispatch_of old.target) (scene (state_of old outbox) before u)
-      (scene (state_of two after) middle v) (Stopped reason)
+      → Ticks IsOneTick (dispatch_of old.target) (point (state_of old outbox) before u)
+      (point (state_of two after) middle v) (Stopped reason)
   stopped_then reason takes =
       let first = known.held in
-      let last : Ticks IsAtMostOne (dispatch_of old.target) (scene (state_of one outbox) middle v)
-      (scene (state_of two after) middle v) (Stopped reason) = grind (arith, nat_tests, ticks_none) in
+      let last : Ticks IsAtMostOne (dispatch_of old.target) (point (state_of one outbox) middle v)
+      (point (state_of two after) middle v) (Stopped reason) = grind (arith, nat_tests, ticks_none) in
       ticks_behind known same_unmade last

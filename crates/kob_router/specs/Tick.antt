@@ -28,14 +28,14 @@ state_of sender outbox = record {
 }
 
 -- a router with its outbox, and what its line tells
-pub record Scene : Type 0 where
+pub record Point : Type 0 where
   pub state : State
   pub calls : List Call
   pub unmade : ℕ
 
 -- a router, its outbox, and the calls of its line
-abbrev pub scene_of : Sender → Contents → List Call → ℕ → Scene
-scene_of sender outbox calls unmade =
+abbrev pub point_of : Sender → Contents → List Call → ℕ → Point
+point_of sender outbox calls unmade =
     record { state = state_of sender outbox; calls = calls; unmade = unmade }
 
 -- what is in hand goes where its row is routed, and its place has a sequence
@@ -105,17 +105,17 @@ IsReason route stop.Memory moves new = IsIntroduced moves new ⊎ EndsUnmarked m
 IsReason route stop.Store moves new = EndsUnmarked moves
 
 -- what a tick answers
-abbrev pub IsAnswer : Dispatching → Tick → List Move → State → ℕ → ℕ → Type 0
-IsAnswer route (Moved seq) moves new unmade then_unmade =
+abbrev pub IsReport : Dispatching → Tick → List Move → State → ℕ → ℕ → Type 0
+IsReport route (Moved seq) moves new unmade then_unmade =
     ((front : List Move) × (call : Call) × (moves ≡ front ++ Called call true ∷ []))
     × (new.outbox.mark ≡ seq)
     × (then_unmade ≡ unmade)
-IsAnswer route Idle moves new unmade then_unmade =
+IsReport route Idle moves new unmade then_unmade =
     IsIntroduced moves new
     × (next_row new.outbox ≡ None)
     × (then_unmade ≡ unmade)
-IsAnswer route Repeat moves new unmade then_unmade = EndsLost moves unmade then_unmade
-IsAnswer route (Stopped reason) moves new unmade then_unmade =
+IsReport route Repeat moves new unmade then_unmade = EndsLost moves unmade then_unmade
+IsReport route (Stopped reason) moves new unmade then_unmade =
     IsReason route reason moves new × (then_unmade ≡ unmade)
 
 -- at most one call, or one for a producer id that was answered and one more
@@ -132,14 +132,14 @@ IsAtMostOne (c ∷ []) = Unit {0}
 IsAtMostOne (c ∷ d ∷ cs) = ⊥
 
 -- the moves of a tick or of a part of it: a run, whose calls the line notes and the answer tells of
-pub record Ticks (shape : List Call → Type 0) (route : Dispatching) (old new : Scene) (tick : Tick)
+pub record Ticks (shape : List Call → Type 0) (route : Dispatching) (old new : Point) (tick : Tick)
     : Type 0 where
   pub moves : List Move
   pub own : AllByRecursion IsOfTick moves
   pub run : IsRouterRun route old.state moves new.state
   pub calls : new.calls ≡ old.calls ++ calls_of moves
   pub few : shape (calls_of moves)
-  pub answer : IsAnswer route tick moves new.state old.unmade new.unmade
+  pub answer : IsReport route tick moves new.state old.unmade new.unmade
   pub held : IsHeld route new.state
 
 -- ---- the parts of a tick

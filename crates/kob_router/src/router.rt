@@ -36,7 +36,7 @@ impl Router {
     ghost use Rattle.kob_outbox.specs.Contents.{Contents};
     ghost use Rattle.kob_router.specs.Run.{dispatch_of, after};
     ghost use Rattle.kob_router.specs.Run.Move.{Restarted};
-    ghost use Rattle.kob_router.specs.Tick.{IsFirst, IsOneTick, Ticks, hand_of, scene_of, state_of};
+    ghost use Rattle.kob_router.specs.Tick.{IsFirst, IsOneTick, Ticks, hand_of, point_of, state_of};
 
     /// A router for topics with this number of partitions each, 1 to 1,000. It has no producer id,
     /// and no row in flight. Does not allocate.
@@ -71,8 +71,8 @@ impl Router {
         requires { IsFirst (option_map hand_of self.old.hand) outbox.old }
         ensures same { self.new.target ≡ self.old.target }
         ensures done { Ticks IsOneTick (dispatch_of self.old.target)
-            (scene_of self.old outbox.old (L.calls line.old) (L.unmade line.old))
-            (scene_of self.new outbox.new (L.calls line.new) (L.unmade line.new))
+            (point_of self.old outbox.old (L.calls line.old) (L.unmade line.old))
+            (point_of self.new outbox.new (L.calls line.new) (L.unmade line.new))
             result }
         ensures first { IsFirst (option_map hand_of self.new.hand) outbox.new }
         ensures line { L.becomes line.old line.new }

@@ -44,7 +44,7 @@ impl Sender {
     ghost use Rattle.kob_router.specs.Run.{dispatch_of};
     ghost use Rattle.kob_router.specs.Tick.{Acknowledges, HasHand, Introduces, Requests, Takes};
     ghost use Rattle.kob_router.specs.Tick.{IsAtMostOne, IsHeld, IsOneTick, IsPlaced, Ticks};
-    ghost use Rattle.kob_router.specs.Tick.{hand_of, scene_of, state_of};
+    ghost use Rattle.kob_router.specs.Tick.{hand_of, point_of, state_of};
 
     /// One step: asks for a producer id if it has none, then sends the first row after the
     /// mark.
@@ -53,8 +53,8 @@ impl Sender {
         requires held { IsHeld (dispatch_of self.old.target) (state_of self.old outbox.old) }
         ensures same { self.new.target ≡ self.old.target }
         ensures done { Ticks IsOneTick (dispatch_of self.old.target)
-            (scene_of self.old outbox.old (L.calls line.old) (L.unmade line.old))
-            (scene_of self.new outbox.new (L.calls line.new) (L.unmade line.new))
+            (point_of self.old outbox.old (L.calls line.old) (L.unmade line.old))
+            (point_of self.new outbox.new (L.calls line.new) (L.unmade line.new))
             result }
         ensures line { L.becomes line.old line.new }
     {
@@ -144,8 +144,8 @@ impl Sender {
         requires held { IsHeld (dispatch_of self.old.target) (state_of self.old outbox.old) }
         ensures same { self.new.target ≡ self.old.target }
         ensures done { Ticks IsAtMostOne (dispatch_of self.old.target)
-            (scene_of self.old outbox.old (L.calls line.old) (L.unmade line.old))
-            (scene_of self.new outbox.new (L.calls line.new) (L.unmade line.new))
+            (point_of self.old outbox.old (L.calls line.old) (L.unmade line.old))
+            (point_of self.new outbox.new (L.calls line.new) (L.unmade line.new))
             result }
         ensures line { L.becomes line.old line.new }
     {

@@ -1,7 +1,7 @@
 -- The names that the lemmas cite, passed on from one place.
 pub use Rattle.kob_inbox.specs.Run.{State}
 pub use Rattle.kob_inbox.specs.Run.Move.{Restarted}
-pub use Rattle.kob_inbox.specs.Tick.{Ticks, scene_of}
+pub use Rattle.kob_inbox.specs.Tick.{Ticks, point_of}
 pub use Rattle.kob_inbox.specs.declared.fetcher.Subscription.{Subscription}
 pub use Rattle.kob_inbox.specs.declared.tick.Tick.{Tick}
 pub use Rattle.kob_lines.specs.declared.lossy.Loss.{Loss}

@@ -34,8 +34,8 @@ use Rattle.kob_scene_text.specs.declared.scene.Lost.TheVariants as lost
 use Rattle.kob_scene_text.specs.declared.scene.ServiceStep.TheVariants as service_steps
 
 -- one answer, with the next number
-abbrev pub IsAnswer : List ℕ → ℕ → ℕ → List ℕ → Type 0
-IsAnswer answer told then_told text =
+abbrev pub IsPrinted : List ℕ → ℕ → ℕ → List ℕ → Type 0
+IsPrinted answer told then_told text =
     (then_told ≡ one_more told) × (text ≡ numbered (one_more told) answer)
 
 -- a text of this kind is printed behind what was there
@@ -88,8 +88,8 @@ pub record IsServiceTick (loss : Loss) (old new : Service) (tick : RouterAnswer)
   pub unmade : ℕ
   pub ticks :
       router_ticks.Ticks router_ticks.IsOneTick (dispatch_of old.sender.target)
-      (router_ticks.scene_of old.sender old.outbox [] 0)
-      (router_ticks.scene_of new.sender new.outbox calls unmade) tick
+      (router_ticks.point_of old.sender old.outbox [] 0)
+      (router_ticks.point_of new.sender new.outbox calls unmade) tick
 
 -- a consumer: its number in the journal, who it is, how far it has come, and its inbox
 pub record Consumer : Type 0 where
@@ -124,8 +124,8 @@ pub record IsConsumerTick (loss : Loss) (old new : Consumer) (tick : ConsumerAns
   pub unmade : ℕ
   pub ticks :
       consumer_ticks.Ticks old.fetcher.subscription
-      (consumer_ticks.scene_of old.fetcher old.inbox [] 0)
-      (consumer_ticks.scene_of new.fetcher new.inbox calls unmade) tick
+      (consumer_ticks.point_of old.fetcher old.inbox [] 0)
+      (consumer_ticks.point_of new.fetcher new.inbox calls unmade) tick
 
 -- What the steps of a scene do, and what they print.
 
@@ -152,7 +152,7 @@ AreTicks {Worker} IsTick line (tick ∷ before) old new told then_told text =
     (mid : Worker) × (mid_told : ℕ) × (front back : List ℕ)
     × AreTicks IsTick line before old mid told mid_told front
     × IsTick mid new tick
-    × IsAnswer (line tick) mid_told then_told back
+    × IsPrinted (line tick) mid_told then_told back
     × (text ≡ front ++ back)
 
 -- each of these ticks moved the mark, or has to be made again
@@ -185,7 +185,7 @@ swept_text count = codes " ok swept " ++ decimal count
 -- one tick of a service's router, and its answer
 abbrev pub IsServiceAnswer : Option Lost → RouterAnswer → Service → Service → ℕ → ℕ → List ℕ → Type 0
 IsServiceAnswer lost tick old new told then_told text =
-    IsServiceTick (loss_for lost) old new tick × IsAnswer (service_tick_text tick) told then_told text
+    IsServiceTick (loss_for lost) old new tick × IsPrinted (service_tick_text tick) told then_told text
 
 -- what a step of a service does, and the text that it prints; before it so many answers were
 -- printed, and then so many
@@ -193,7 +193,7 @@ abbrev pub IsServiceStep : ServiceStep → Service → Service → ℕ → ℕ �
 IsServiceStep (service_steps.Record change event) old new told then_told text =
     (answer : Result ℕ RecordFault)
     × Records change event old new answer
-    × IsAnswer (recorded_text answer) told then_told text
+    × IsPrinted (recorded_text answer) told then_told text
 IsServiceStep (service_steps.Tick lost) old new told then_told text =
     (tick : RouterAnswer) × IsServiceAnswer lost tick old new told then_told text
 IsServiceStep service_steps.Run old new told then_told text =
@@ -201,10 +201,10 @@ IsServiceStep service_steps.Run old new told then_told text =
     × AreTicks (IsServiceTick losses.None) service_tick_text ticks old new told then_told text
     × EndsRun ticks
 IsServiceStep service_steps.Restart old new told then_told text =
-    Does routing.Move.Restarted old new × IsAnswer (codes " ok restarted") told then_told text
+    Does routing.Move.Restarted old new × IsPrinted (codes " ok restarted") told then_told text
 IsServiceStep service_steps.Sweep old new told then_told text =
     Does routing.Move.Swept old new
-    × IsAnswer (swept_text (length (up_to old.outbox.mark old.outbox.events))) told then_told text
+    × IsPrinted (swept_text (length (up_to old.outbox.mark old.outbox.events))) told then_told text
 IsServiceStep service_steps.Outbox old new told then_told text =
     (rows : List Row)
     × (new ≡ old)
@@ -221,12 +221,12 @@ abbrev pub IsConsumerStep : ConsumerStep → Consumer → Consumer → ℕ → �
 IsConsumerStep (consumer_steps.Tick lost) old new told then_told text =
     (tick : ConsumerAnswer)
     × IsConsumerTick (loss_for lost) old new tick
-    × IsAnswer (consumer_tick_text tick) told then_told text
+    × IsPrinted (consumer_tick_text tick) told then_told text
 IsConsumerStep consumer_steps.Run old new told then_told text =
     (ticks : List ConsumerAnswer)
     × AreTicks (IsConsumerTick losses.None) consumer_tick_text ticks old new told then_told text
 IsConsumerStep consumer_steps.Restart old new told then_told text =
-    Consumes consuming.Move.Restarted old new × IsAnswer (codes " ok restarted") told then_told text
+    Consumes consuming.Move.Restarted old new × IsPrinted (codes " ok restarted") told then_told text
 IsConsumerStep consumer_steps.Inbox old new told then_told text =
     (rows : List InboxRow)
     × (new ≡ old)

@@ -1,11 +1,7 @@
 -- What the workers of a fleet left, and how it may fail.
 use Rattle.std.specs.Prelude.{◌≡◌, ℕ, ◌+◌, ◌<◌, ◌≤◌, List, ◌∷◌, length, map, Some, slice_get, take, Result, Ok, Err}
-use Rattle.kob_rights.specs.declared.event.Event.{Event}
-use Rattle.kob_shared.specs.declared.journal.Receipt.{Receipt}
-use Rattle.kob_names.specs.declared.settings.Settings.{Settings}
-use Rattle.kob_shared.specs.Journals.{Record, entry_limit, Noted}
+use Rattle.kob_shared.specs.Journals.{Record, entry_limit, Noted, Event, Receipt, Settings, CallFault}
 use Rattle.kob_shared.specs.declared.compare.Difference.{Difference}
-use Rattle.kob_shared.specs.declared.faults.CallFault.{CallFault}
 use Rattle.kob_shared.specs.declared.fleet_stop.FleetStop.{FleetStop}
 use Rattle.kob_shared.specs.declared.fleet_stop.FleetStop.TheVariants.{Memory, Stale, Full}
 use Rattle.kob_shared.specs.declared.work.Done.{Done}
