@@ -1,4 +1,4 @@
--- What a prepared change does and when there is room for it; what a broker does: one event is one step.
+-- What a broker does: one event is one step; what a prepared change does, and when it can be made.
 use Rattle.std.specs.Prelude.{◌≡◌, ◌<◌, ◌≤◌, ◌+◌, ◌++◌, true, [], ◌∷◌, ℕ, Bool, List, Option, Some, None}
 use Rattle.kob_groups.specs.Kept.{groups_of}
 use Rattle.kob_broker.specs.Records.{producer_limit, code_of, delete_records_after, delete_records_reasons, fetch_reasons, fetched_at, init_producer_reasons, judged_at, offset_at, offset_told, produce_after, produce_reasons, start_after}
@@ -17,87 +17,7 @@ use Rattle.kob_groups.specs.Kept as groups_kept
 use Rattle.kob_broker.specs.declared.prepared.Change.TheVariants as changes
 use Rattle.kob_rights.specs.declared.reply.Body.TheVariants as bodies
 
--- the state of a broker: what it holds, without the room that is there for more
-abbrev pub state_of : Broker → State Retained
-state_of broker = record {
-  topics = topics_of broker.catalog;
-  groups = groups_of broker.groups;
-  access = broker.authorizer.contents;
-  next_producer = broker.next_producer;
-}
-
--- the state after a change
-abbrev pub state_after_change : Change → Broker → State Retained
-state_after_change changes.Unchanged broker = state_of broker
-state_after_change (changes.AddTopic made) broker =
-    record (state_of broker) { topics = topics_of broker.catalog ++ topic_map kept_of made ∷ [] }
-state_after_change (changes.RemoveTopic name) broker = delete_topics_after (state_of broker) name
-state_after_change (changes.AddBindings made) broker =
-    record (state_of broker) { access = with_creation broker.authorizer.contents made }
-state_after_change (changes.RemoveBindings made) broker =
-    record (state_of broker) { access = without_taken made.filter broker.authorizer.contents }
-state_after_change (changes.Append produce) broker = record (state_of broker) {
-  topics =
-      with_partition produce.topic produce.partition
-      (retained_meaning.append (catalog_log broker.catalog produce.topic produce.partition).kept
-      produce.batch)
-      (topics_of broker.catalog);
-}
-state_after_change (changes.AdvanceStart topic partition offset) broker = record (state_of broker) {
-  topics =
-      with_partition topic partition
-      (retained_meaning.advance (catalog_log broker.catalog topic partition).kept offset)
-      (topics_of broker.catalog);
-}
-state_after_change (changes.Commit made) broker = record (state_of broker) {
-  groups =
-      groups.with_commit (groups_kept.place_in made broker.groups) made.offset
-      (groups_of broker.groups);
-}
-state_after_change (changes.RemoveGroup name) broker =
-    record (state_of broker) { groups = groups.without_group name (groups_of broker.groups) }
-state_after_change changes.GiveProducer broker =
-    record (state_of broker) { next_producer = broker.next_producer + 1 }
-
--- there is room for the change, and its place is there
-abbrev pub CanMake : Change → Broker → Type 0
-CanMake changes.Unchanged broker = Unit {0}
-CanMake (changes.AddTopic made) broker = CanAdd made broker.catalog
-CanMake (changes.RemoveTopic name) broker = Unit {0}
-CanMake (changes.AddBindings made) broker = CanCreate made broker.authorizer
-CanMake (changes.RemoveBindings made) broker = CanDelete made broker.authorizer
-CanMake (changes.Append produce) broker =
-    (has_partition produce.topic produce.partition (topics_of broker.catalog) ≡ true)
-    × CanAppend (catalog_log broker.catalog produce.topic produce.partition) produce.batch
-CanMake (changes.AdvanceStart topic partition offset) broker =
-    (has_partition topic partition (topics_of broker.catalog) ≡ true)
-    × (offset ≤ (catalog_log broker.catalog topic partition).kept.end)
-CanMake (changes.Commit made) broker = groups_kept.CanCommit made broker.groups
-CanMake (changes.RemoveGroup name) broker = groups.has_group name (groups_of broker.groups) ≡ true
-CanMake changes.GiveProducer broker = broker.next_producer < producer_limit
-
--- the reply that is prepared, the state that its change leaves, and that there is room for it
-abbrev pub reply_of : Prepared → Reply
-reply_of prepared = prepared.reply
-
-abbrev pub state_with : Prepared → Broker → State Retained
-state_with prepared broker = state_after_change prepared.change broker
-
-abbrev pub IsReady : Prepared → Broker → Type 0
-IsReady prepared broker = CanMake prepared.change broker
-
--- what is prepared makes that outcome, and there is room for it
-pub record Makes (outcome : Outcome Retained) (broker : Broker) (prepared : Prepared) : Type 0 where
-  pub same_reply : reply_of prepared ≡ outcome.reply
-  pub same_state : state_with prepared broker ≡ outcome.state
-  pub ready : IsReady prepared broker
-
--- what is prepared makes the effect of the request, whoever asks
-abbrev pub MakesFor : Request → Broker → Prepared → Type 0
-MakesFor request broker prepared = (event : Event)
-    → Makes (effect retained_meaning (state_of broker) event request) broker prepared
-
--- What a broker does: one event is one step. The tables tell what each kind of request does.
+-- The tables tell what each kind of request does.
 
 -- a reply, and the state that it leaves
 pub record Outcome (P : Type 0) : Type 0 where
@@ -224,3 +144,85 @@ pub record RunsAlike (s : State Plain) (events : List Event) : Type 0 where
   pub state :
       state_after retained_meaning events (state_map retained_of s)
       ≡ state_map retained_of (state_after plain_meaning events s)
+
+-- What a prepared change does, and when there is room for it.
+
+-- the state of a broker: what it holds, without the room that is there for more
+abbrev pub state_of : Broker → State Retained
+state_of broker = record {
+  topics = topics_of broker.catalog;
+  groups = groups_of broker.groups;
+  access = broker.authorizer.contents;
+  next_producer = broker.next_producer;
+}
+
+-- the state after a change
+abbrev pub state_after_change : Change → Broker → State Retained
+state_after_change changes.Unchanged broker = state_of broker
+state_after_change (changes.AddTopic made) broker =
+    record (state_of broker) { topics = topics_of broker.catalog ++ topic_map kept_of made ∷ [] }
+state_after_change (changes.RemoveTopic name) broker = delete_topics_after (state_of broker) name
+state_after_change (changes.AddBindings made) broker =
+    record (state_of broker) { access = with_creation broker.authorizer.contents made }
+state_after_change (changes.RemoveBindings made) broker =
+    record (state_of broker) { access = without_taken made.filter broker.authorizer.contents }
+state_after_change (changes.Append produce) broker = record (state_of broker) {
+  topics =
+      with_partition produce.topic produce.partition
+      (retained_meaning.append (catalog_log broker.catalog produce.topic produce.partition).kept
+      produce.batch)
+      (topics_of broker.catalog);
+}
+state_after_change (changes.AdvanceStart topic partition offset) broker = record (state_of broker) {
+  topics =
+      with_partition topic partition
+      (retained_meaning.advance (catalog_log broker.catalog topic partition).kept offset)
+      (topics_of broker.catalog);
+}
+state_after_change (changes.Commit made) broker = record (state_of broker) {
+  groups =
+      groups.with_commit (groups_kept.place_in made broker.groups) made.offset
+      (groups_of broker.groups);
+}
+state_after_change (changes.RemoveGroup name) broker =
+    record (state_of broker) { groups = groups.without_group name (groups_of broker.groups) }
+state_after_change changes.GiveProducer broker =
+    record (state_of broker) { next_producer = broker.next_producer + 1 }
+
+-- there is room for the change, and its place is there
+abbrev pub CanMake : Change → Broker → Type 0
+CanMake changes.Unchanged broker = Unit {0}
+CanMake (changes.AddTopic made) broker = CanAdd made broker.catalog
+CanMake (changes.RemoveTopic name) broker = Unit {0}
+CanMake (changes.AddBindings made) broker = CanCreate made broker.authorizer
+CanMake (changes.RemoveBindings made) broker = CanDelete made broker.authorizer
+CanMake (changes.Append produce) broker =
+    (has_partition produce.topic produce.partition (topics_of broker.catalog) ≡ true)
+    × CanAppend (catalog_log broker.catalog produce.topic produce.partition) produce.batch
+CanMake (changes.AdvanceStart topic partition offset) broker =
+    (has_partition topic partition (topics_of broker.catalog) ≡ true)
+    × (offset ≤ (catalog_log broker.catalog topic partition).kept.end)
+CanMake (changes.Commit made) broker = groups_kept.CanCommit made broker.groups
+CanMake (changes.RemoveGroup name) broker = groups.has_group name (groups_of broker.groups) ≡ true
+CanMake changes.GiveProducer broker = broker.next_producer < producer_limit
+
+-- the reply that is prepared, the state that its change leaves, and that there is room for it
+abbrev pub reply_of : Prepared → Reply
+reply_of prepared = prepared.reply
+
+abbrev pub state_with : Prepared → Broker → State Retained
+state_with prepared broker = state_after_change prepared.change broker
+
+abbrev pub IsReady : Prepared → Broker → Type 0
+IsReady prepared broker = CanMake prepared.change broker
+
+-- what is prepared makes that outcome, and there is room for it
+pub record Makes (outcome : Outcome Retained) (broker : Broker) (prepared : Prepared) : Type 0 where
+  pub same_reply : reply_of prepared ≡ outcome.reply
+  pub same_state : state_with prepared broker ≡ outcome.state
+  pub ready : IsReady prepared broker
+
+-- what is prepared makes the effect of the request, whoever asks
+abbrev pub MakesFor : Request → Broker → Prepared → Type 0
+MakesFor request broker prepared = (event : Event)
+    → Makes (effect retained_meaning (state_of broker) event request) broker prepared
