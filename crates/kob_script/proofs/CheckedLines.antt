@@ -2,7 +2,7 @@
 use Rattle.kob_script.proofs.Imports.{AreWholeLines, Checking, ChecksLine, ChecksNext, CliArgs, Err, Event, Fails, Fault, FaultKind, HasNoAclLine, IfRead, IsAnswerTo, IsAnswerToLine, LineError, List, Memory, None, Ok, Option, ReadsAs, Result, Script, ScriptError, ThenLines, Word, [], answers_after, ap, append-nil, append_assoc, arith, asks_clap, concat, drop, drop-drop, drop_more, empty_script, eqb-true, false, fault_at, get_or, kept_answer, length, length-lines, length-take-le, line_len-bounds, line_words, lines-nil, lines-step, lines_in, lines_in_blocks, lines_of, list_all, map, nat_tests, not, refl, requests_of, result_unwrap_or, script_so_far, slice_index_or, subst, sym, then_lines, true, with_words, without_terminator, words_of, ℕ, ◌++◌, ◌+◌, ◌-◌, ◌<◌, ◌==◌, ◌>>=◌, ◌∙◌, ◌∷◌, ◌≡◌, ◌≤◌, Bool, Some, asking, bytes_eq, codes, if◌then◌else◌, is_setting, is_some, ◌&&◌, Request}
 use Rattle.kob_script.proofs.Choices.{both}
 use Rattle.kob_script.specs.CommandLines.{asked_by, events_of}
-use Rattle.kob_script.specs.Script.{requests_in, with_line, lines_from, script_of, LinesFrom}
+use Rattle.kob_script.specs.Script.{requests_in, with_events, with_line, lines_from, script_of, LinesFrom}
 use Rattle.kob_script.specs.declared.fault.Fault as fault
 use Rattle.kob_script.specs.declared.fault.ScriptError.TheVariants as script_error
 
@@ -143,6 +143,11 @@ reads_plain text (Err (script_error.Fault fault)) may plain = sym (one_reading t
 pub keeps_one : (old : List (Option CliArgs)) (words : List Word) (answer : Option CliArgs) → asks_clap words ≡ true
     → old ++ answer ∷ [] ≡ old ++ kept_answer words answer
 keeps_one old words answer asked = rw asked refl
+
+pub no_setting : (answer : Option CliArgs) (s : Script) (words : List Word) (first : Word) → 1 ≤ length words
+    → first ≡ get_or words 0 first → is_setting first ≡ false → with_words answer s words ≡ with_events answer s words
+no_setting answer s (word ∷ words) first some is plain = grind (arith, nat_tests)
+no_setting answer s [] first some is plain = absurd (omega (arith, some))
 
 module _ (s : Script) (line : List ℕ) (new : Checking) (old kept : List (Option CliArgs)) where
   -- a line that was checked by clap's answer to its words

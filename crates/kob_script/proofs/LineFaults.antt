@@ -1,8 +1,9 @@
 -- The fault of a line, the first kind among those of its words, and how much words without one ask for.
-use Rattle.kob_script.proofs.Imports.{AclCommand, BadLine, Bool, CliArgs, Command, CommandFault, Err, Event, Fails, Fault, FaultKind, Finds, GivesSeen, IsAmong, IsFirstFault, LineError, List, Memory, None, Ok, One, Option, Result, Some, Texts, Word, [], acl_commands, acl_request, arith, asking, asks_by_acl, bytes_eq, codes, command_named, counted, earlier, error_of, false, first_kind, ok_or, if◌then◌else◌, inl, inr, length, length-map, line_fault, ltb-false, ltb-true, map, nat_tests, option_map, rank, refl, request_of, result_and, result_err, row, row_fault, true, unless_faults, unless_found, ℕ, ◌>>=◌, ◌∷◌, ◌≡◌, ◌≤◌, IsUtf8, MatchOption, is_utf8-from_IsUtf8, named_principal, principal_fault, get_or}
+use Rattle.kob_script.proofs.Imports.{AclCommand, BadLine, Bool, CliArgs, Command, CommandFault, Err, Event, Fails, Fault, FaultKind, Finds, GivesSeen, IsAmong, IsFirstFault, LineError, List, Memory, None, Ok, One, Option, Result, Some, Texts, Word, [], acl_commands, acl_request, arith, asking, asks_by_acl, bytes_eq, codes, command_named, counted, earlier, error_of, false, first_kind, ok_or, if◌then◌else◌, inl, inr, length, length-map, line_fault, ltb-false, ltb-true, map, nat_tests, option_map, rank, refl, request_of, result_and, result_err, row, row_fault, true, unless_faults, unless_found, ℕ, ◌>>=◌, ◌∷◌, ◌≡◌, ◌≤◌, IsUtf8, is_utf8-from_IsUtf8, named_principal, principal_fault, get_or}
 use Rattle.kob_script.specs.CommandLines.{asked_by, events_of}
+use Rattle.kob_script.proofs.Imports.{drop, faults_in, sym, row_named, named_host, host_fault, Place}
 use Rattle.kob_script.proofs.Choices.{chosen_false, chosen_true}
-use Rattle.kob_script.specs.Words.{principal_of}
+use Rattle.kob_script.specs.Words.{host_of, principal_of}
 use Rattle.kob_script.specs.declared.command.Slot.TheVariants.{Host, Principal}
 
 -- the first of the faults is the one that reading gives
@@ -117,13 +118,31 @@ uncounted read Memory fails = tt
 uncounted (Ok items) (Fault kind) fails = absurd cc
 uncounted (Err other) (Fault kind) fails = cc
 
--- the principal that was read last, if a word names it again
-pub named_again : (word : Word) (kept : List ℕ) → IsUtf8 kept → principal_fault kept ≡ None → word.decoded ≡ kept
+-- the principal and the host that were read last, if words name them again
+pub principal_again : (word : Word) (kept : List ℕ) → IsUtf8 kept → principal_fault kept ≡ None → word.decoded ≡ kept
     → named_principal word ≡ Ok kept
 unfolding principal_of
-named_again word kept text valid same = grind (arith, nat_tests, chosen_true, is_utf8-from_IsUtf8)
+principal_again word kept text valid same = grind (arith, nat_tests, chosen_true, is_utf8-from_IsUtf8)
 
-pub has_no_fault : (last : Option (List ℕ)) (read : Result (List ℕ) FaultKind)
-    → MatchOption last ⊥ (λ kept. read ≡ Ok kept) → result_err read ≡ None
-has_no_fault (Some kept) read is = rw is refl
-has_no_fault None read none = absurd none
+pub host_again : (word : Word) (kept : List ℕ) → IsUtf8 kept → host_fault kept ≡ None → word.decoded ≡ kept
+    → named_host word ≡ Ok kept
+unfolding host_of
+host_again word kept text valid same = grind (arith, nat_tests, chosen_true, is_utf8-from_IsUtf8)
+
+-- of three faults that whose kind comes first
+earlier_of_three : (a b c : Option FaultKind) → earlier a (earlier b c) ≡ earlier (earlier a b) c
+earlier_of_three None b c = refl
+earlier_of_three (Some a) None c = refl
+earlier_of_three (Some a) (Some b) None = refl
+earlier_of_three (Some a) (Some b) (Some c) = grind (arith, nat_tests, ltb-true, ltb-false)
+
+-- the faults of who asks, and then those of the other words
+pub asker_before_others : (words : List Word) (who from command : Word) (places : List Place) (found : Result (Unit {0}) LineError)
+    → 3 ≤ length words → who ≡ get_or words 0 who → from ≡ get_or words 1 from → command ≡ get_or words 2 command
+    → row_named command.decoded ≡ Some places
+    → Finds found (earlier (earlier (result_err (named_principal who)) (result_err (named_host from)))
+    (first_kind (faults_in places (drop 3 words))))
+    → Finds found (line_fault words)
+asker_before_others (a ∷ b ∷ c ∷ others) who from command places found many is0 is1 is2 row_is finds =
+    rw (sym is0, sym is1, sym is2, row_is, earlier_of_three) finds
+asker_before_others _ who from command places found many is0 is1 is2 row_is finds = absurd (omega (arith, many))

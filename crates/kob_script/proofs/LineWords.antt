@@ -1,57 +1,60 @@
--- The words of a line. A word is read byte by byte, one without a percent sign stands for itself, and a cut at
--- `=` or `:` leaves each escape whole. And the seven words of a row.
-use Rattle.kob_script.proofs.Imports.{Bool, IsFirstByte, IsFirstByte-value, LeavesWhole, List, None, Nowhere, Option, Passes, Some, Word, [], ap, append-nil, append_assoc, arith, before, cut_at, digit_value, drop, escaped, false, get_or, get_or_default_zero, if◌then◌else◌, is_byte, is_some, length, length-drop, list_all, list_all-from_AllPass, nat_lt, nat_tests, not, option_map, refl, sym, take, take_all, true, unescaped, ℕ, ◌++◌, ◌+◌, ◌-◌, ◌<◌, ◌==◌, ◌∙◌, ◌∷◌, ◌≡◌, ◌≤◌}
-use Rattle.kob_script.proofs.Choices.{chosen_false, false_from}
-use Rattle.kob_script.specs.Words.{unescaped_from}
+-- The words of a line are cut one after another. A word that is cut at a byte, and the seven words of a row.
+use Rattle.kob_script.proofs.Imports.{Bool, IsFirstByte, IsFirstByte-value, List, None, Option, Some, Word, [], ap, arith, cut_at, drop, false, get_or, is_byte, length, length-drop, nat_lt, nat_tests, not, option_map, refl, sym, take, take_all, true, ℕ, ◌+◌, ◌-◌, ◌<◌, ◌∙◌, ◌∷◌, ◌≡◌, ◌≤◌}
+use Rattle.std.proofs.Common.{cond, filter}
+use Rattle.std.specs.Option.{IfSome}
+use Rattle.std.proofs.lemmas.List.Splits.{slice_split-cons_yes}
+use Rattle.std.specs.List.{position_or_len, slice_split, onto_first, slice_get}
+use Rattle.kob_script.specs.Words.{is_blank, raw_words}
+use Prim.Native.Nat.{zero, suc}
 
--- the byte at the front of a word, and what comes after it; nothing for a `%` that begins no escape
-abbrev pub byte_at : ℕ → List ℕ → Option (ℕ × List ℕ)
-byte_at first others = if first == 37 then option_map (λ byte. (byte, drop 2 others)) (escaped others) else Some (first, others)
+-- how many bytes are before the first blank
+abbrev size_of : List ℕ → ℕ
+size_of line = position_or_len is_blank line
 
--- the byte at the front, and then what the rest stands for
-abbrev then_rest : Option (ℕ × List ℕ) → Option (List ℕ)
-then_rest None = None
-then_rest (Some found) = before (Some found.0) (unescaped found.1)
+-- the parts of a line behind its first one
+later_parts : List ℕ → List (List ℕ)
+later_parts [] = []
+later_parts (blank ∷ rest) = slice_split is_blank rest
 
-step : (byte : ℕ) (rest : List ℕ) → unescaped (byte ∷ rest) ≡ then_rest (byte_at byte rest)
-unfolding unescaped_from
-step byte rest = grind (arith, nat_tests)
+parts : (line : List ℕ) → slice_split is_blank line ≡ take (size_of line) line ∷ later_parts (drop (size_of line) line)
+unfolding later_parts
+parts [] = refl
+parts (byte ∷ rest) = by (is_blank byte) (parts rest)
+  where
+    by : (b : Bool) → slice_split is_blank rest ≡ take (size_of rest) rest ∷ later_parts (drop (size_of rest) rest)
+        → cond b ([] ∷ slice_split is_blank rest) (onto_first byte (slice_split is_blank rest))
+        ≡ take (cond (not b) (1 + size_of rest) 0) (byte ∷ rest) ∷ later_parts (drop (cond (not b) (1 + size_of rest) 0) (byte ∷ rest))
+    by true more = refl
+    by false more = grind (arith, nat_tests)
 
--- a word without a percent sign stands for itself
-literal_stands : (word : List ℕ) → list_all (λ byte. not (byte == 37)) word ≡ true → unescaped word ≡ Some word
-unfolding unescaped_from
-literal_stands [] literal = refl
-literal_stands (byte ∷ rest) literal = grind (arith, nat_tests, literal_stands rest)
+behind_part : (line : List ℕ) → raw_words (drop (size_of line) line)
+    ≡ filter (λ word. nat_lt 0 (length word)) (later_parts (drop (size_of line) line))
+unfolding later_parts
+behind_part [] = refl
+behind_part (byte ∷ rest) = by (is_blank byte) refl (behind_part rest)
+  where
+    by : (b : Bool) → is_blank byte ≡ b
+        → raw_words (drop (size_of rest) rest) ≡ filter (λ word. nat_lt 0 (length word)) (later_parts (drop (size_of rest) rest))
+        → raw_words (drop (cond (not b) (1 + size_of rest) 0) (byte ∷ rest))
+        ≡ filter (λ word. nat_lt 0 (length word)) (later_parts (drop (cond (not b) (1 + size_of rest) 0) (byte ∷ rest)))
+    by true is more = ap (filter (λ word. nat_lt 0 (length word))) (slice_split-cons_yes is_blank byte rest is)
+    by false is more = grind (arith, nat_tests)
 
-pub nowhere_stands : (word : List ℕ) → Nowhere (Passes (is_byte 37) word) 0 (length word) → unescaped word ≡ Some word
-nowhere_stands word nowhere =
-    grind (arith, nat_tests, literal_stands, list_all-from_AllPass, get_or_default_zero, false_from)
+-- what begins with no blank begins with a word
+pub word_cut : (line : List ℕ) (size : ℕ) → size ≡ size_of line → 0 < size → raw_words line ≡ take size line ∷ raw_words (drop size line)
+word_cut line zero is some = absurd (omega (arith, some))
+word_cut [] (suc n) is some = absurd cc
+word_cut (byte ∷ rest) (suc n) is some = grind (arith, nat_tests, parts (byte ∷ rest), behind_part (byte ∷ rest))
 
--- bytes that were read, and then what the rest stands for
-abbrev pub with_rest : List ℕ → Option (List ℕ) → Option (List ℕ)
-with_rest bytes others = option_map (λ more. bytes ++ more) others
+-- what begins with no blank and has no word is empty
+pub no_word : (line : List ℕ) → 0 ≡ size_of line → IfSome (slice_get line 0) (λ byte. is_blank byte ≡ false) → raw_words line ≡ []
+no_word [] none word = refl
+no_word (byte ∷ rest) none word = grind (arith, nat_tests)
 
-pub none_before : (bytes : List ℕ) (read : Option (List ℕ)) → bytes ≡ [] → with_rest bytes read ≡ read
-none_before bytes None empty = refl
-none_before bytes (Some more) empty = ap (λ front. Some (front ++ more)) empty
-
--- the loop over the bytes of a word, by what was found at the front of the rest
-module _ (bytes rest others : List ℕ) (first : ℕ) (all : Option (List ℕ)) (kept : with_rest bytes (unescaped rest) ≡ all)
-    (split : rest ≡ first ∷ others) where
-  front_is : with_rest bytes (then_rest (byte_at first others)) ≡ all
-  front_is = rw (split, step first others) at kept
-
-  pub byte_read : (found : ℕ × List ℕ) → Some found ≡ byte_at first others
-      → with_rest (bytes ++ found.0 ∷ []) (unescaped found.1) ≡ all
-  byte_read found is = grind (arith, nat_tests, front_is, append_assoc)
-
-  pub none_read : None ≡ byte_at first others → None ≡ all
-  none_read is = ap (λ read. with_rest bytes (then_rest read)) is ∙ front_is
-
-pub all_read : (bytes rest : List ℕ) (all : Option (List ℕ)) → with_rest bytes (unescaped rest) ≡ all → rest ≡ []
-    → Some bytes ≡ all
-unfolding unescaped_from
-all_read bytes rest all kept none = ap Some (sym (append-nil bytes)) ∙ (rw none at kept)
+pub behind_blank : (line : List ℕ) (byte : ℕ) (rest : List ℕ) → line ≡ byte ∷ rest → is_blank byte ≡ true
+    → raw_words rest ≡ raw_words line
+behind_blank line byte rest is blank =
+    sym (ap raw_words is ∙ ap (filter (λ word. nat_lt 0 (length word))) (slice_split-cons_yes is_blank byte rest blank))
 
 -- a word that is cut at the place of a byte, or has none
 module _ (byte : ℕ) (word : List ℕ) where
@@ -67,58 +70,6 @@ module _ (byte : ℕ) (word : List ℕ) where
   cut_is at is =
       let behind = take_all (length word - (at + 1)) (drop (at + 1) word) (omega (arith, length-drop (at + 1) word)) in
       ap (λ (back : List ℕ). Some (take at word, back)) behind ∙ cut_by (Some at) is
-
--- what two parts around a byte stand for
-abbrev joined : ℕ → Option (List ℕ) → Option (List ℕ) → Option (List ℕ)
-joined byte None back = None
-joined byte (Some front) back = option_map (λ bytes. front ++ byte ∷ bytes) back
-
-both_whole : (byte : ℕ) (front back : Option (List ℕ)) → is_some (joined byte front back) ≡ true
-    → (is_some front ≡ true) × (is_some back ≡ true)
-both_whole byte (Some front) (Some back) whole = (refl, refl)
-both_whole byte _ _ whole = absurd cc
-
-before_joined : (byte : ℕ) (found : Option ℕ) (front back : Option (List ℕ))
-    → before found (joined byte front back) ≡ joined byte (before found front) back
-before_joined byte (Some first) (Some front) (Some bytes) = refl
-before_joined byte _ _ _ = refl
-
--- the byte at the front, if what comes after it is joined alike
-front_joined : (byte a : ℕ) (percent : Bool) (digits_all digits : Option ℕ) (after_all after rest_all rest back : Option (List ℕ))
-    → before digits_all after_all ≡ joined byte (before digits after) back → rest_all ≡ joined byte rest back
-    → (if percent then before digits_all after_all else before (Some a) rest_all)
-    ≡ joined byte (if percent then before digits after else before (Some a) rest) back
-front_joined byte a true digits_all digits after_all after rest_all rest back escape plain = escape
-front_joined byte a false digits_all digits after_all after rest_all rest back escape plain =
-    ap (before (Some a)) plain ∙ before_joined byte (Some a) rest back
-
-module _ (byte : ℕ) (back : List ℕ) (other : (byte == 37) ≡ false) (none : nat_lt (digit_value byte) 16 ≡ false) where
-  not_first : (bytes : List ℕ) (others : Option (List ℕ)) → before (escaped (byte ∷ bytes)) others ≡ None
-  not_first [] others = refl
-  not_first (low ∷ bytes) others = rw none refl
-
-  not_second : (high : ℕ) (others : Option (List ℕ)) → before (escaped (high ∷ byte ∷ back)) others ≡ None
-  not_second high others = grind (arith, nat_tests)
-
-  cut : (front : List ℕ) → unescaped (front ++ byte ∷ back) ≡ joined byte (unescaped front) (unescaped back)
-  unfolding unescaped_from
-  cut [] = chosen_false (byte == 37) (before (escaped back) (unescaped_from 2 back)) (before (Some byte) (unescaped back)) other
-  cut (a ∷ []) =
-      front_joined byte a (a == 37) (escaped (byte ∷ back)) None _ (Some []) (unescaped (byte ∷ back)) (Some [])
-      (unescaped back) (not_first back _) (cut [])
-  cut (a ∷ high ∷ []) = grind (arith, nat_tests, front_joined, not_second, cut (high ∷ []))
-  cut (a ∷ high ∷ low ∷ rest) =
-      grind (arith, nat_tests, front_joined, cut rest, before_joined, cut (high ∷ low ∷ rest))
-
-  pub leaves_whole : (front : List ℕ) → is_some (unescaped (front ++ byte ∷ back)) ≡ true
-      → (is_some (unescaped front) ≡ true) × (is_some (unescaped back) ≡ true)
-  leaves_whole front whole = both_whole byte (unescaped front) (unescaped back) (sym (ap is_some (cut front)) ∙ whole)
-
-pub at_equals : LeavesWhole 61
-at_equals = λ front back. leaves_whole 61 back refl refl front
-
-pub at_colon : LeavesWhole 58
-at_colon = λ front back. leaves_whole 58 back refl refl front
 
 -- seven words, each known by its index
 pub seven : (words : List Word) (a b c d e f g : Word) → 7 ≤ length words → length words < 8 → a ≡ get_or words 0 a

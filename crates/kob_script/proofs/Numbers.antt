@@ -1,5 +1,7 @@
 -- Which words write numbers, by the digits that are left.
-use Rattle.kob_script.proofs.Imports.{BadNumber, Err, List, Ok, [], all_ascii_digits, arith, digit_value, digits_value, digits_value_after, false, is_ascii_digit, length, nat_tests, number_in, true, ℕ, ◌*◌, ◌+◌, ◌<◌, ◌==◌, ◌^◌, ◌∷◌, ◌≡◌, ◌≤◌}
+use Rattle.kob_script.proofs.Imports.{BadNumber, Err, List, Ok, [], all_ascii_digits, arith, digit_value, digits_value, digits_value_after, false, is_ascii_digit, length, nat_tests, number_in, refl, true, ℕ, ◌*◌, ◌+◌, ◌<◌, ◌==◌, ◌^◌, ◌∷◌, ◌≡◌, ◌≤◌}
+use Rattle.kob_words.proofs.Escapes.{plain_stands}
+use Rattle.kob_words.specs.Words.{bytes_of, has_percent}
 use Rattle.kob_script.proofs.Choices.{both, chosen_true, chosen_false, false_from}
 
 abbrev pub WritesNumber : List ℕ → Type 0
@@ -30,3 +32,11 @@ pub digits_end : (ds left : List ℕ) (n : ℕ) → GoesOn ds n left → left �
     → number_in ds ≡ Ok n
 digits_end [] left n kept none few some = absurd cc
 digits_end (digit ∷ ds) left n kept none few some = grind (arith, nat_tests, chosen_true)
+
+-- digits alone stand for themselves
+digits_plain : (ds : List ℕ) → all_ascii_digits ds ≡ true → has_percent ds ≡ false
+digits_plain [] digits = refl
+digits_plain (d ∷ ds) digits = grind (arith, nat_tests, digits_plain ds, both)
+
+pub digits_stand : (part : List ℕ) (n : ℕ) → number_in part ≡ Ok n → number_in (bytes_of part) ≡ Ok n
+digits_stand part n is = grind (arith, nat_tests, digits_plain, plain_stands, chosen_false)

@@ -36,29 +36,31 @@ abbrev pub filter_pattern_of : Word → Result FilterPattern FaultKind
 filter_pattern_of word =
     if bytes_eq word.raw (codes "-") then Ok Any else known filter_pattern_named word
 
--- the commands by their words, in lower case only
-abbrev pub named_commands : List (List ℕ × Command)
-named_commands =
-    (codes "create-topic", CreateTopic)
-    ∷ (codes "delete-topic", DeleteTopic)
-    ∷ (codes "metadata", Metadata)
-    ∷ (codes "produce", Produce)
-    ∷ (codes "fetch", Fetch)
-    ∷ (codes "list-offsets", ListOffsets)
-    ∷ (codes "delete-records", DeleteRecords)
-    ∷ (codes "init-producer", InitProducer)
-    ∷ (codes "commit", Commit)
-    ∷ (codes "committed", Committed)
-    ∷ (codes "groups", Groups)
-    ∷ (codes "delete-group", DeleteGroup)
-    ∷ (codes "create-acl", CreateAcl)
-    ∷ (codes "describe-acls", DescribeAcls)
-    ∷ (codes "delete-acls", DeleteAcls) ∷ []
+abbrev pub command_name : Command → List ℕ
+command_name CreateTopic = codes "create-topic"
+command_name DeleteTopic = codes "delete-topic"
+command_name Metadata = codes "metadata"
+command_name Produce = codes "produce"
+command_name Fetch = codes "fetch"
+command_name ListOffsets = codes "list-offsets"
+command_name DeleteRecords = codes "delete-records"
+command_name InitProducer = codes "init-producer"
+command_name Commit = codes "commit"
+command_name Committed = codes "committed"
+command_name Groups = codes "groups"
+command_name DeleteGroup = codes "delete-group"
+command_name CreateAcl = codes "create-acl"
+command_name DescribeAcls = codes "describe-acls"
+command_name DeleteAcls = codes "delete-acls"
 
--- the command of a word
+abbrev pub commands_by_name : List Command
+commands_by_name =
+    Produce ∷ Fetch ∷ Commit ∷ Committed ∷ CreateTopic ∷ DeleteTopic ∷ Metadata ∷ ListOffsets ∷
+    DeleteRecords ∷ InitProducer ∷ Groups ∷ DeleteGroup ∷ CreateAcl ∷ DescribeAcls ∷ DeleteAcls ∷ []
+
+-- the command of a name, in lower case only
 abbrev pub command_named : List ℕ → Option Command
-command_named word =
-    option_map (λ named. named.1) (find (λ named. bytes_eq word named.0) named_commands)
+command_named word = find (λ command. bytes_eq word (command_name command)) commands_by_name
 
 -- the words of a filter, `-` for ANY
 abbrev pub filter_row : List Place

@@ -1,15 +1,15 @@
 -- The words of a line, and what they stand for: bytes, texts, names, numbers, parts of a batch.
 -- Words are read up to a fault; of the faults in a line the first kind counts.
-use Rattle.std.specs.Prelude.{◌≡◌, ◌⊎◌, ℕ, List, [], ◌∷◌, Option, Some, None, Result, Ok, Err, nat_lt, if◌then◌else◌, length, ◌+◌, ◌*◌, ◌==◌, ◌&&◌, zero, suc, Bool, true, ◌++◌, take, drop, is_some, unwrap_or, ◌||◌, filter, find, option_map, not, ◌^◌, codes, bytes_eq, is_none, ok_or}
+use Rattle.std.specs.Prelude.{◌≡◌, ◌⊎◌, ℕ, List, [], ◌∷◌, Option, Some, None, Result, Ok, Err, nat_lt, if◌then◌else◌, length, ◌+◌, ◌==◌, ◌&&◌, Bool, take, drop, unwrap_or, ◌||◌, filter, find, option_map, not, ◌^◌, codes, bytes_eq, is_none, ok_or}
 pub use Rattle.kob_script.specs.declared.fault.FaultKind.TheVariants.{BadEscape, LateSetting, BadLine, BadText, BadPrincipal, BadHost, BadNumber, BadWord, Usage, NoAction, BadName, BadMix, NoResource, NoPrincipal}
 pub use Rattle.kob_script.specs.declared.fault.FaultKind.{FaultKind}
 pub use Rattle.kob_script.specs.declared.fault.LineError.TheVariants.{Memory, Fault}
 pub use Rattle.kob_script.specs.declared.fault.LineError.{LineError}
-use Rattle.std.specs.Char.{digit_value}
 use Rattle.memchr.specs.Find.{first_of, is_byte, places}
 use Rattle.std.specs.List.{slice_split}
 use Rattle.std.specs.Str.Parse.{digits_value}
 use Rattle.std.specs.Str.{is_utf8, all_ascii_digits}
+use Rattle.kob_words.specs.Words.{bytes_of, unescaped}
 use Rattle.kob_names.specs.TextRules.{host_fault, principal_fault}
 use Rattle.kob_names.specs.declared.batch.Idem.{Idem}
 use Rattle.kob_names.specs.declared.record.Record.{Record}
@@ -94,46 +94,10 @@ unless_found (Some kind) read = Err kind
 abbrev pub counted : {A : Type 0} → Result (List A) FaultKind → Result ℕ FaultKind
 counted read = read >>= λ items. Ok (length items)
 
--- the byte that two hexadecimal digits write
-abbrev pub hexadecimal : ℕ → ℕ → Option ℕ
-hexadecimal high low =
-    if nat_lt (digit_value high) 16 && nat_lt (digit_value low) 16
-    then Some (16 * digit_value high + digit_value low) else None
-
--- the byte that stands after a percent sign; nothing unless two digits follow
-abbrev pub escaped : List ℕ → Option ℕ
-escaped (high ∷ low ∷ others) = hexadecimal high low
-escaped _ = None
-
--- a byte before others
-abbrev pub before : Option ℕ → Option (List ℕ) → Option (List ℕ)
-before None others = None
-before (Some byte) others = option_map (λ bytes. byte ∷ bytes) others
-
--- what a word stands for after this number of bytes; nothing if it has a `%` without two digits
-unfoldable pub unescaped_from : ℕ → List ℕ → Option (List ℕ)
-unescaped_from n [] = Some []
-unescaped_from zero (byte ∷ rest) =
-    if byte == 37 then before (escaped rest) (unescaped_from 2 rest)
-    else before (Some byte) (unescaped_from 0 rest)
-unescaped_from (suc n) (byte ∷ rest) = unescaped_from n rest
-
-abbrev pub unescaped : List ℕ → Option (List ℕ)
-unescaped word = unescaped_from 0 word
-
--- the bytes that a part of a word stands for; the part itself if its escapes are not whole
-abbrev pub bytes_of : List ℕ → List ℕ
-bytes_of part = unwrap_or (unescaped part) part
-
 -- what is before and after the first of these bytes
 abbrev pub cut_at : ℕ → List ℕ → Option (List ℕ × List ℕ)
 cut_at byte word =
     option_map (λ at. (take at word, drop (at + 1) word)) (first_of (places (is_byte byte) word))
-
--- parts around this byte have whole escapes if the bytes have, so that each is read as it stands
-abbrev pub LeavesWhole : ℕ → Type 0
-LeavesWhole byte = (front back : List ℕ) → is_some (unescaped (front ++ byte ∷ back)) ≡ true
-    → (is_some (unescaped front) ≡ true) × (is_some (unescaped back) ≡ true)
 
 -- a word as it stands in the line, and the bytes that it stands for
 pub record Word : Type 0 where
@@ -197,8 +161,7 @@ number_of word = number_in word.decoded
 abbrev pub which_of : Word → Result Which FaultKind
 which_of word =
     if bytes_eq word.decoded (codes "-2") then Ok Start
-    else (if bytes_eq word.decoded (codes "-1") then Ok End
-    else Err BadLine)
+    else (if bytes_eq word.decoded (codes "-1") then Ok End else Err BadLine)
 
 -- the offset to delete up to, or `-1` for the end
 abbrev pub before_of : Word → Result Before FaultKind

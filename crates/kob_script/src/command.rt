@@ -1,7 +1,7 @@
 //! The table of commands: their names, and the words that each takes.
 
-ghost use Rattle.std.specs.Prelude.{◌≡◌, bytes_eq, find, option_map};
-ghost use Rattle.kob_script.specs.CommandLines.{command_named, row, row_named};
+ghost use Rattle.std.specs.Prelude.{◌≡◌, bytes_eq, find, option_copied, option_map};
+ghost use Rattle.kob_script.specs.CommandLines.{command_name, command_named, row, row_named};
 
 /// What a word writes.
 #[derive(Clone, Copy, Debug, PartialEq, Eq)]
@@ -60,36 +60,60 @@ pub enum Command {
     DeleteAcls,
 }
 
-/// The command of that word, in lower case only.
+fn name(command: Command) -> &'static str
+    ensures { result.now ≡ command_name command }
+{
+    match command {
+        Command::CreateTopic => "create-topic",
+        Command::DeleteTopic => "delete-topic",
+        Command::Metadata => "metadata",
+        Command::Produce => "produce",
+        Command::Fetch => "fetch",
+        Command::ListOffsets => "list-offsets",
+        Command::DeleteRecords => "delete-records",
+        Command::InitProducer => "init-producer",
+        Command::Commit => "commit",
+        Command::Committed => "committed",
+        Command::Groups => "groups",
+        Command::DeleteGroup => "delete-group",
+        Command::CreateAcl => "create-acl",
+        Command::DescribeAcls => "describe-acls",
+        Command::DeleteAcls => "delete-acls",
+    }
+}
+
+/// The command of that name, in lower case only.
 pub fn command_named(word: &[u8]) -> Option<Command>
     ensures { result ≡ command_named word.now }
 {
+    // Those that most lines have come first.
     let commands = [
-        ("create-topic", Command::CreateTopic),
-        ("delete-topic", Command::DeleteTopic),
-        ("metadata", Command::Metadata),
-        ("produce", Command::Produce),
-        ("fetch", Command::Fetch),
-        ("list-offsets", Command::ListOffsets),
-        ("delete-records", Command::DeleteRecords),
-        ("init-producer", Command::InitProducer),
-        ("commit", Command::Commit),
-        ("committed", Command::Committed),
-        ("groups", Command::Groups),
-        ("delete-group", Command::DeleteGroup),
-        ("create-acl", Command::CreateAcl),
-        ("describe-acls", Command::DescribeAcls),
-        ("delete-acls", Command::DeleteAcls),
+        Command::Produce,
+        Command::Fetch,
+        Command::Commit,
+        Command::Committed,
+        Command::CreateTopic,
+        Command::DeleteTopic,
+        Command::Metadata,
+        Command::ListOffsets,
+        Command::DeleteRecords,
+        Command::InitProducer,
+        Command::Groups,
+        Command::DeleteGroup,
+        Command::CreateAcl,
+        Command::DescribeAcls,
+        Command::DeleteAcls,
     ];
-    command_among(&commands, word)
+    command_among(&commands, word).copied()
 }
 
-fn command_among(commands: &[(&str, Command)], word: &[u8]) -> Option<Command>
-    ensures { result ≡ option_map (λ named. named.1)
-        (find (λ named. bytes_eq word.now named.0.now) commands.now) }
+fn command_among<'c>(commands: &'c [Command], word: &[u8]) -> Option<&'c Command>
+    ensures { option_copied result
+        ≡ find (λ command. bytes_eq word.now (command_name command)) commands.entry.now }
 {
-    let named = commands.iter().find(|named| word == named.0.as_bytes())?;
-    Some(named.1)
+    commands
+        .iter()
+        .find(|command| word == name(**command).as_bytes())
 }
 
 const FILTER: [Place; 7] = [

@@ -12,7 +12,7 @@ ghost use Rattle.kob_script.specs.declared.fault.FaultKind as kinds;
 
 use crate::command::{Command, command_named};
 use crate::fault::{FaultKind, LineError};
-use crate::faults::{asker_of, check_line};
+use crate::faults::{Asker, check_asker, check_line};
 use crate::script::is_setting;
 use crate::values::{
     before_of, filter_pattern_of, idem_of, known, named_host, named_principal, number_of,
@@ -20,7 +20,7 @@ use crate::values::{
 };
 use crate::words::Word;
 use kob_acl_cli::{AclCommand, CliArgs, CommandFault, LineFault, commands_of, read_line};
-use kob_names::{Batch, BindingFilter, Draft, Host, Items, Pattern, PlainValue, Principal};
+use kob_names::{Batch, BindingFilter, Draft, Items, Pattern, PlainValue};
 use kob_rights::{
     CreateAcls, CreateTopics, DeleteAcls, DeleteGroups, DeleteRecords, DeleteTopics, DescribeAcls,
     Event, Fetch, ListOffsets, Metadata, OffsetCommit, OffsetFetch, Produce, Request,
@@ -34,7 +34,7 @@ use std::collections::VecDeque;
 #[tactic(auto, using(crate::proofs::LineFaults::line_counted, crate::proofs::LineFaults::count_fails))]
 pub fn count_of(
     alloc: Global,
-    last: &mut Option<Principal>,
+    last: &mut Option<Asker>,
     words: &[Word<'_>],
     answer: &Option<CliArgs>,
 ) -> Result<u64, LineError>
@@ -70,7 +70,7 @@ pub fn events_of(
 #[tactic(auto, unfolding(crate::specs::CommandLines::asked_by))]
 pub fn events_in(
     alloc: Global,
-    last: &mut Option<Principal>,
+    last: &mut Option<Asker>,
     words: &[Word<'_>],
     answer: &Option<CliArgs>,
     asked: &mut VecDeque<Event>,
@@ -82,18 +82,20 @@ pub fn events_in(
     let [principal, host, command, arguments @ ..] = words else {
         return Err(LineError::Fault(FaultKind::BadLine));
     };
-    let principal = asker_of(alloc, last, principal)?;
-    let host = named_host(alloc, host)?;
+    check_asker(alloc, last, principal, host)?;
+    let Some(asker) = last else {
+        return Err(LineError::Memory);
+    };
     if command.decoded() == b"acl".as_slice() {
         let commands = acl_commands(alloc, answer)?;
-        *asked = VecDeque::from(events_by(alloc, &principal, &host, commands)?);
+        *asked = VecDeque::from(events_by(alloc, asker, commands)?);
         return Ok(());
     }
     let command = command_named(command.decoded()).ok_or(LineError::Fault(FaultKind::BadLine))?;
     let request = request_of(alloc, command, arguments)?;
     asked.push_back(Event {
-        principal,
-        host,
+        principal: asker.principal.copy(alloc)?,
+        host: asker.host.copy(alloc)?,
         request,
     })?;
     Ok(())
@@ -164,21 +166,20 @@ fn error_of(fault: &CommandFault) -> LineError
     }
 }
 
-/// The events by which a principal at a host asks for commands, one each.
+/// The events by which an asker asks for commands, one each.
 fn events_by(
     alloc: Global,
-    principal: &Principal,
-    host: &Host,
+    asker: &Asker,
     commands: Vec<AclCommand>,
 ) -> Result<Vec<Event>, AllocError>
     ensures { IfOk result (λ events. events.items
-        ≡ events_by principal.now host.now (map acl_request commands.items)) }
+        ≡ events_by asker.now.principal asker.now.host (map acl_request commands.items)) }
 {
     let mut events = Vec::new(alloc);
     for command in commands {
         events.push(Event {
-            principal: principal.copy(alloc)?,
-            host: host.copy(alloc)?,
+            principal: asker.principal.copy(alloc)?,
+            host: asker.host.copy(alloc)?,
             request: acl_request(command),
         })?;
     }

@@ -1,11 +1,11 @@
 //! The fault of a line's words: the first kind, in the order of the kinds, that some word has; and
-//! the principal that asks. Most lines name that of the line before, and it is not parsed again.
+//! who asks. The principal and the host of the line before are not parsed again.
 
-ghost use Rattle.std.specs.Prelude.{◌≡◌, Ok, OnOk, Option, MatchOption};
+ghost use Rattle.std.specs.Prelude.{◌≡◌, Ok, OnOk, IsTrue, Option, MatchOption};
 ghost use Rattle.std.specs.Result.{result_err};
 ghost use Rattle.kob_script.specs.CommandLines.{line_fault, faults_in, slot_fault};
-ghost use Rattle.kob_script.specs.Words.{Finds, Gives, earlier, earlier_kind, first_kind};
-ghost use Rattle.kob_script.specs.Words.{named_principal};
+ghost use Rattle.kob_script.specs.Words.{Finds, earlier, earlier_kind, first_kind};
+ghost use Rattle.kob_script.specs.Words.{named_host, named_principal};
 ghost use Rattle.kob_script.specs.declared.fault.FaultKind as kinds;
 
 use crate::command::{Place, Slot, row_named};
@@ -15,14 +15,21 @@ use crate::values::{
     number_of, texts_of, which_of,
 };
 use crate::words::Word;
-use kob_names::{PlainValue, Principal};
+use kob_names::{Host, Principal};
 use kob_words::{operation_named, pattern_named, permission_named, resource_named};
 use std::alloc::Global;
 
-/// Checks the words of a line, of which `last` is the principal that was read last.
+/// The principal and the host by which a line asks.
+#[derive(Debug, Drop)]
+pub struct Asker {
+    pub principal: Principal,
+    pub host: Host,
+}
+
+/// Checks the words of a line, of which `last` are the principal and the host that were read last.
 pub fn check_line(
     alloc: Global,
-    last: &mut Option<Principal>,
+    last: &mut Option<Asker>,
     words: &[Word<'_>],
 ) -> Result<(), LineError>
     ensures { Finds result (line_fault words.now) }
@@ -32,8 +39,7 @@ pub fn check_line(
     };
     let places = row_named(command.decoded()).ok_or(LineError::Fault(FaultKind::BadLine))?;
     let others = check_words(alloc, places, arguments);
-    let after_principal = first_error(check_slot(alloc, Slot::Host, host), others);
-    first_error(check_asker(alloc, last, principal), after_principal)
+    first_error(check_asker(alloc, last, principal, host), others)
 }
 
 // Checks words by the places of a row. Recursive: a row has at most seven.
@@ -105,37 +111,39 @@ fn check_slot(alloc: Global, slot: Slot, word: &Word<'_>) -> Result<(), LineErro
     }
 }
 
-/// The principal that a word names, of which `last` keeps a copy.
-pub fn asker_of(
+/// Checks the principal and the host that words name, which `last` are then.
+#[tactic(auto, using(crate::proofs::LineFaults::keeps_fault))]
+pub fn check_asker(
     alloc: Global,
-    last: &mut Option<Principal>,
-    word: &Word<'_>,
-) -> Result<Principal, LineError>
-    ensures { Gives result (named_principal word.now) }
+    last: &mut Option<Asker>,
+    principal: &Word<'_>,
+    host: &Word<'_>,
+) -> Result<(), LineError>
+    ensures fault { Finds result (earlier (result_err (named_principal principal.now))
+        (result_err (named_host host.now))) }
+    ensures kept { OnOk result (MatchOption last.new ⊥ (λ asker.
+        (named_principal principal.now ≡ Ok asker.principal)
+        × (named_host host.now ≡ Ok asker.host))) }
 {
-    check_asker(alloc, last, word)?;
     match last {
-        Some(principal) => Ok(principal.copy(alloc)?),
-        None => Err(LineError::Memory),
+        Some(asker) if is_named(asker, principal, host) => Ok(()),
+        _ => match (named_principal(alloc, principal), named_host(alloc, host)) {
+            (Ok(principal), Ok(host)) => {
+                *last = Some(Asker { principal, host });
+                Ok(())
+            }
+            // One of them has a fault.
+            (one, other) => {
+                first_error(one.and(Ok(())), other.and(Ok(()))).and(Err(LineError::Memory))
+            }
+        },
     }
 }
 
-// Checks the principal that a word names, which `last` is then.
-#[tactic(auto, using(crate::proofs::LineFaults::has_no_fault))]
-fn check_asker(
-    alloc: Global,
-    last: &mut Option<Principal>,
-    word: &Word<'_>,
-) -> Result<(), LineError>
-    ensures fault { Finds result (result_err (named_principal word.now)) }
-    ensures kept { OnOk result (MatchOption last.new ⊥ (λ kept.
-        named_principal word.now ≡ Ok kept)) }
+fn is_named(asker: &Asker, principal: &Word<'_>, host: &Word<'_>) -> bool
+    ensures { IsTrue result → (named_principal principal.now ≡ Ok asker.now.principal)
+        × (named_host host.now ≡ Ok asker.now.host) }
 {
-    match last {
-        Some(kept) if word.decoded() == kept.as_str().as_bytes() => Ok(()),
-        _ => {
-            *last = Some(named_principal(alloc, word)?);
-            Ok(())
-        }
-    }
+    principal.decoded() == asker.principal.as_str().as_bytes()
+        && host.decoded() == asker.host.as_str().as_bytes()
 }

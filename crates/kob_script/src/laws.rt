@@ -3,7 +3,7 @@
 ghost use Rattle.std.specs.Prelude.{◌≡◌, ◌≤◌, ℕ, List, Option, Some, None, Result, Ok, Err, false};
 ghost use Rattle.kob_script.specs.CommandLines.{asks_by_acl, events_of, line_fault, faults_in};
 ghost use Rattle.kob_script.specs.CommandLines.{row_fault, CliArgs};
-ghost use Rattle.kob_script.specs.Words.{LeavesWhole, Word, FaultKind, IsAmong, rank, counted};
+ghost use Rattle.kob_script.specs.Words.{Word, FaultKind, IsAmong, rank, counted};
 ghost use Rattle.kob_script.specs.Script.{script_of, HasNoAclLine, ReadsAs, Script};
 ghost use Rattle.kob_script.specs.declared.fault.Fault.{Fault};
 ghost use Rattle.kob_script.specs.declared.command.Place.{Place};
@@ -30,12 +30,4 @@ pub fn faults_come_in_their_order()
         → line_fault words ≡ Some kind → events_of answer words ≡ Err kind }
     ensures asks { (answer : Option CliArgs) (words : List Word) → line_fault words ≡ None
         → asks_by_acl words ≡ false → counted (events_of answer words) ≡ Ok 1 }
-{}
-
-/// A cut at `=` or at `:` leaves each escape whole. So the parts of a record and the numbers of a
-/// producer are read as they are in their word.
-#[tactic(auto, using(crate::proofs::LineWords::at_equals, crate::proofs::LineWords::at_colon))]
-pub fn cuts_leave_whole_escapes()
-    ensures equals { LeavesWhole 61 }
-    ensures colon { LeavesWhole 58 }
 {}

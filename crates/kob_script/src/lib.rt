@@ -14,9 +14,7 @@ mod words;
 
 pub use command_lines::{answer_to, events_of};
 pub use fault::{Fault, FaultKind, LineError, ScriptError};
-pub use laws::{
-    cuts_leave_whole_escapes, faults_come_in_their_order, plain_scripts_have_one_reading,
-};
+pub use laws::{faults_come_in_their_order, plain_scripts_have_one_reading};
 pub use printed::{print_fault, print_reply, push_outcome};
 pub use requests::Requests;
 pub use script::{

@@ -4,11 +4,12 @@ ghost use Rattle.std.specs.Prelude.{◌≡◌, ◌≤◌, ◌<◌, ◌+◌, ◌+
 ghost use Rattle.std.specs.Prelude.{IfOk, OnOk, OnErr, MatchOption, slice_index_or};
 
 use crate::command_lines::{asks_clap, events_in};
+use crate::faults::Asker;
 use crate::script::is_setting;
 use crate::words::{Word, words_of};
 use bstr::ByteSlice;
 use kob_acl_cli::CliArgs;
-use kob_names::{Bytes, Principal};
+use kob_names::Bytes;
 use kob_rights::Event;
 use std::alloc::{AllocError, Global};
 use std::collections::VecDeque;
@@ -24,8 +25,8 @@ pub struct Requests {
     /// What the line read last asks for.
     asked: VecDeque<Event>,
     left: u64,
-    /// The principal that was read last.
-    last: Option<Principal>,
+    /// The principal and the host that were read last.
+    last: Option<Asker>,
 }
 
 impl Model for Requests {
@@ -93,7 +94,7 @@ impl Requests {
     // Reads a line and what it asks for, or moves to the next block.
     fn read_on(
         alloc: Global,
-        last: &mut Option<Principal>,
+        last: &mut Option<Asker>,
         blocks: &mut Blocks,
         answers: &mut VecDeque<Option<CliArgs>>,
         asked: &mut VecDeque<Event>,
@@ -117,7 +118,7 @@ impl Requests {
     #[inline(always)]
     fn read_again(
         alloc: Global,
-        last: &mut Option<Principal>,
+        last: &mut Option<Asker>,
         line: &[u8],
         answers: &mut VecDeque<Option<CliArgs>>,
         asked: &mut VecDeque<Event>,
@@ -143,7 +144,7 @@ impl Requests {
     #[inline(always)]
     fn read_words(
         alloc: Global,
-        last: &mut Option<Principal>,
+        last: &mut Option<Asker>,
         words: &[Word<'_>],
         answers: &VecDeque<Option<CliArgs>>,
         asked: &mut VecDeque<Event>,

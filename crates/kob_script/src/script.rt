@@ -2,17 +2,18 @@
 //! request is served.
 
 ghost use Rattle.std.specs.List.{concat};
-ghost use Rattle.std.specs.Prelude.{◌≡◌, ◌<◌, ◌^◌, List, length, IfOk};
+ghost use Rattle.std.specs.Prelude.{◌≡◌, ◌<◌, ◌^◌, ℕ, List, Ok, length, true, IfOk};
 ghost use Rattle.kob_rights.specs.declared.event.Event as event;
 ghost use Rattle.kob_script.specs.Checks.{ChecksLine, ChecksNext, as_read, fault_at};
 ghost use Rattle.kob_script.specs.Checks.{script_so_far};
-ghost use Rattle.kob_script.specs.Words.{Gives};
-ghost use Rattle.kob_script.specs.Script.{everyone_of, is_setting, is_super, super_of, script_of};
-ghost use Rattle.kob_script.specs.Script.{with_events, with_words, AreWholeLines, HasNoAclLine};
-ghost use Rattle.kob_script.specs.Script.{IfRead, ReadsAs};
+ghost use Rattle.kob_script.specs.Words.{Gives, words_of};
+ghost use Rattle.kob_script.specs.Script.{AreWholeLines, HasNoAclLine, IfRead, ReadsAs, asks_clap};
+ghost use Rattle.kob_script.specs.Script.{everyone_of, is_setting, is_super, script_of, super_of};
+ghost use Rattle.kob_script.specs.Script.{with_events, with_words};
 
 use crate::command_lines::{answer_to, asks_clap, count_of};
 use crate::fault::{Fault, FaultKind, LineError, ScriptError};
+use crate::faults::Asker;
 use crate::requests::Requests;
 use crate::values::named_principal;
 use crate::words::{Word, words_of};
@@ -46,11 +47,8 @@ pub fn read_script(alloc: Global, text: &[u8]) -> Result<Script, ScriptError>
 {
     let blocks = vec![in alloc; Bytes::copied(alloc, text)?].or(Err(ScriptError::Memory))?;
     let CheckedScript { settings, requests } = check_script(alloc, blocks)?;
-    let events = all_events(alloc, requests)?;
-    Ok(Script {
-        settings,
-        events: Items::from_vec(events),
-    })
+    let events = Items::from_vec(all_events(alloc, requests)?);
+    Ok(Script { settings, events })
 }
 
 fn all_events(alloc: Global, mut requests: Requests) -> Result<Vec<Event>, AllocError>
@@ -70,7 +68,7 @@ struct Checking {
     supers: Vec<Principal>,
     everyone: bool,
     requests: u64,
-    last: Option<Principal>,
+    last: Option<Asker>,
 }
 
 /// Checks a script in blocks of whole lines, with fewer than 2^63 bytes, in time linear in its
@@ -138,12 +136,29 @@ fn check_line(
         answers.old.items answers.new.items result }
 {
     let words = words_of(alloc, line)?;
-    if !asks_clap(&words) {
-        return check_words(alloc, checking, &words, &None);
+    if asks_clap(&words) {
+        check_answered(alloc, checking, answers, &words)
+    } else {
+        check_words(alloc, checking, &words, &None)
     }
-    let answer = answer_to(alloc, &words)?;
-    check_words(alloc, checking, &words, &answer)?;
-    // Another call of clap may return another answer.
+}
+
+// Checks words that clap is asked about. Another call of clap may return another answer, so its
+// answer is kept. A frame of its own, since options take much room.
+#[inline(never)]
+fn check_answered(
+    alloc: Global,
+    checking: &mut Checking,
+    answers: &mut Vec<Option<CliArgs>>,
+    words: &[Word<'_>],
+) -> Result<(), LineError>
+    ensures { (line : List ℕ) (events : List event.Event) → words_of line ≡ Ok words.now
+        → asks_clap words.now ≡ true → checking.old.requests ≡ length events
+        → ChecksLine (script_so_far checking.old events) line checking.new
+        answers.old.items answers.new.items result }
+{
+    let answer = answer_to(alloc, words)?;
+    check_words(alloc, checking, words, &answer)?;
     answers.push(answer)?;
     Ok(())
 }
@@ -172,26 +187,13 @@ fn check_words(
             }
             Ok(())
         }
-        _ => count_requests(alloc, checking, words, answer),
+        _ => {
+            let asked = count_of(alloc, &mut checking.last, words, answer)?;
+            let requests = checking.requests.checked_add(asked);
+            checking.requests = requests.ok_or(LineError::Memory)?;
+            Ok(())
+        }
     }
-}
-
-fn count_requests(
-    alloc: Global,
-    checking: &mut Checking,
-    words: &[Word<'_>],
-    answer: &Option<CliArgs>,
-) -> Result<(), LineError>
-    ensures { (events : List event.Event) → checking.old.requests ≡ length events
-        → ChecksNext checking.new result
-        (with_events answer.now (script_so_far checking.old events) words.now) }
-{
-    let asked = count_of(alloc, &mut checking.last, words, answer)?;
-    checking.requests = checking
-        .requests
-        .checked_add(asked)
-        .ok_or(LineError::Memory)?;
-    Ok(())
 }
 
 /// Whether a line with this first word is a setting.

@@ -5,19 +5,20 @@ ghost use Rattle.std.specs.Char.{digit_value, is_ascii_digit};
 ghost use Rattle.std.specs.Prelude.{◌≡◌, ◌≤◌, ◌+◌, ◌*◌, ◌^◌, true, IfOk, MatchOption, map, ok_or};
 ghost use Rattle.kob_script.specs.CommandLines.{filter_pattern_of};
 ghost use Rattle.kob_script.specs.Words.{Gives, GivesSeen, each};
-ghost use Rattle.kob_script.specs.Words.{before_of, bytes_of, host_of, idem_of, named_host};
+ghost use Rattle.kob_words.specs.Words.{bytes_of};
+ghost use Rattle.kob_script.specs.Words.{before_of, host_of, idem_of, named_host};
 ghost use Rattle.kob_script.specs.Words.{named_principal, number_in, number_of, principal_of};
 ghost use Rattle.kob_script.specs.Words.{record_of, text_of, which_of};
 ghost use Rattle.kob_script.specs.declared.fault.FaultKind.TheVariants.{BadWord};
 
 use crate::fault::{FaultKind, LineError};
-use crate::words::{Word, bytes_of, cut_at, may_have_escapes};
+use crate::words::{Word, cut_at};
 use bstr::ByteSlice;
 use kob_names::{
     Bytes, FilterPattern, Host, HostFault, Idem, Items, Principal, PrincipalFault, Record, Text,
 };
 use kob_rights::{Before, Which};
-use kob_words::filter_pattern_named;
+use kob_words::{bytes_of, filter_pattern_named, may_have_escapes};
 use std::alloc::{AllocError, Global};
 
 /// The text of a word, borrowed from it. Does not allocate.
@@ -184,14 +185,14 @@ pub fn idem_of(alloc: Global, word: &Word<'_>) -> Result<Option<Idem>, LineError
 }
 
 // The number that a part of a word writes, after its escapes are replaced.
+#[tactic(auto, using(crate::proofs::Numbers::digits_stand, kob_words::proofs::Escapes::plain_stands))]
 fn number_at(alloc: Global, part: &[u8]) -> Result<u64, LineError>
     ensures { Gives result (number_in (bytes_of part.now)) }
 {
-    if !may_have_escapes(part) {
-        return number_in(part);
+    match number_in(part) {
+        Err(_) if may_have_escapes(part) => number_in(bytes_of(alloc, part)?.as_slice()),
+        read => read,
     }
-    let digits = bytes_of(alloc, part)?;
-    number_in(digits.as_slice())
 }
 
 /// A record of a key and a value around the first `=`, or of a value alone.

@@ -1,16 +1,17 @@
 //! The words of a line, in which `%` and two hexadecimal digits stand for one byte.
 
-ghost use Rattle.std.specs.Prelude.{◌≡◌, ◌≤◌, ◌==◌, ℕ, List, Some, IfOk, IfSome, MatchBool, ⊤};
-ghost use Rattle.std.specs.Prelude.{bytes_eq, codes, drop, find, if◌then◌else◌, length, not};
-ghost use Rattle.std.specs.Prelude.{option_copied, option_map};
-ghost use Rattle.kob_script.specs.Words.{Gives, GivesSeen};
-ghost use Rattle.kob_script.specs.Words.{bytes_of, cut_at, escaped, hexadecimal, is_blank};
-ghost use Rattle.kob_script.specs.Words.{is_skipped, unescaped, word_of, words_of};
+ghost use Rattle.std.specs.Prelude.{◌≡◌, ◌<◌, ◌≤◌, ◌∷◌, [], false, find, not, IfSome, MatchOption};
+ghost use Rattle.std.specs.Prelude.{bytes_eq, codes, length, option_map, slice_get};
+ghost use Rattle.std.specs.List.{position_or_len};
+ghost use Rattle.kob_words.specs.Words.{has_percent};
+ghost use Rattle.kob_script.specs.Words.{Gives, GivesSeen, cut_at, is_blank, raw_words, word_of};
+ghost use Rattle.kob_script.specs.Words.{words_of};
 
 use crate::fault::{FaultKind, LineError};
 use kob_names::Bytes;
+use kob_words::{may_have_escapes, unescaped};
 use memchr::memchr;
-use std::alloc::{AllocError, Global};
+use std::alloc::Global;
 use std::marker::Model;
 
 /// A word as it is in a line, and the bytes that it stands for. Contracts see both.
@@ -18,18 +19,18 @@ use std::marker::Model;
 pub struct Word<'a> {
     raw: &'a [u8],
     /// The bytes that it stands for, if it may have escapes.
-    replaced: Option<Bytes>,
+    replaced: Option<Box<Bytes>>,
 }
 
 impl<'a> Model for Word<'a> {
-    ghost use Rattle.std.specs.Prelude.{unwrap_or};
+    ghost use Rattle.std.specs.Prelude.{option_map, unwrap_or};
     ghost use Rattle.kob_script.specs.Words.{Word};
 
     ghost Value = { Word };
 
     ghost view = { λ word. record {
       raw = word.raw.now;
-      decoded = unwrap_or word.replaced word.raw.now;
+      decoded = unwrap_or (option_map (λ bytes. bytes.value) word.replaced) word.raw.now;
     } };
 }
 
@@ -39,17 +40,21 @@ impl<'a> Word<'a> {
     pub fn read(alloc: Global, raw: &'a [u8]) -> Result<Word<'a>, LineError>
         ensures { Gives result (word_of raw.now) }
     {
-        if !may_have_escapes(raw) {
-            return Ok(Word {
-                raw,
-                replaced: None,
-            });
+        Word::read_part(alloc, may_have_escapes(raw), raw)
+    }
+
+    // The same, if it is known whether there may be a percent sign.
+    #[tactic(auto, using(kob_words::proofs::Escapes::plain_stands))]
+    fn read_part(alloc: Global, escaped: bool, raw: &'a [u8]) -> Result<Word<'a>, LineError>
+        requires { escaped ≡ false → has_percent raw.now ≡ false }
+        ensures { Gives result (word_of raw.now) }
+    {
+        let mut replaced = None;
+        if escaped {
+            let bytes = unescaped(alloc, raw)?.ok_or(LineError::Fault(FaultKind::BadEscape))?;
+            replaced = Some(Box::new(alloc, bytes)?);
         }
-        let bytes = unescaped(alloc, raw)?.ok_or(LineError::Fault(FaultKind::BadEscape))?;
-        Ok(Word {
-            raw,
-            replaced: Some(bytes),
-        })
+        Ok(Word { raw, replaced })
     }
 
     /// The word as it is in the line.
@@ -82,77 +87,69 @@ impl<'a> Word<'a> {
 pub fn words_of(alloc: Global, line: &[u8]) -> Result<Vec<Word<'_>>, LineError>
     ensures { GivesSeen (λ words. words.items) result (words_of line.now) }
 {
-    if is_skipped(line) {
+    let mut rest = behind_blanks(line);
+    if rest.first().copied().unwrap_or(b'#') == b'#' {
         return Ok(Vec::new(alloc));
     }
+    let escaped = may_have_escapes(line);
     // Most lines have no more words.
     let mut words = Vec::with_capacity(alloc, 8)?;
-    for raw in line
-        .split(|byte| is_blank(*byte))
-        .filter(|part| part.len() > 0)
-    {
-        let word = Word::read(alloc, raw)?;
+    while let Some((raw, others)) = first_word(rest) {
+        let word = Word::read_part(alloc, escaped, raw)?;
         words.push(word)?;
+        rest = others;
     }
     Ok(words)
 }
 
-// Whether a line is skipped: by its first byte that is no blank, with which a word begins.
-fn is_skipped(line: &[u8]) -> bool
-    ensures { result ≡ is_skipped line.now }
+// The word at the front of a line, and what is behind it.
+fn first_word(line: &[u8]) -> Option<(&[u8], &[u8])>
+    ensures cut { MatchOption result (raw_words line.entry.now ≡ []) (λ cut.
+        raw_words line.entry.now ≡ cut.0.now ∷ raw_words cut.1.now) }
+    ensures plain { IfSome result (λ cut. has_percent line.entry.now ≡ false
+        → (has_percent cut.0.now ≡ false) × (has_percent cut.1.now ≡ false)) }
+    ensures shrinks { IfSome result (λ cut. length cut.1.now < length line.entry.now) }
 {
-    first_not_blank(line).copied().unwrap_or(b'#') == b'#'
+    let word = behind_blanks(line);
+    let size = size_of_word(word);
+    if size == 0 {
+        return None;
+    }
+    Some(word.split_at(size))
 }
 
-fn first_not_blank(line: &[u8]) -> Option<&u8>
-    ensures { option_copied result ≡ find (λ byte. not (is_blank byte)) line.entry.now }
+fn behind_blanks(line: &[u8]) -> &[u8]
+    ensures words { raw_words result.now ≡ raw_words line.entry.now }
+    ensures first { slice_get result.now 0 ≡ find (λ byte. not (is_blank byte)) line.entry.now }
+    ensures begins { IfSome (slice_get result.now 0) (λ byte. is_blank byte ≡ false) }
+    ensures plain { has_percent line.entry.now ≡ false → has_percent result.now ≡ false }
+    ensures within { length result.now ≤ length line.entry.now }
 {
-    line.iter().find(|byte| !is_blank(**byte))
+    let mut rest = line;
+    while let Some((first, others)) = rest.split_first() {
+        if !is_blank(*first) {
+            return rest;
+        }
+        rest = others;
+    }
+    rest
+}
+
+fn size_of_word(word: &[u8]) -> usize
+    ensures size { result ≡ position_or_len is_blank word.now }
+    ensures within { result ≤ length word.now }
+{
+    let mut size = 0;
+    while size < word.len() && !is_blank(word[size]) {
+        size += 1;
+    }
+    size
 }
 
 fn is_blank(byte: u8) -> bool
     ensures { result ≡ is_blank byte }
 {
     byte == b' ' || byte == b'\t'
-}
-
-/// Whether bytes may have escapes. A word without escapes stands for itself.
-#[tactic(auto, using(crate::proofs::LineWords::nowhere_stands))]
-pub fn may_have_escapes(word: &[u8]) -> bool
-    ensures { MatchBool result ⊤ (unescaped word.now ≡ Some word.now) }
-{
-    word.contains(&b'%')
-}
-
-/// The bytes that a word stands for, unless a percent sign in it begins no escape.
-pub fn unescaped(alloc: Global, word: &[u8]) -> Result<Option<Bytes>, AllocError>
-    ensures { IfOk result (λ read. read ≡ unescaped word.now) }
-{
-    let mut bytes = Vec::new(alloc);
-    let mut rest = word;
-    while let Some((first, others)) = rest.split_first() {
-        match byte_at(*first, others) {
-            Some((byte, after)) => {
-                bytes.push(byte)?;
-                rest = after;
-            }
-            None => return Ok(None),
-        }
-    }
-    Ok(Some(Bytes::from_vec(bytes)))
-}
-
-/// The bytes that a part of a word stands for; the part itself if its escapes are not whole.
-pub fn bytes_of(alloc: Global, part: &[u8]) -> Result<Bytes, AllocError>
-    ensures { IfOk result (λ bytes. bytes ≡ bytes_of part.now) }
-{
-    if !may_have_escapes(part) {
-        return Bytes::copied(alloc, part);
-    }
-    match unescaped(alloc, part)? {
-        Some(bytes) => Ok(bytes),
-        None => Bytes::copied(alloc, part),
-    }
 }
 
 /// What is before and after the first of these bytes in a word.
@@ -162,32 +159,5 @@ pub fn cut_at(byte: u8, word: &[u8]) -> Option<(&[u8], &[u8])>
     match memchr(byte, word) {
         Some(at) => Some((&word[..at], &word[at + 1..])),
         None => None,
-    }
-}
-
-/// The byte at the front of a word, and what comes after it. `None` if a percent sign there begins
-/// no escape.
-fn byte_at(first: u8, others: &[u8]) -> Option<(u8, &[u8])>
-    ensures read { option_map (λ found. (found.0, found.1.now)) result
-        ≡ (if first == 37 then option_map {U = ℕ × List ℕ} (λ byte. (byte, drop 2 others.now))
-        (escaped others.now) else Some (first, others.now)) }
-    ensures shrinks { IfSome result (λ found. length found.1.now ≤ length others.now) }
-{
-    if first != b'%' {
-        return Some((first, others));
-    }
-    match others {
-        [high, low, after @ ..] => Some((hexadecimal(*high, *low)?, after)),
-        _ => None,
-    }
-}
-
-/// The byte that two hexadecimal digits write.
-fn hexadecimal(high: u8, low: u8) -> Option<u8>
-    ensures { result ≡ hexadecimal high low }
-{
-    match (char::from(high).to_digit(16), char::from(low).to_digit(16)) {
-        (Some(high), Some(low)) => Some((16 * high + low) as u8),
-        _ => None,
     }
 }

@@ -1,3 +1,4 @@
 pub mod AsciiText
 pub mod Appending
+pub mod Escapes
 pub mod PlainRuns

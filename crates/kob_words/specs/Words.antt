@@ -1,6 +1,6 @@
--- The words for resources, patterns, operations and permissions; printed texts and bindings.
-use Rattle.std.specs.Prelude.{ℕ, List, [], ◌∷◌, Option, codes, Some, if◌then◌else◌, ◌/◌, ◌%◌, ◌==◌, ◌&&◌, not, Bool, nat_le, flat_map, ◌++◌}
-use Rattle.std.specs.List.{find, prefix_len}
+-- The words for resources, patterns, operations and permissions; printed texts and bindings; escapes.
+use Rattle.std.specs.Prelude.{ℕ, List, [], ◌∷◌, Option, codes, Some, if◌then◌else◌, ◌/◌, ◌%◌, ◌==◌, ◌&&◌, not, Bool, nat_le, flat_map, ◌++◌, ◌≡◌, true, nat_lt, ◌+◌, ◌*◌, zero, suc, is_some, option_map, unwrap_or, None}
+use Rattle.std.specs.List.{find, list_any, prefix_len}
 use Rattle.std.specs.Str.{str_eq_ignore_ascii_case}
 use Rattle.kob_names.specs.declared.kinds.Operation.{Operation}
 use Rattle.kob_names.specs.declared.kinds.Operation.TheVariants.{All, Read, Write, Create, Delete, Alter, Describe, ClusterAction, DescribeConfigs, AlterConfigs, IdempotentWrite}
@@ -11,8 +11,7 @@ use Rattle.kob_names.specs.declared.kinds.PatternKind.{PatternKind}
 use Rattle.kob_names.specs.declared.kinds.PatternKind.TheVariants.{Literal, Prefixed}
 use Rattle.kob_names.specs.declared.kinds.Permission.{Permission}
 use Rattle.kob_names.specs.declared.kinds.Permission.TheVariants.{Allow, Deny}
-use Rattle.std.specs.Option.{option_map}
-use Rattle.std.specs.Char.{digit_char}
+use Rattle.std.specs.Char.{digit_char, digit_value}
 use Rattle.std.specs.Fmt.{decimal}
 use Rattle.kob_names.specs.Binding.{Binding}
 use Rattle.kob_names.specs.declared.filter.FilterPattern.TheVariants as filter
@@ -121,3 +120,45 @@ abbrev pub binding_text : ℕ → Binding → List ℕ
 binding_text serial binding =
     codes "binding " ++ decimal serial ++ codes " " ++ grant_text binding ++ codes " "
     ++ target_text binding
+
+-- How escapes are read: `%` and two hexadecimal digits stand for one byte.
+
+-- the byte that two hexadecimal digits write
+abbrev pub hexadecimal : ℕ → ℕ → Option ℕ
+hexadecimal high low =
+    if nat_lt (digit_value high) 16 && nat_lt (digit_value low) 16
+    then Some (16 * digit_value high + digit_value low) else None
+
+-- the byte that stands after a percent sign; nothing unless two digits follow
+abbrev pub escaped : List ℕ → Option ℕ
+escaped (high ∷ low ∷ others) = hexadecimal high low
+escaped _ = None
+
+-- a byte before others
+abbrev pub before : Option ℕ → Option (List ℕ) → Option (List ℕ)
+before None others = None
+before (Some byte) others = option_map (λ bytes. byte ∷ bytes) others
+
+-- Bytes without a percent sign stand for themselves.
+abbrev pub has_percent : List ℕ → Bool
+has_percent bytes = list_any (λ byte. byte == 37) bytes
+
+-- what a word stands for after this number of bytes; nothing if it has a `%` without two digits
+unfoldable pub unescaped_from : ℕ → List ℕ → Option (List ℕ)
+unescaped_from n [] = Some []
+unescaped_from zero (byte ∷ rest) =
+    if byte == 37 then before (escaped rest) (unescaped_from 2 rest)
+    else before (Some byte) (unescaped_from 0 rest)
+unescaped_from (suc n) (byte ∷ rest) = unescaped_from n rest
+
+abbrev pub unescaped : List ℕ → Option (List ℕ)
+unescaped word = unescaped_from 0 word
+
+-- the bytes that a part of a word stands for; the part itself if its escapes are not whole
+abbrev pub bytes_of : List ℕ → List ℕ
+bytes_of part = unwrap_or (unescaped part) part
+
+-- parts around this byte have whole escapes if the bytes have, so that each is read as it stands
+abbrev pub LeavesWhole : ℕ → Type 0
+LeavesWhole byte = (front back : List ℕ) → is_some (unescaped (front ++ byte ∷ back)) ≡ true
+    → (is_some (unescaped front) ≡ true) × (is_some (unescaped back) ≡ true)

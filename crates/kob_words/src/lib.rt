@@ -1,6 +1,9 @@
-//! The words for the parts of bindings, and how bindings, bytes and numbers are printed.
+//! The words for the parts of bindings, how bindings, bytes and numbers are printed, and how bytes
+//! are read.
 #![tactic(auto)]
 
+mod escape;
+mod laws;
 mod operation;
 mod pattern;
 mod permission;
@@ -8,6 +11,8 @@ mod printed_binding;
 mod printed_text;
 mod resource;
 
+pub use escape::{bytes_of, may_have_escapes, unescaped};
+pub use laws::cuts_leave_whole_escapes;
 pub use operation::{operation_name, operation_named};
 pub use pattern::{filter_pattern_named, pattern_name, pattern_named};
 pub use permission::{permission_name, permission_named};

@@ -1,5 +1,5 @@
-use Rattle.kob_script.proofs.Imports.{err_from_is_err_and, rules, script_so_far, ◌∙◌}
-use Rattle.kob_script.proofs.CheckedLines.{keeps_one, line_checked, line_fails, unasked_checked, words_fail}
+use Rattle.kob_script.proofs.Imports.{err_from_is_err_and, rules, script_so_far}
+use Rattle.kob_script.proofs.CheckedLines.{line_fails, unasked_checked}
 use Rattle.kob_script.proofs.script.check_line.Goals as goal
 
 pub returns-in_err-words : goal.returns-in_err-words
@@ -9,25 +9,8 @@ returns-in_err-words c = λ events counts.
     (line_fails (script_so_far c.args.checking.now events) c.args.line.now c.args.checking.now c.args.answers.now.items
     c.args.answers.now.items _ c.in_err-words.ensures)
 
-pub returns-in_err-check_words : goal.returns-in_err-check_words
-returns-in_err-check_words c = λ events counts.
-    let p = err_from_is_err_and c.from_residual-in_err-check_words.result c.from_residual-in_err-check_words.ensures.1 in
-    rw (p.1, p.2)
-    (words_fail (script_so_far c.args.checking.now events) c.args.line.now c.check_words-2.new.checking
-    c.args.answers.now.items c.args.answers.now.items c.in_ok-words.words.items c.in_ok-answer.answer _
-    c.in_ok-words.ensures (rw c.deref-2.ensures.value at c.in_ok-answer.ensures)
-    (rw c.deref-3.ensures.value at (c.in_err-check_words.ensures events counts)))
-
-pub returns-then-not-asks_clap : goal.returns-then-not-asks_clap
-returns-then-not-asks_clap c = λ events counts.
-    unasked_checked (script_so_far c.args.checking.now events) c.args.line.now c.check_words.new.checking
-    c.args.answers.now.items c.args.answers.now.items c.check_words.result c.in_ok-words.words.items c.in_ok-words.ensures
-    (search rules) (rw c.deref-then-not-asks_clap.ensures.value at (c.check_words.ensures events counts)) (λ i. c.args.answers.now.items)
-
 pub returns : goal.returns
 returns c = λ events counts.
-    line_checked (script_so_far c.args.checking.now events) c.args.line.now c.check_words-2.new.checking
-    c.args.answers.now.items _ c.in_ok-words.words.items c.in_ok-answer.answer
-    c.in_ok-words.ensures (rw c.deref-2.ensures.value at c.in_ok-answer.ensures)
-    (c.in_ok-push.ensures.items ∙ keeps_one _ c.in_ok-words.words.items c.in_ok-answer.answer (search rules))
-    (rw c.deref-3.ensures.value at (c.in_ok-check_words.ensures events counts))
+    unasked_checked (script_so_far c.args.checking.now events) c.args.line.now c.check_words.new.checking
+    c.args.answers.now.items c.args.answers.now.items c.check_words.result c.in_ok-words.words.items c.in_ok-words.ensures
+    (search rules) (rw c.deref-else-asks_clap.ensures.value at (c.check_words.ensures events counts)) (λ i. c.args.answers.now.items)

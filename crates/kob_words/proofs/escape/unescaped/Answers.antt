@@ -1,6 +1,6 @@
-use Rattle.kob_script.proofs.Imports.{[], drop_of_length-le, rules, ◌≡◌}
-use Rattle.kob_script.proofs.LineWords.{all_read, byte_read, none_before, none_read}
-use Rattle.kob_script.proofs.words.unescaped.Goals as goal
+use Rattle.std.proofs.Common.{[], drop_of_length-le, rules, ◌≡◌}
+use Rattle.kob_words.proofs.Escapes.{all_read, byte_read, none_before, none_read}
+use Rattle.kob_words.proofs.escape.unescaped.Goals as goal
 
 pub loop-first-init : goal.loop-first-init
 loop-first-init c = none_before _ _ c.new-bytes.ensures.items
