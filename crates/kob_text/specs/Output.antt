@@ -99,14 +99,9 @@ replies_to settings events = replies_of plain_meaning events (open_state setting
 -- The text is the output for what was read, by how the run ended: all replies, or those to the
 -- first requests where memory stopped it, or the fault of the script.
 abbrev pub IsOutput : Result Script fault.Fault → Ended → List ℕ → Type 0
-IsOutput (Ok s) Clean text = text ≡ text_of_replies (replies_to s.settings s.events)
-IsOutput (Ok s) Stopped text =
-    (done : ℕ) × (done < length s.events)
-    × (text ≡ text_of_replies (replies_to s.settings (take done s.events)) ++ stopped_text done)
-IsOutput (Ok s) Fault text = ⊥
+IsOutput (Ok s) ended text = IsTextOfRun (replies_to s.settings) s.events ended text
 IsOutput (Err fault) Fault text = text ≡ fault_text fault
-IsOutput (Err fault) Clean text = ⊥
-IsOutput (Err fault) Stopped text = ⊥
+IsOutput (Err fault) _ text = ⊥
 
 -- Some output for what was read has the property.
 abbrev pub HasOutput : Result Script fault.Fault → (List ℕ → Type 0) → Type 0
