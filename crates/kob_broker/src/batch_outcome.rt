@@ -4,9 +4,10 @@ ghost use Rattle.std.specs.Prelude.{◌≡◌, IfOk};
 ghost use Rattle.kob_broker.specs.Records.{prepared_for};
 
 use crate::prepared::{Change, Prepared};
-use kob_names::PlainValue;
+use kob_names::{Batch, Items, PlainValue, Text};
 use kob_rights::{Body, Produce, Reason};
 use std::alloc::{AllocError, Global};
+use std::mem;
 
 /// What becomes of a batch, decided before its request is copied or moved.
 #[derive(Clone, Copy)]
@@ -19,9 +20,10 @@ pub(crate) enum BatchOutcome {
 }
 
 impl BatchOutcome {
-    /// What is prepared, with the request itself.
-    pub(crate) fn with_request(self, produce: Produce) -> Prepared
-        ensures { result ≡ prepared_for produce self }
+    /// What is prepared. The request is moved if its batch is appended; one without a topic or
+    /// records is left.
+    pub(crate) fn with_taken(self, alloc: Global, produce: &mut Produce) -> Prepared
+        ensures { result ≡ prepared_for produce.old self }
     {
         match self {
             BatchOutcome::Refused(reason) => Prepared::refused(reason),
@@ -30,7 +32,8 @@ impl BatchOutcome {
                 Change::Unchanged,
             ),
             BatchOutcome::Appended(offset) => {
-                Prepared::done(Body::Offset(offset), Change::Append(produce))
+                let taken = mem::replace(produce, empty_request(alloc));
+                Prepared::done(Body::Offset(offset), Change::Append(taken))
             }
         }
     }
@@ -49,5 +52,16 @@ impl BatchOutcome {
                 Ok(Prepared::done(Body::Offset(offset), Change::Append(copy)))
             }
         }
+    }
+}
+
+fn empty_request(alloc: Global) -> Produce {
+    Produce {
+        topic: Text::from_string(String::new(alloc)),
+        partition: 0,
+        batch: Batch {
+            idem: None,
+            records: Items::from_vec(Vec::new(alloc)),
+        },
     }
 }

@@ -107,47 +107,44 @@ impl Broker {
         }
     }
 
-    /// The first step for an event by value: as [`prepare`](Broker::prepare), but a batch is moved
-    /// and not copied.
-    pub fn prepare_owned(&mut self, alloc: Global, event: Event) -> Result<Prepared, AllocError>
+    /// The first step for an event that is not served again: as [`prepare`](Broker::prepare), but a
+    /// batch that is appended is moved out of it and not copied.
+    pub fn prepare_taking(
+        &mut self,
+        alloc: Global,
+        event: &mut Event,
+    ) -> Result<Prepared, AllocError>
         ensures state { state_of self.new ≡ state_of self.old }
-        ensures ok { IfOk result (Makes (step retained_meaning (state_of self.new) event) self.new) }
+        ensures ok { IfOk result
+            (Makes (step retained_meaning (state_of self.new) event.old) self.new) }
+        ensures principal { event.new.principal ≡ event.old.principal }
+        ensures host { event.new.host ≡ event.old.host }
+        ensures same { OnErr result (event.new ≡ event.old) }
     {
-        match denial_of(alloc, &self.authorizer, &event) {
-            Ok(None) => self.prepare_effect_owned(alloc, event),
-            Ok(Some(denied)) => {
-                drop(event);
-                Ok(Prepared::new(denied, Change::Unchanged))
-            }
-            Err(error) => {
-                drop(event);
-                Err(error)
-            }
+        match denial_of(alloc, &self.authorizer, event)? {
+            Some(denied) => Ok(Prepared::new(denied, Change::Unchanged)),
+            None => self.prepare_effect_taking(alloc, event),
         }
     }
 
-    /// Decides on the request of an event by value, whose rights are granted.
+    /// Decides on the request of an event whose rights are granted. A batch that is appended is
+    /// moved out of it.
     #[tactic(auto, using(crate::proofs::Decisions::made_for_ok))]
-    fn prepare_effect_owned(&mut self, alloc: Global, event: Event) -> Result<Prepared, AllocError>
+    fn prepare_effect_taking(
+        &mut self,
+        alloc: Global,
+        event: &mut Event,
+    ) -> Result<Prepared, AllocError>
         ensures state { state_of self.new ≡ state_of self.old }
-        ensures ok { IfOk result
-            (Makes (effect retained_meaning (state_of self.new) event event.request) self.new) }
+        ensures ok { IfOk result (Makes
+            (effect retained_meaning (state_of self.new) event.old event.old.request) self.new) }
+        ensures principal { event.new.principal ≡ event.old.principal }
+        ensures host { event.new.host ≡ event.old.host }
+        ensures same { OnErr result (event.new ≡ event.old) }
     {
-        let Event {
-            principal,
-            host,
-            request,
-        } = event;
-        match request {
-            Request::Produce(asked) => self.prepare_produce_owned(asked),
-            request => {
-                let event = Event {
-                    principal,
-                    host,
-                    request,
-                };
-                self.prepare_effect(alloc, &event)
-            }
+        match &mut event.request {
+            Request::Produce(asked) => self.prepare_produce_taking(alloc, asked),
+            _ => self.prepare_effect(alloc, event),
         }
     }
 
@@ -203,16 +200,19 @@ impl Broker {
         Ok(self.commit(prepared))
     }
 
-    /// Serves one event by value: as [`serve`](Broker::serve), but the batch of a PRODUCE is moved
-    /// into the log and not copied.
-    pub fn serve_owned(&mut self, alloc: Global, event: Event) -> Result<Reply, AllocError>
+    /// Serves one event that is not served again: as [`serve`](Broker::serve), but the batch of a
+    /// PRODUCE is moved out of it into the log and not copied.
+    pub fn serve_taking(&mut self, alloc: Global, event: &mut Event) -> Result<Reply, AllocError>
         ensures reply { IfOk result (λ reply. reply
-            ≡ (step retained_meaning (state_of self.old) event).reply) }
+            ≡ (step retained_meaning (state_of self.old) event.old).reply) }
         ensures state { OnOk result (state_of self.new
-            ≡ (step retained_meaning (state_of self.old) event).state) }
+            ≡ (step retained_meaning (state_of self.old) event.old).state) }
         ensures kept { OnErr result (state_of self.new ≡ state_of self.old) }
+        ensures principal { event.new.principal ≡ event.old.principal }
+        ensures host { event.new.host ≡ event.old.host }
+        ensures same { OnErr result (event.new ≡ event.old) }
     {
-        let prepared = self.prepare_owned(alloc, event)?;
+        let prepared = self.prepare_taking(alloc, event)?;
         Ok(self.commit(prepared))
     }
 

@@ -1,6 +1,6 @@
 //! A batch appended to a partition, and the ids of producers.
 
-ghost use Rattle.std.specs.Prelude.{◌≡◌, IfOk, Some};
+ghost use Rattle.std.specs.Prelude.{◌≡◌, IfOk, OnErr, Some};
 ghost use Rattle.kob_broker.specs.Step.{MakesFor, state_of};
 ghost use Rattle.kob_broker.specs.Records.{IsBatchOutcome, outcome_told, prepared_for};
 ghost use Rattle.kob_broker.specs.Records.{batch_reasons, is_bad_sequence, is_unknown_producer};
@@ -31,18 +31,18 @@ impl Broker {
         outcome.with_copy(alloc, produce)
     }
 
-    /// The same for a request by value.
-    pub(crate) fn prepare_produce_owned(&mut self, produce: Produce) -> Result<Prepared, AllocError>
+    /// The same, but a batch that is appended is moved out of the request.
+    pub(crate) fn prepare_produce_taking(
+        &mut self,
+        alloc: Global,
+        produce: &mut Produce,
+    ) -> Result<Prepared, AllocError>
         ensures state { state_of self.new ≡ state_of self.old }
-        ensures ok { IfOk result (MakesFor (requests.Produce produce) self.new) }
+        ensures ok { IfOk result (MakesFor (requests.Produce produce.old) self.new) }
+        ensures same { OnErr result (produce.new ≡ produce.old) }
     {
-        match self.outcome(&produce) {
-            Ok(outcome) => Ok(outcome.with_request(produce)),
-            Err(error) => {
-                drop(produce);
-                Err(error)
-            }
-        }
+        let outcome = self.outcome(produce)?;
+        Ok(outcome.with_taken(alloc, produce))
     }
 
     /// What becomes of the batch. Nothing is copied, and the topic is looked up once.

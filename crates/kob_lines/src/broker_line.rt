@@ -68,8 +68,10 @@ impl<'a> BrokerLine<'a> {
             (state_of self.new.broker.now ≡ state_of self.old.broker.now) }
         ensures fits { IfOk result (λ reply. Fits request reply) }
     {
-        let event = event_of(alloc, &self.principal, &self.host, request)?;
-        let reply = self.broker.serve_owned(alloc, event)?;
+        let mut event = event_of(alloc, &self.principal, &self.host, request)?;
+        let served = self.broker.serve_taking(alloc, &mut event);
+        drop(event);
+        let reply = served?;
         Ok(reply)
     }
 

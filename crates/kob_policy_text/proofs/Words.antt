@@ -9,7 +9,7 @@ pub use Rattle.kob_policy_text.specs.Policy.{FileMakes, IsStopped, Policy, at_fi
 pub use Rattle.kob_policy_text.specs.Questions.{Questions, lines_from, with_line}
 pub use Rattle.kob_policy_text.specs.declared.item.Item.{Item}
 pub use Rattle.kob_policy_text.specs.declared.origin.Origin.{Origin}
-pub use Rattle.kob_script.proofs.Choices.{chosen_false, chosen_true, false_from}
+pub use Rattle.kob_words.proofs.Choices.{chosen_false, chosen_true, false_from}
 pub use Rattle.kob_script.proofs.Each.{each_ends, each_fails, each_fails_map, each_keeps, each_map, with_front}
 pub use Rattle.kob_script.specs.Words.{Fails, GivesSeen, each, ◌>>=◌}
 pub use Rattle.kob_script.specs.Script.{lines_in}

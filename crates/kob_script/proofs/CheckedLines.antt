@@ -1,7 +1,7 @@
 -- The lines of blocks; what a line asks for, and what is left after it; one reading without `acl` lines.
 use Rattle.kob_script.proofs.Imports.{AreWholeLines, Checking, ChecksLine, ChecksNext, CliArgs, Err, Event, Fails, Fault, FaultKind, HasNoAclLine, IfRead, IsAnswerTo, IsAnswerToLine, LineError, List, Memory, None, Ok, Option, ReadsAs, Result, Script, ScriptError, ThenLines, Word, [], answers_after, ap, append-nil, append_assoc, arith, asks_clap, concat, drop, drop-drop, drop_more, empty_script, eqb-true, false, fault_at, get_or, kept_answer, length, length-lines, length-take-le, line_len-bounds, line_words, lines-nil, lines-step, lines_in, lines_in_blocks, lines_of, list_all, map, nat_tests, not, refl, requests_of, result_unwrap_or, script_so_far, slice_index_or, subst, sym, then_lines, true, with_words, without_terminator, words_of, ℕ, ◌++◌, ◌+◌, ◌-◌, ◌<◌, ◌==◌, ◌>>=◌, ◌∙◌, ◌∷◌, ◌≡◌, ◌≤◌, Bool, Some, asking, bytes_eq, codes, if◌then◌else◌, is_setting, is_some, ◌&&◌, Request}
-use Rattle.kob_script.proofs.Choices.{both}
-use Rattle.kob_script.specs.CommandLines.{asked_by, events_of}
+use Rattle.kob_words.proofs.Choices.{both}
+use Rattle.kob_script.specs.CommandLines.{AreRead, asked_by, events_of}
 use Rattle.kob_script.specs.Script.{requests_in, with_events, with_line, lines_from, script_of, LinesFrom}
 use Rattle.kob_script.specs.declared.fault.Fault as fault
 use Rattle.kob_script.specs.declared.fault.ScriptError.TheVariants as script_error
@@ -94,13 +94,14 @@ nothing_at_zero (x ∷ more) count counts zero = grind (arith, nat_tests, eqb-tr
 
 -- a line was read that stood at the front
 pub line_read : (text : List ℕ) (lines left later last : List (List ℕ)) (answers kept : List (Option CliArgs))
-    (none events : List Event) → none ≡ [] → lines ≡ text ∷ left → last ≡ later
-    → events ≡ requests_of (slice_index_or answers 0 None) (line_words text)
+    (read : Bool) (event : Option Event) (others : List Event) → lines ≡ text ∷ left → last ≡ later
+    → AreRead read event others (requests_of (slice_index_or answers 0 None) (line_words text))
     → kept ≡ answers_after (line_words text) answers
-    → events ++ requests_in (left ++ last) kept ≡ none ++ requests_in (lines ++ later) answers
+    → AreRead read event (others ++ requests_in (left ++ last) kept) (requests_in (lines ++ later) answers)
 unfolding requests_in
-line_read text lines left later last answers kept none events empty split same is used =
-    rw (empty, split, same, is, used) refl
+line_read text lines left later last answers kept true (Some event) others split same is used = rw (split, same, is, used) refl
+line_read text lines left later last answers kept true None others split same is used = is
+line_read text lines left later last answers kept false event others split same is used = rw (split, same, is, used) refl
 
 -- a line that is no `acl` line is read in one way, as clap's answer tells nothing of it
 line_alike : (answer : Option CliArgs) (s : Script) (line : Result (List Word) FaultKind)

@@ -13,7 +13,7 @@ pub use Rattle.kob_script.specs.declared.command.Place.{Place}
 pub use Rattle.kob_script.specs.declared.command.Place.TheVariants.{One, Texts}
 pub use Rattle.memchr.proofs.lemmas.ValueLemmas.{IsFirstByte-value}
 pub use Rattle.memchr.specs.Find.{IsFirstByte, is_byte}
-pub use Rattle.std.proofs.Common.{Bool, Bor, Err, IsUtf8, List, MatchOption, None, Ok, Option, Result, Some, [], ap, append-nil, append_assoc, arith, bytes_eq, codes, cond, drop, drop-drop, drop_of_length-le, eqb-true, false, find, flat_map, get_or, if◌then◌else◌, inl, inr, is_some, length, length-append, length-drop, length-take-le, ltb-false, ltb-true, map, nat_lt, not, ok_or, option_map, refl, rules, slice_index_or, subst, sym, take, take_all, tests, true, ℕ, ◌&&◌, ◌*◌, ◌++◌, ◌+◌, ◌-◌, ◌<◌, ◌==◌, ◌^◌, ◌∙◌, ◌∷◌, ◌≡◌, ◌≤◌}
+pub use Rattle.std.proofs.Common.{Bool, Bor, Err, IsUtf8, List, MatchOption, None, Ok, Option, Result, Some, [], ap, option_copied, append-nil, append_assoc, arith, bytes_eq, codes, cond, drop, drop-drop, drop_of_length-le, eqb-true, false, find, flat_map, get_or, if◌then◌else◌, inl, inr, is_some, length, length-append, length-drop, length-take-le, ltb-false, ltb-true, map, nat_lt, not, ok_or, option_map, refl, rules, slice_index_or, subst, sym, take, take_all, tests, true, ℕ, ◌&&◌, ◌*◌, ◌++◌, ◌+◌, ◌-◌, ◌<◌, ◌==◌, ◌^◌, ◌∙◌, ◌∷◌, ◌≡◌, ◌≤◌}
 pub use Rattle.std.proofs.lemmas.Bool.Decides.{nat_tests}
 pub use Rattle.std.proofs.lemmas.Grind.{get_or_default_zero}
 pub use Rattle.std.proofs.lemmas.List.{drop_more, length-map, length_push, map-append}

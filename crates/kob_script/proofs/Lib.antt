@@ -1,5 +1,4 @@
 pub mod CheckedLines
-pub mod Choices
 pub mod Each
 pub mod LineFaults
 pub mod LineWords

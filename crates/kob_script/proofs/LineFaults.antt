@@ -2,7 +2,7 @@
 use Rattle.kob_script.proofs.Imports.{AclCommand, BadLine, Bool, CliArgs, Command, CommandFault, Err, Event, Fails, Fault, FaultKind, Finds, GivesSeen, IsAmong, IsFirstFault, LineError, List, Memory, None, Ok, One, Option, Result, Some, Texts, Word, [], acl_commands, acl_request, arith, asking, asks_by_acl, bytes_eq, codes, command_named, counted, earlier, error_of, false, first_kind, ok_or, if◌then◌else◌, inl, inr, length, length-map, line_fault, ltb-false, ltb-true, map, nat_tests, option_map, rank, refl, request_of, result_and, result_err, row, row_fault, true, unless_faults, unless_found, ℕ, ◌>>=◌, ◌∷◌, ◌≡◌, ◌≤◌, IsUtf8, is_utf8-from_IsUtf8, named_principal, principal_fault, get_or}
 use Rattle.kob_script.specs.CommandLines.{asked_by, events_of}
 use Rattle.kob_script.proofs.Imports.{drop, faults_in, sym, row_named, named_host, host_fault, Place}
-use Rattle.kob_script.proofs.Choices.{chosen_false, chosen_true}
+use Rattle.kob_words.proofs.Choices.{chosen_false, chosen_true}
 use Rattle.kob_script.specs.Words.{host_of, principal_of}
 use Rattle.kob_script.specs.declared.command.Slot.TheVariants.{Host, Principal}
 

@@ -1,5 +1,5 @@
 -- The commands: their names, a row of words for each, a line's fault, and what they ask for.
-use Rattle.std.specs.Prelude.{ℕ, List, Option, Result, Ok, codes, if◌then◌else◌, [], ◌∷◌, Some, None, Err, map, Bool, false, find, option_map, bytes_eq, ok_or}
+use Rattle.std.specs.Prelude.{◌≡◌, ℕ, List, Option, Result, Ok, codes, if◌then◌else◌, [], ◌∷◌, Some, None, Err, map, Bool, false, true, find, option_map, bytes_eq, ok_or}
 use Rattle.std.specs.Result.{result_err, result_ok, result_unwrap_or}
 use Rattle.kob_acl_cli.specs.Commands.{commands, faults}
 pub use Rattle.kob_acl_cli.specs.declared.args.CliArgs.{CliArgs}
@@ -53,14 +53,12 @@ command_name CreateAcl = codes "create-acl"
 command_name DescribeAcls = codes "describe-acls"
 command_name DeleteAcls = codes "delete-acls"
 
-abbrev pub commands_by_name : List Command
-commands_by_name =
-    Produce ∷ Fetch ∷ Commit ∷ Committed ∷ CreateTopic ∷ DeleteTopic ∷ Metadata ∷ ListOffsets ∷
-    DeleteRecords ∷ InitProducer ∷ Groups ∷ DeleteGroup ∷ CreateAcl ∷ DescribeAcls ∷ DeleteAcls ∷ []
-
 -- the command of a name, in lower case only
 abbrev pub command_named : List ℕ → Option Command
-command_named word = find (λ command. bytes_eq word (command_name command)) commands_by_name
+command_named word =
+    find (λ command. bytes_eq word (command_name command)) (Produce ∷ Fetch ∷ Commit ∷ Committed
+    ∷ CreateTopic ∷ DeleteTopic ∷ Metadata ∷ ListOffsets ∷ DeleteRecords ∷ InitProducer ∷ Groups
+    ∷ DeleteGroup ∷ CreateAcl ∷ DescribeAcls ∷ DeleteAcls ∷ [])
 
 -- the words of a filter, `-` for ANY
 abbrev pub filter_row : List Place
@@ -268,6 +266,12 @@ asked_by answer (who ∷ from ∷ command ∷ words) =
     else (ok_or (command_named command.decoded) BadLine
     >>= λ named. Ok (request_of named words ∷ [])))
 asked_by answer _ = Err BadLine
+
+-- All that was asked for: the event that was read, if one was, and others behind it.
+abbrev pub AreRead : Bool → Option Event → List Event → List Event → Type 0
+AreRead true (Some event) others all = all ≡ event ∷ others
+AreRead true None others all = ⊥
+AreRead false event others all = all ≡ others
 
 -- a line asks by `acl`
 abbrev pub asks_by_acl : List Word → Bool

@@ -100,15 +100,12 @@ abbrev pub stopped_text : ℕ → List ℕ
 stopped_text done = codes "stopped after " ++ decimal done ++ codes "\n"
 
 -- the names of the kinds, in their order
-abbrev pub kind_names : List (List ℕ)
-kind_names =
-    codes "BadEscape" ∷ codes "LateSetting" ∷ codes "BadLine" ∷ codes "BadText"
+abbrev pub kind_text : FaultKind → List ℕ
+kind_text kind =
+    get_or (codes "BadEscape" ∷ codes "LateSetting" ∷ codes "BadLine" ∷ codes "BadText"
     ∷ codes "BadPrincipal" ∷ codes "BadHost" ∷ codes "BadNumber" ∷ codes "BadWord"
     ∷ codes "Usage" ∷ codes "NoAction" ∷ codes "BadName" ∷ codes "BadMix" ∷ codes "NoResource"
-    ∷ codes "NoPrincipal" ∷ []
-
-abbrev pub kind_text : FaultKind → List ℕ
-kind_text kind = get_or kind_names (rank kind) []
+    ∷ codes "NoPrincipal" ∷ []) (rank kind) []
 
 -- the whole output for a script with a fault
 abbrev pub fault_text : Fault → List ℕ

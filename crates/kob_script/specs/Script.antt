@@ -5,7 +5,7 @@ use Rattle.std.specs.Result.{result_unwrap_or}
 use Rattle.bstr.specs.Text.{lines_of, without_terminator}
 use Rattle.kob_acl_cli.specs.Lines.{IsReadOf, is_taken, refusals, rows_of_line}
 use Rattle.kob_names.specs.declared.settings.Settings.{Settings}
-pub use Rattle.kob_script.specs.CommandLines.{events_of, CliArgs, asked_by, Event}
+pub use Rattle.kob_script.specs.CommandLines.{AreRead, events_of, CliArgs, asked_by, Event}
 use Rattle.kob_script.specs.Words.{◌>>=◌, each, BadLine, LateSetting, FaultKind, named_principal, text_of, Word, words_of}
 use Rattle.kob_script.specs.declared.fault.Fault.{Fault}
 pub use Rattle.kob_script.specs.declared.fault.ScriptError.{ScriptError}

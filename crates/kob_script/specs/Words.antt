@@ -1,15 +1,14 @@
 -- The words of a line, and what they stand for: bytes, texts, names, numbers, parts of a batch.
 -- Words are read up to a fault; of the faults in a line the first kind counts.
-use Rattle.std.specs.Prelude.{◌≡◌, ◌⊎◌, ℕ, List, [], ◌∷◌, Option, Some, None, Result, Ok, Err, nat_lt, if◌then◌else◌, length, ◌+◌, ◌==◌, ◌&&◌, Bool, take, drop, unwrap_or, ◌||◌, filter, find, option_map, not, ◌^◌, codes, bytes_eq, is_none, ok_or}
+use Rattle.std.specs.Prelude.{◌≡◌, ◌⊎◌, ℕ, List, [], ◌∷◌, Option, Some, None, Result, Ok, Err, nat_lt, if◌then◌else◌, length, ◌+◌, ◌==◌, Bool, take, drop, unwrap_or, ◌||◌, filter, find, option_map, not, codes, bytes_eq, is_none, ok_or}
 pub use Rattle.kob_script.specs.declared.fault.FaultKind.TheVariants.{BadEscape, LateSetting, BadLine, BadText, BadPrincipal, BadHost, BadNumber, BadWord, Usage, NoAction, BadName, BadMix, NoResource, NoPrincipal}
 pub use Rattle.kob_script.specs.declared.fault.FaultKind.{FaultKind}
 pub use Rattle.kob_script.specs.declared.fault.LineError.TheVariants.{Memory, Fault}
 pub use Rattle.kob_script.specs.declared.fault.LineError.{LineError}
 use Rattle.memchr.specs.Find.{first_of, is_byte, places}
 use Rattle.std.specs.List.{slice_split}
-use Rattle.std.specs.Str.Parse.{digits_value}
-use Rattle.std.specs.Str.{is_utf8, all_ascii_digits}
-use Rattle.kob_words.specs.Words.{bytes_of, unescaped}
+use Rattle.std.specs.Str.{is_utf8}
+use Rattle.kob_words.specs.Words.{bytes_of, decimal_in, unescaped}
 use Rattle.kob_names.specs.TextRules.{host_fault, principal_fault}
 use Rattle.kob_names.specs.declared.batch.Idem.{Idem}
 use Rattle.kob_names.specs.declared.record.Record.{Record}
@@ -35,14 +34,11 @@ rank BadMix = 11
 rank NoResource = 12
 rank NoPrincipal = 13
 
-abbrev pub earlier_kind : FaultKind → FaultKind → FaultKind
-earlier_kind kind other = if nat_lt (rank other) (rank kind) then other else kind
-
 -- of two faults that whose kind comes first
 abbrev pub earlier : Option FaultKind → Option FaultKind → Option FaultKind
 earlier None other = other
 earlier (Some kind) None = Some kind
-earlier (Some kind) (Some other) = Some (earlier_kind kind other)
+earlier (Some kind) (Some other) = Some (if nat_lt (rank other) (rank kind) then other else kind)
 
 -- the first kind that is among faults
 abbrev pub first_kind : List (Option FaultKind) → Option FaultKind
@@ -149,9 +145,7 @@ named_host word = text_of word >>= host_of
 
 -- one or more decimal digits that write a number of 64 bits
 abbrev pub number_in : List ℕ → Result ℕ FaultKind
-number_in digits =
-    if all_ascii_digits digits && (nat_lt 0 (length digits)
-    && nat_lt (digits_value 10 digits) (2 ^ 64)) then Ok (digits_value 10 digits) else Err BadNumber
+number_in digits = ok_or (decimal_in digits) BadNumber
 
 -- the number that a word writes
 abbrev pub number_of : Word → Result ℕ FaultKind

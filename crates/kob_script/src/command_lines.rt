@@ -1,7 +1,9 @@
 //! What a line asks for: the request of its command, or those of the words after `acl`, which are
 //! the words of `kafka-acls`, one for each of its commands.
 
-ghost use Rattle.std.specs.Prelude.{◌≡◌, [], IfOk, OnOk, OnErr, Ok, Result, option_map, map};
+ghost use Rattle.std.specs.Prelude.{◌≡◌, [], IfOk, MatchResult, OnErr, Ok, Result, option_map, map};
+ghost use Rattle.std.specs.Prelude.{option_copied};
+ghost use Rattle.kob_script.specs.CommandLines.{AreRead};
 ghost use Rattle.kob_rights.specs.declared.request.Request.TheVariants as requests;
 ghost use Rattle.kob_script.specs.CommandLines.{acl_commands, acl_request, asked_by, error_of};
 ghost use Rattle.kob_script.specs.CommandLines.{events_by, events_of, request_of, unless_dash};
@@ -12,7 +14,7 @@ ghost use Rattle.kob_script.specs.declared.fault.FaultKind as kinds;
 
 use crate::command::{Command, command_named};
 use crate::fault::{FaultKind, LineError};
-use crate::faults::{Asker, check_asker, check_line};
+use crate::faults::{check_asker, check_line};
 use crate::script::is_setting;
 use crate::values::{
     before_of, filter_pattern_of, idem_of, known, named_host, named_principal, number_of,
@@ -34,11 +36,11 @@ use std::collections::VecDeque;
 #[tactic(auto, using(crate::proofs::LineFaults::line_counted, crate::proofs::LineFaults::count_fails))]
 pub fn count_of(
     alloc: Global,
-    last: &mut Option<Asker>,
+    last: &mut Option<Event>,
     words: &[Word<'_>],
-    answer: &Option<CliArgs>,
+    answer: Option<&CliArgs>,
 ) -> Result<u64, LineError>
-    ensures { Gives result (counted (events_of answer.now words.now)) }
+    ensures { Gives result (counted (events_of (option_copied answer.entry) words.now)) }
 {
     check_line(alloc, last, words)?;
     match words {
@@ -51,7 +53,6 @@ pub fn count_of(
 }
 
 /// The events of a line's words, in order, by `clap`'s answer to those of `acl`.
-#[tactic(auto, using(crate::proofs::LineFaults::uncounted, crate::proofs::LineFaults::were_asked))]
 pub fn events_of(
     alloc: Global,
     words: &[Word<'_>],
@@ -59,46 +60,73 @@ pub fn events_of(
 ) -> Result<VecDeque<Event>, LineError>
     ensures { GivesSeen (λ events. events.items) result (events_of answer.now words.now) }
 {
-    let mut last = None;
-    count_of(alloc, &mut last, words, answer)?;
+    let mut event = None;
+    let events = read_events(alloc, &mut event, words, answer.as_ref());
+    drop(event);
+    events
+}
+
+#[tactic(auto, using(crate::proofs::LineFaults::uncounted, crate::proofs::LineFaults::were_asked))]
+fn read_events(
+    alloc: Global,
+    event: &mut Option<Event>,
+    words: &[Word<'_>],
+    answer: Option<&CliArgs>,
+) -> Result<VecDeque<Event>, LineError>
+    ensures { GivesSeen (λ events. events.items) result
+        (events_of (option_copied answer.entry) words.now) }
+{
+    count_of(alloc, event, words, answer)?;
     let mut asked = VecDeque::new(alloc);
-    events_in(alloc, &mut last, words, answer, &mut asked).or(Err(LineError::Memory))?;
+    if !read_event(alloc, event, words, answer, &mut asked).or(Err(LineError::Memory))? {
+        return Ok(asked);
+    }
+    asked.push_front(event.take().ok_or(LineError::Memory)?)?;
     Ok(asked)
 }
 
-/// The events of words without a fault, in order, which `asked` is then. The error is out of memory.
+/// Reads the event of words without a fault: `event` is it then, and true is returned. Those of
+/// `acl` are put into `asked`, in order, and false is returned. The principal and the host of the
+/// event before are not parsed again. The error is out of memory.
 #[tactic(auto, unfolding(crate::specs::CommandLines::asked_by))]
-pub fn events_in(
+pub fn read_event(
     alloc: Global,
-    last: &mut Option<Asker>,
+    event: &mut Option<Event>,
     words: &[Word<'_>],
-    answer: &Option<CliArgs>,
+    answer: Option<&CliArgs>,
     asked: &mut VecDeque<Event>,
-) -> Result<(), LineError>
+) -> Result<bool, LineError>
     requires { asked.old.items ≡ [] }
-    ensures asked { OnOk result (asked_by answer.now words.now ≡ Ok asked.new.items) }
-    ensures same { OnErr result (asked.new.items ≡ asked.old.items) }
+    ensures asked { IfOk result (λ read. MatchResult
+        (asked_by (option_copied answer.entry) words.now)
+        (AreRead read event.new asked.new.items) (λ _. ⊥)) }
+    ensures same { OnErr result (asked.new.items ≡ []) }
 {
     let [principal, host, command, arguments @ ..] = words else {
         return Err(LineError::Fault(FaultKind::BadLine));
     };
-    check_asker(alloc, last, principal, host)?;
-    let Some(asker) = last else {
+    check_asker(alloc, event, principal, host)?;
+    let Some(event) = event else {
         return Err(LineError::Memory);
     };
     if command.decoded() == b"acl".as_slice() {
         let commands = acl_commands(alloc, answer)?;
-        *asked = VecDeque::from(events_by(alloc, asker, commands)?);
-        return Ok(());
+        *asked = VecDeque::from(events_by(alloc, event, commands)?);
+        return Ok(false);
     }
     let command = command_named(command.decoded()).ok_or(LineError::Fault(FaultKind::BadLine))?;
     let request = request_of(alloc, command, arguments)?;
-    asked.push_back(Event {
-        principal: asker.principal.copy(alloc)?,
-        host: asker.host.copy(alloc)?,
-        request,
-    })?;
-    Ok(())
+    ask_for(event, request);
+    Ok(true)
+}
+
+// A function of its own, since a proof goes through what is dropped.
+fn ask_for(event: &mut Event, request: Request)
+    ensures principal { event.new.principal ≡ event.old.principal }
+    ensures host { event.new.host ≡ event.old.host }
+    ensures request { event.new.request ≡ request }
+{
+    event.request = request;
 }
 
 /// What `clap` answers to a line's words: the options of `acl`. `None` if it refuses them, if they
@@ -141,8 +169,9 @@ fn after_acl<'w, 'l>(words: &'w [Word<'l>]) -> Option<&'w [Word<'l>]>
 
 /// The commands of `clap`'s answer to the words of a line. The fault is `Usage` for `None`.
 #[tactic(auto, using(crate::proofs::LineFaults::fails_first_of))]
-fn acl_commands(alloc: Global, answer: &Option<CliArgs>) -> Result<Vec<AclCommand>, LineError>
-    ensures { GivesSeen (λ commands. commands.items) result (acl_commands answer.now) }
+fn acl_commands(alloc: Global, answer: Option<&CliArgs>) -> Result<Vec<AclCommand>, LineError>
+    ensures { GivesSeen (λ commands. commands.items) result
+        (acl_commands (option_copied answer.entry)) }
 {
     let Some(args) = answer else {
         return Err(LineError::Fault(FaultKind::Usage));
@@ -166,10 +195,10 @@ fn error_of(fault: &CommandFault) -> LineError
     }
 }
 
-/// The events by which an asker asks for commands, one each.
+/// The events that ask for commands, one each, by the principal and the host of an event.
 fn events_by(
     alloc: Global,
-    asker: &Asker,
+    asker: &Event,
     commands: Vec<AclCommand>,
 ) -> Result<Vec<Event>, AllocError>
     ensures { IfOk result (λ events. events.items

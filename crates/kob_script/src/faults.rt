@@ -4,8 +4,7 @@
 ghost use Rattle.std.specs.Prelude.{◌≡◌, Ok, OnOk, IsTrue, Option, MatchOption};
 ghost use Rattle.std.specs.Result.{result_err};
 ghost use Rattle.kob_script.specs.CommandLines.{line_fault, faults_in, slot_fault};
-ghost use Rattle.kob_script.specs.Words.{Finds, earlier, earlier_kind, first_kind};
-ghost use Rattle.kob_script.specs.Words.{named_host, named_principal};
+ghost use Rattle.kob_script.specs.Words.{Finds, earlier, first_kind, named_host, named_principal};
 ghost use Rattle.kob_script.specs.declared.fault.FaultKind as kinds;
 
 use crate::command::{Place, Slot, row_named};
@@ -16,20 +15,14 @@ use crate::values::{
 };
 use crate::words::Word;
 use kob_names::{Host, Principal};
+use kob_rights::{Event, Request};
 use kob_words::{operation_named, pattern_named, permission_named, resource_named};
 use std::alloc::Global;
 
-/// The principal and the host by which a line asks.
-#[derive(Debug, Drop)]
-pub struct Asker {
-    pub principal: Principal,
-    pub host: Host,
-}
-
-/// Checks the words of a line, of which `last` are the principal and the host that were read last.
+/// Checks the words of a line. `last` is an event by the principal and the host that were read last.
 pub fn check_line(
     alloc: Global,
-    last: &mut Option<Asker>,
+    last: &mut Option<Event>,
     words: &[Word<'_>],
 ) -> Result<(), LineError>
     ensures { Finds result (line_fault words.now) }
@@ -66,28 +59,17 @@ fn check_words(alloc: Global, places: &[Place], words: &[Word<'_>]) -> Result<()
     }
 }
 
+// The variants are in the order of the kinds.
 fn first_error(one: Result<(), LineError>, other: Result<(), LineError>) -> Result<(), LineError>
     ensures { (a b : Option kinds.FaultKind) → Finds one a → Finds other b
         → Finds result (earlier a b) }
 {
     match (one, other) {
+        (Err(LineError::Memory), _) | (_, Err(LineError::Memory)) => Err(LineError::Memory),
         (Ok(()), other) => other,
-        (Err(LineError::Fault(kind)), Ok(())) => Err(LineError::Fault(kind)),
-        (Err(LineError::Fault(kind)), Err(LineError::Fault(other))) => {
-            Err(LineError::Fault(earlier_kind(kind, other)))
-        }
-        _ => Err(LineError::Memory),
-    }
-}
-
-// The variants are in the order of the kinds.
-fn earlier_kind(kind: FaultKind, other: FaultKind) -> FaultKind
-    ensures { result ≡ earlier_kind kind other }
-{
-    if (other as u8) < kind as u8 {
-        other
-    } else {
-        kind
+        (Err(LineError::Fault(kind)), Err(LineError::Fault(other))) if (other as u8) < kind as u8 =>
+            { Err(LineError::Fault(other)) }
+        (one, _) => one,
     }
 }
 
@@ -111,25 +93,25 @@ fn check_slot(alloc: Global, slot: Slot, word: &Word<'_>) -> Result<(), LineErro
     }
 }
 
-/// Checks the principal and the host that words name, which `last` are then.
+/// Checks the principal and the host that words name, by which `last` is then.
 #[tactic(auto, using(crate::proofs::LineFaults::keeps_fault))]
 pub fn check_asker(
     alloc: Global,
-    last: &mut Option<Asker>,
+    last: &mut Option<Event>,
     principal: &Word<'_>,
     host: &Word<'_>,
 ) -> Result<(), LineError>
     ensures fault { Finds result (earlier (result_err (named_principal principal.now))
         (result_err (named_host host.now))) }
-    ensures kept { OnOk result (MatchOption last.new ⊥ (λ asker.
-        (named_principal principal.now ≡ Ok asker.principal)
-        × (named_host host.now ≡ Ok asker.host))) }
+    ensures kept { OnOk result (MatchOption last.new ⊥ (λ event.
+        (named_principal principal.now ≡ Ok event.principal)
+        × (named_host host.now ≡ Ok event.host))) }
 {
     match last {
-        Some(asker) if is_named(asker, principal, host) => Ok(()),
+        Some(event) if is_named(event, principal, host) => Ok(()),
         _ => match (named_principal(alloc, principal), named_host(alloc, host)) {
             (Ok(principal), Ok(host)) => {
-                *last = Some(Asker { principal, host });
+                set_asker(last, principal, host);
                 Ok(())
             }
             // One of them has a fault.
@@ -140,10 +122,21 @@ pub fn check_asker(
     }
 }
 
-fn is_named(asker: &Asker, principal: &Word<'_>, host: &Word<'_>) -> bool
-    ensures { IsTrue result → (named_principal principal.now ≡ Ok asker.now.principal)
-        × (named_host host.now ≡ Ok asker.now.host) }
+// A function of its own, since a proof goes through what is dropped.
+fn set_asker(last: &mut Option<Event>, principal: Principal, host: Host)
+    ensures { MatchOption last.new ⊥ (λ event. (event.principal ≡ principal) × (event.host ≡ host)) }
 {
-    principal.decoded() == asker.principal.as_str().as_bytes()
-        && host.decoded() == asker.host.as_str().as_bytes()
+    *last = Some(Event {
+        principal,
+        host,
+        request: Request::ListGroups,
+    });
+}
+
+fn is_named(event: &Event, principal: &Word<'_>, host: &Word<'_>) -> bool
+    ensures { IsTrue result → (named_principal principal.now ≡ Ok event.now.principal)
+        × (named_host host.now ≡ Ok event.now.host) }
+{
+    principal.decoded() == event.principal.as_str().as_bytes()
+        && host.decoded() == event.host.as_str().as_bytes()
 }

@@ -3,8 +3,7 @@
 ghost use Rattle.std.specs.Prelude.{◌≡◌, ◌≤◌, ◌<◌, ◌+◌, ◌++◌, ◌∷◌, [], drop, length, None};
 ghost use Rattle.std.specs.Prelude.{IfOk, OnOk, OnErr, MatchOption, slice_index_or};
 
-use crate::command_lines::{asks_clap, events_in};
-use crate::faults::Asker;
+use crate::command_lines::{asks_clap, read_event};
 use crate::script::is_setting;
 use crate::words::{Word, words_of};
 use bstr::ByteSlice;
@@ -22,11 +21,9 @@ use std::marker::Model;
 pub struct Requests {
     blocks: Blocks,
     answers: VecDeque<Option<CliArgs>>,
-    /// What the line read last asks for.
+    /// What the `acl` line read last asks for.
     asked: VecDeque<Event>,
     left: u64,
-    /// The principal and the host that were read last.
-    last: Option<Asker>,
 }
 
 impl Model for Requests {
@@ -41,7 +38,7 @@ impl Model for Requests {
 }
 
 impl Requests {
-    ghost use Rattle.kob_script.specs.Script.{answers_after, line_words, lines_in_blocks};
+    ghost use Rattle.kob_script.specs.Script.{AreRead, answers_after, line_words, lines_in_blocks};
     ghost use Rattle.kob_script.specs.Script.{lines_left, requests_in, requests_of, steps_left};
 
     /// What the lines of blocks ask for, by the answers to those of `acl`, and the number of these
@@ -60,7 +57,6 @@ impl Requests {
             answers: VecDeque::from(answers),
             asked: VecDeque::new(alloc),
             left: count,
-            last: None,
         }
     }
 
@@ -71,95 +67,111 @@ impl Requests {
         self.left
     }
 
-    /// The event of the next request; there has to be one. A block is freed when a request after it
-    /// is read. The error is out of memory; the same requests are then left.
-    pub fn next_event(&mut self, alloc: Global) -> Result<Event, AllocError>
+    /// Reads the next request, of which there has to be one: `next` is its event then. The principal
+    /// and the host of the event that it was before are not parsed again. A block is freed when a
+    /// request after it is read. The error is out of memory; the same requests are then left.
+    pub fn next_event(&mut self, alloc: Global, next: &mut Option<Event>) -> Result<(), AllocError>
         requires { 0 < length self.old }
-        ensures next { IfOk result (λ event. self.old ≡ event ∷ self.new) }
+        ensures next { OnOk result
+            (MatchOption next.new ⊥ (λ event. self.old ≡ event ∷ self.new)) }
         ensures same { OnErr result (self.new ≡ self.old) }
     {
-        while self.asked.is_empty() {
-            Requests::read_on(
+        loop {
+            if let Some(event) = self.asked.pop_front() {
+                *next = Some(event);
+                break;
+            }
+            if Requests::read_on(
                 alloc,
-                &mut self.last,
+                next,
                 &mut self.blocks,
                 &mut self.answers,
                 &mut self.asked,
-            )?;
+            )? {
+                break;
+            }
         }
         self.left -= 1;
-        Ok(self.asked.pop_front().unwrap())
+        Ok(())
     }
 
-    // Reads a line and what it asks for, or moves to the next block.
+    // Reads a line and the event that it asks for, or moves to the next block.
     fn read_on(
         alloc: Global,
-        last: &mut Option<Asker>,
+        next: &mut Option<Event>,
         blocks: &mut Blocks,
         answers: &mut VecDeque<Option<CliArgs>>,
         asked: &mut VecDeque<Event>,
-    ) -> Result<(), AllocError>
+    ) -> Result<bool, AllocError>
         requires some { 0 < steps_left blocks.old }
         requires none { asked.old.items ≡ [] }
-        ensures same { asked.new.items ++ requests_in (lines_left blocks.new) answers.new.items
-            ≡ asked.old.items ++ requests_in (lines_left blocks.old) answers.old.items }
+        ensures read { IfOk result (λ read. AreRead read next.new
+            (asked.new.items ++ requests_in (lines_left blocks.new) answers.new.items)
+            (requests_in (lines_left blocks.old) answers.old.items)) }
         ensures nearer { OnOk result (steps_left blocks.new < steps_left blocks.old) }
+        ensures same { OnErr result (asked.new.items
+            ++ requests_in (lines_left blocks.new) answers.new.items
+            ≡ requests_in (lines_left blocks.old) answers.old.items) }
     {
         let Some((line, size)) = Blocks::first_line(blocks.rest()) else {
             blocks.enter_next();
-            return Ok(());
+            return Ok(false);
         };
-        Requests::read_again(alloc, last, line, answers, asked)?;
+        let read = Requests::read_again(alloc, next, line, answers, asked)?;
         blocks.pass(size);
-        Ok(())
+        Ok(read)
     }
 
     // Reads what a line without a fault asks for. If clap was asked about it, its answer is removed.
     #[inline(always)]
     fn read_again(
         alloc: Global,
-        last: &mut Option<Asker>,
+        next: &mut Option<Event>,
         line: &[u8],
         answers: &mut VecDeque<Option<CliArgs>>,
         asked: &mut VecDeque<Event>,
-    ) -> Result<(), AllocError>
+    ) -> Result<bool, AllocError>
         requires { asked.old.items ≡ [] }
-        ensures asked { OnOk result (asked.new.items
-            ≡ requests_of (slice_index_or answers.old.items 0 None) (line_words line.now)) }
+        ensures asked { IfOk result (λ read. AreRead read next.new asked.new.items
+            (requests_of (slice_index_or answers.old.items 0 None) (line_words line.now))) }
         ensures used { OnOk result (answers.new.items
             ≡ answers_after (line_words line.now) answers.old.items) }
-        ensures same { OnErr result ((asked.new.items ≡ asked.old.items)
+        ensures same { OnErr result ((asked.new.items ≡ [])
             × (answers.new.items ≡ answers.old.items)) }
     {
         let words = words_of(alloc, line).or(Err(AllocError))?;
         if !asks_clap(&words) {
-            return Requests::read_words(alloc, last, &words, answers, asked);
+            return Requests::read_words(alloc, next, &words, answers, asked);
         }
-        Requests::read_words(alloc, last, &words, answers, asked)?;
+        let read = Requests::read_words(alloc, next, &words, answers, asked)?;
         answers.pop_front();
-        Ok(())
+        Ok(read)
     }
 
     // Reads what words ask for, by the first answer.
     #[inline(always)]
     fn read_words(
         alloc: Global,
-        last: &mut Option<Asker>,
+        next: &mut Option<Event>,
         words: &[Word<'_>],
         answers: &VecDeque<Option<CliArgs>>,
         asked: &mut VecDeque<Event>,
-    ) -> Result<(), AllocError>
+    ) -> Result<bool, AllocError>
         requires { asked.old.items ≡ [] }
-        ensures asked { OnOk result (asked.new.items
-            ≡ requests_of (slice_index_or answers.now.items 0 None) words.now) }
-        ensures same { OnErr result (asked.new.items ≡ asked.old.items) }
+        ensures asked { IfOk result (λ read. AreRead read next.new asked.new.items
+            (requests_of (slice_index_or answers.now.items 0 None) words.now)) }
+        ensures same { OnErr result (asked.new.items ≡ []) }
     {
-        let unasked = None;
-        let answer = answers.front().unwrap_or(&unasked);
         match words {
-            [] => Ok(()),
-            [first, ..] if is_setting(first) => Ok(()),
-            _ => events_in(alloc, last, words, answer, asked).or(Err(AllocError)),
+            [] => Ok(false),
+            [first, ..] if is_setting(first) => Ok(false),
+            _ => {
+                let answer = match answers.front() {
+                    Some(answer) => answer.as_ref(),
+                    None => None,
+                };
+                read_event(alloc, next, words, answer, asked).or(Err(AllocError))
+            }
         }
     }
 }

@@ -2,10 +2,9 @@
 //! request is served.
 
 ghost use Rattle.std.specs.List.{concat};
-ghost use Rattle.std.specs.Prelude.{◌≡◌, ◌<◌, ◌^◌, ℕ, List, Ok, length, true, IfOk};
+ghost use Rattle.std.specs.Prelude.{◌≡◌, ◌<◌, ◌^◌, ℕ, List, Ok, length, true, IfOk, option_copied};
 ghost use Rattle.kob_rights.specs.declared.event.Event as event;
-ghost use Rattle.kob_script.specs.Checks.{ChecksLine, ChecksNext, as_read, fault_at};
-ghost use Rattle.kob_script.specs.Checks.{script_so_far};
+ghost use Rattle.kob_script.specs.Checks.{ChecksLine, ChecksNext, as_read, fault_at, script_so_far};
 ghost use Rattle.kob_script.specs.Words.{Gives, words_of};
 ghost use Rattle.kob_script.specs.Script.{AreWholeLines, HasNoAclLine, IfRead, ReadsAs, asks_clap};
 ghost use Rattle.kob_script.specs.Script.{everyone_of, is_setting, is_super, script_of, super_of};
@@ -13,7 +12,6 @@ ghost use Rattle.kob_script.specs.Script.{with_events, with_words};
 
 use crate::command_lines::{answer_to, asks_clap, count_of};
 use crate::fault::{Fault, FaultKind, LineError, ScriptError};
-use crate::faults::Asker;
 use crate::requests::Requests;
 use crate::values::named_principal;
 use crate::words::{Word, words_of};
@@ -55,10 +53,14 @@ fn all_events(alloc: Global, mut requests: Requests) -> Result<Vec<Event>, Alloc
     ensures { IfOk result (λ events. events.items ≡ requests) }
 {
     let mut events = Vec::new(alloc);
+    let mut event = None;
     for _ in 0..requests.len() {
-        let event = requests.next_event(alloc)?;
-        events.push(event)?;
+        requests.next_event(alloc, &mut event)?;
+        if let Some(event) = event.take() {
+            events.push(event)?;
+        }
     }
+    drop(event);
     Ok(events)
 }
 
@@ -68,7 +70,8 @@ struct Checking {
     supers: Vec<Principal>,
     everyone: bool,
     requests: u64,
-    last: Option<Asker>,
+    /// An event by the principal and the host that were read last.
+    last: Option<Event>,
 }
 
 /// Checks a script in blocks of whole lines, with fewer than 2^63 bytes, in time linear in its
@@ -94,25 +97,20 @@ pub fn check_script(alloc: Global, blocks: Vec<Bytes>) -> Result<CheckedScript, 
     for block in blocks.as_slice() {
         for line in block.as_slice().lines() {
             number += 1;
-            match check_line(alloc, &mut checking, &mut answers, line) {
-                Ok(()) => {}
-                Err(error) => return Err(fault_at(error, number)),
+            if let Err(error) = check_line(alloc, &mut checking, &mut answers, line) {
+                drop(checking);
+                return Err(fault_at(error, number));
             }
         }
     }
-    let Checking {
-        supers,
-        everyone,
-        requests,
-        ..
-    } = checking;
+    drop(checking.last);
     Ok(CheckedScript {
         settings: Settings {
-            supers: Items::from_vec(supers),
+            supers: Items::from_vec(checking.supers),
             opening: Items::from_vec(Vec::new(alloc)),
-            everyone,
+            everyone: checking.everyone,
         },
-        requests: Requests::new(alloc, blocks, answers, requests),
+        requests: Requests::new(alloc, blocks, answers, checking.requests),
     })
 }
 
@@ -139,7 +137,7 @@ fn check_line(
     if asks_clap(&words) {
         check_answered(alloc, checking, answers, &words)
     } else {
-        check_words(alloc, checking, &words, &None)
+        check_words(alloc, checking, &words, None)
     }
 }
 
@@ -158,7 +156,7 @@ fn check_answered(
         answers.old.items answers.new.items result }
 {
     let answer = answer_to(alloc, words)?;
-    check_words(alloc, checking, words, &answer)?;
+    check_words(alloc, checking, words, answer.as_ref())?;
     answers.push(answer)?;
     Ok(())
 }
@@ -167,11 +165,11 @@ fn check_words(
     alloc: Global,
     checking: &mut Checking,
     words: &[Word<'_>],
-    answer: &Option<CliArgs>,
+    answer: Option<&CliArgs>,
 ) -> Result<(), LineError>
     ensures { (events : List event.Event) → checking.old.requests ≡ length events
         → ChecksNext checking.new result
-        (with_words answer.now (script_so_far checking.old events) words.now) }
+        (with_words (option_copied answer.entry) (script_so_far checking.old events) words.now) }
 {
     match words {
         [] => Ok(()),

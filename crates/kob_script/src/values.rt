@@ -1,8 +1,7 @@
 //! What words stand for: texts, principals, hosts, numbers, the words of the tables, and those of a
 //! batch.
 
-ghost use Rattle.std.specs.Char.{digit_value, is_ascii_digit};
-ghost use Rattle.std.specs.Prelude.{◌≡◌, ◌≤◌, ◌+◌, ◌*◌, ◌^◌, true, IfOk, MatchOption, map, ok_or};
+ghost use Rattle.std.specs.Prelude.{◌≡◌, IfOk, map, ok_or};
 ghost use Rattle.kob_script.specs.CommandLines.{filter_pattern_of};
 ghost use Rattle.kob_script.specs.Words.{Gives, GivesSeen, each};
 ghost use Rattle.kob_words.specs.Words.{bytes_of};
@@ -18,7 +17,7 @@ use kob_names::{
     Bytes, FilterPattern, Host, HostFault, Idem, Items, Principal, PrincipalFault, Record, Text,
 };
 use kob_rights::{Before, Which};
-use kob_words::{bytes_of, filter_pattern_named, may_have_escapes};
+use kob_words::{bytes_of, decimal_in, filter_pattern_named, may_have_escapes};
 use std::alloc::{AllocError, Global};
 
 /// The text of a word, borrowed from it. Does not allocate.
@@ -96,34 +95,10 @@ pub fn number_of(word: &Word<'_>) -> Result<u64, LineError>
     number_in(word.decoded())
 }
 
-/// The number that bytes write.
-pub fn number_in(digits: &[u8]) -> Result<u64, LineError>
+fn number_in(digits: &[u8]) -> Result<u64, LineError>
     ensures { Gives result (number_in digits.now) }
 {
-    let mut number: u64 = 0;
-    for digit in digits {
-        match with_digit(number, *digit) {
-            Some(longer) => number = longer,
-            None => return Err(LineError::Fault(FaultKind::BadNumber)),
-        }
-    }
-    if digits.is_empty() {
-        return Err(LineError::Fault(FaultKind::BadNumber));
-    }
-    Ok(number)
-}
-
-// A number with a decimal digit more, if it is of 64 bits.
-fn with_digit(number: u64, digit: u8) -> Option<u64>
-    ensures { MatchOption result
-        (is_ascii_digit digit ≡ true → 2 ^ 64 ≤ number * 10 + digit_value digit) (λ longer.
-        (is_ascii_digit digit ≡ true) × (longer ≡ number * 10 + digit_value digit)) }
-{
-    if !digit.is_ascii_digit() {
-        return None;
-    }
-    let tens = number.checked_mul(10)?;
-    tens.checked_add((digit - b'0') as u64)
+    decimal_in(digits).ok_or(LineError::Fault(FaultKind::BadNumber))
 }
 
 /// The start for `-2`, the end for `-1`. The fault is `BadLine`.

@@ -125,14 +125,11 @@ fn behind_blanks(line: &[u8]) -> &[u8]
     ensures plain { has_percent line.entry.now ≡ false → has_percent result.now ≡ false }
     ensures within { length result.now ≤ length line.entry.now }
 {
-    let mut rest = line;
-    while let Some((first, others)) = rest.split_first() {
-        if !is_blank(*first) {
-            return rest;
-        }
-        rest = others;
+    let mut at = 0;
+    while at < line.len() && is_blank(line[at]) {
+        at += 1;
     }
-    rest
+    &line[at..]
 }
 
 fn size_of_word(word: &[u8]) -> usize
@@ -149,7 +146,8 @@ fn size_of_word(word: &[u8]) -> usize
 fn is_blank(byte: u8) -> bool
     ensures { result ≡ is_blank byte }
 {
-    byte == b' ' || byte == b'\t'
+    // Most bytes are greater than a blank.
+    byte <= b' ' && (byte >= b' ' || byte == b'\t')
 }
 
 /// What is before and after the first of these bytes in a word.

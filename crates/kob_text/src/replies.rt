@@ -36,29 +36,31 @@ fn broker_by(alloc: Global, settings: Settings) -> Result<Broker, AllocError>
     }
 }
 
-// Serves an event by value, and prints its reply after its number in place of what `out` held.
+// Serves an event, and prints its reply after its number in place of what `out` held.
 fn print_reply_to(
     alloc: Global,
     broker: &mut Broker,
-    event: Event,
+    event: &mut Event,
     number: u64,
     out: &mut Vec<u8>,
 ) -> Result<(), AllocError>
     ensures text { OnOk result (out.new.items
-        ≡ reply_text number (step retained_meaning (state_of broker.old) event).reply) }
+        ≡ reply_text number (step retained_meaning (state_of broker.old) event.old).reply) }
     ensures state { OnOk result (state_of broker.new
-        ≡ (step retained_meaning (state_of broker.old) event).state) }
+        ≡ (step retained_meaning (state_of broker.old) event.old).state) }
 {
     out.clear();
-    let reply = broker.serve_owned(alloc, event)?;
+    let reply = broker.serve_taking(alloc, event)?;
     print_reply(out, number, &reply)
 }
 
-// Serves the next request, and prints its reply after its number in place of what `out` held.
+// Serves the next request, whose event `next` is then, and prints its reply after its number in place
+// of what `out` held.
 fn print_next(
     alloc: Global,
     broker: &mut Broker,
     requests: &mut Requests,
+    next: &mut Option<Event>,
     number: u64,
     out: &mut Vec<u8>,
 ) -> Result<(), AllocError>
@@ -69,19 +71,23 @@ fn print_next(
         × (state_of broker.new
         ≡ (step retained_meaning (state_of broker.old) event).state)) }
 {
-    let event = requests.next_event(alloc)?;
+    requests.next_event(alloc, next)?;
+    let Some(event) = next else {
+        return Err(AllocError);
+    };
     print_reply_to(alloc, broker, event, number, out)
 }
 
 /// Serves requests and writes the replies as they are made, at most 65,536 bytes or one reply at a
-/// time. Each event is read when it is its turn and moved to the broker. What the broker does not
-/// keep of it is freed before the next. Out of memory ends the run as `Stopped`.
+/// time. Each event is read when it is its turn; a batch is moved to the broker. Out of memory ends
+/// the run as `Stopped`.
 fn write_replies<W: Write>(
     alloc: Global,
     writer: &mut W,
     held: &mut Vec<u8>,
     broker: &mut Broker,
     mut requests: Requests,
+    next: &mut Option<Event>,
 ) -> Result<Ended, WriteFailed>
     requires none { held.old.items ≡ [] }
     requires piece { vec_len held.old ≤ piece_limit }
@@ -93,7 +99,7 @@ fn write_replies<W: Write>(
 {
     let mut text = Vec::new(alloc);
     for done in 0..requests.len() {
-        if print_next(alloc, broker, &mut requests, done + 1, &mut text).is_err() {
+        if print_next(alloc, broker, &mut requests, next, done + 1, &mut text).is_err() {
             write_stopped(writer, held, done)?;
             return Ok(Ended::Stopped);
         }
@@ -120,7 +126,9 @@ fn write_served<W: Write>(
         drop(requests);
         return Err(OutputFault::Memory);
     };
-    let written = write_replies(alloc, writer, held, &mut broker, requests);
+    let mut next = None;
+    let written = write_replies(alloc, writer, held, &mut broker, requests, &mut next);
+    drop(next);
     drop(broker);
     match written {
         Ok(ended) => Ok(ended),

@@ -1,7 +1,8 @@
 -- The words for resources, patterns, operations and permissions; printed texts and bindings; escapes.
-use Rattle.std.specs.Prelude.{ℕ, List, [], ◌∷◌, Option, codes, Some, if◌then◌else◌, ◌/◌, ◌%◌, ◌==◌, ◌&&◌, not, Bool, nat_le, flat_map, ◌++◌, ◌≡◌, true, nat_lt, ◌+◌, ◌*◌, zero, suc, is_some, option_map, unwrap_or, None}
+use Rattle.std.specs.Prelude.{ℕ, List, [], ◌∷◌, Option, codes, Some, if◌then◌else◌, ◌/◌, ◌%◌, ◌==◌, ◌&&◌, not, Bool, nat_le, flat_map, ◌++◌, ◌≡◌, true, nat_lt, ◌+◌, ◌*◌, zero, suc, is_some, option_map, unwrap_or, None, length, decimal, ◌^◌}
 use Rattle.std.specs.List.{find, list_any, prefix_len}
-use Rattle.std.specs.Str.{str_eq_ignore_ascii_case}
+use Rattle.std.specs.Str.{all_ascii_digits, str_eq_ignore_ascii_case}
+use Rattle.std.specs.Str.Parse.{digits_value}
 use Rattle.kob_names.specs.declared.kinds.Operation.{Operation}
 use Rattle.kob_names.specs.declared.kinds.Operation.TheVariants.{All, Read, Write, Create, Delete, Alter, Describe, ClusterAction, DescribeConfigs, AlterConfigs, IdempotentWrite}
 use Rattle.kob_names.specs.declared.kinds.ResourceKind.{ResourceKind}
@@ -12,7 +13,6 @@ use Rattle.kob_names.specs.declared.kinds.PatternKind.TheVariants.{Literal, Pref
 use Rattle.kob_names.specs.declared.kinds.Permission.{Permission}
 use Rattle.kob_names.specs.declared.kinds.Permission.TheVariants.{Allow, Deny}
 use Rattle.std.specs.Char.{digit_char, digit_value}
-use Rattle.std.specs.Fmt.{decimal}
 use Rattle.kob_names.specs.Binding.{Binding}
 use Rattle.kob_names.specs.declared.filter.FilterPattern.TheVariants as filter
 
@@ -162,3 +162,9 @@ bytes_of part = unwrap_or (unescaped part) part
 abbrev pub LeavesWhole : ℕ → Type 0
 LeavesWhole byte = (front back : List ℕ) → is_some (unescaped (front ++ byte ∷ back)) ≡ true
     → (is_some (unescaped front) ≡ true) × (is_some (unescaped back) ≡ true)
+
+-- the number of 64 bits that one or more decimal digits write
+abbrev pub decimal_in : List ℕ → Option ℕ
+decimal_in digits =
+    if all_ascii_digits digits && (nat_lt 0 (length digits)
+    && nat_lt (digits_value 10 digits) (2 ^ 64)) then Some (digits_value 10 digits) else None

@@ -1,9 +1,10 @@
 //! The words for the parts of bindings, how bindings, bytes and numbers are printed, and how bytes
-//! are read.
+//! and numbers are read.
 #![tactic(auto)]
 
 mod escape;
 mod laws;
+mod number;
 mod operation;
 mod pattern;
 mod permission;
@@ -13,6 +14,7 @@ mod resource;
 
 pub use escape::{bytes_of, may_have_escapes, unescaped};
 pub use laws::cuts_leave_whole_escapes;
+pub use number::decimal_in;
 pub use operation::{operation_name, operation_named};
 pub use pattern::{filter_pattern_named, pattern_name, pattern_named};
 pub use permission::{permission_name, permission_named};

@@ -1,4 +1,4 @@
-use Rattle.kob_script.proofs.Imports.{Err, List, [], ap, arith, concat, drop, drop_of_length-le, length, lines_in, lines_in_blocks, refl, subst, sym, ℕ, ◌++◌, ◌+◌, ◌<◌, ◌∙◌, ◌≡◌, ◌≤◌}
+use Rattle.kob_script.proofs.Imports.{Err, List, [], ap, arith, concat, drop, drop_of_length-le, length, lines_in, lines_in_blocks, refl, rules, subst, sym, ℕ, ◌++◌, ◌+◌, ◌<◌, ◌∙◌, ◌≡◌, ◌≤◌}
 use Rattle.kob_script.proofs.CheckedLines.{block_lines, Stands, all_counted, all_read, one_reading, stands_first, stands_next, stops, reads_plain}
 use Rattle.kob_script.proofs.script.check_script.Goals as goal
 
@@ -32,7 +32,7 @@ loop-line-preserved c =
     let later = lines_in_blocks (drop (c.loop-block.block-index + 1) c.args.blocks.items) in
     stands_next _ c.loop-line.checking c.check_line.new.checking c.loop-line.answers.items c.check_line.new.answers.items
     c.loop-line.number _ c.in-Some.line.now (c.next.new.self ++ later) c.loop-line.invariant
-    (ap (λ (lines : List (List ℕ)). lines ++ later) c.in-Some.ensures.steps) c.in-Ok.ensures
+    (ap (λ (lines : List (List ℕ)). lines ++ later) c.in-Some.ensures.steps) (search rules)
 
 pub returns-in-Err-clause-any : goal.returns-in-Err-clause-any
 returns-in-Err-clause-any c =

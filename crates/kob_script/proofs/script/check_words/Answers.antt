@@ -1,4 +1,4 @@
-use Rattle.kob_script.proofs.Imports.{FaultKind, List, Ok, Result, ap, arith, length-append, result_ok, rules, script_so_far, ◌++◌, ◌>>=◌, ◌∙◌}
+use Rattle.kob_script.proofs.Imports.{FaultKind, List, Ok, Result, ap, arith, length-append, option_copied, result_ok, rules, script_so_far, ◌++◌, ◌>>=◌, ◌∙◌}
 use Rattle.kob_rights.specs.declared.event.Event.{Event}
 use Rattle.kob_script.proofs.CheckedLines.{no_setting}
 use Rattle.kob_script.proofs.LineFaults.{were_counted}
@@ -10,7 +10,7 @@ returns-in_ok-checking-in_default c = λ events counts.
     let sum = rw (c.ok_or.ensures.ok_part ∙ ap result_ok c.in_ok-checking-in_default.was) at c.checked_add-requests.ensures in (
       events ++ asked,
       omega (arith, length-append events asked, sum.1, count, counts),
-      no_setting c.args.answer.now _ c.args.words.now c.first-item.result (search rules) c.first-item.is (search rules)
+      no_setting (option_copied c.args.answer) _ c.args.words.now c.first-item.result (search rules) c.first-item.is (search rules)
           ∙ ap (λ (found : Result (List Event) FaultKind).
           found >>= λ more. Ok (script_so_far c.args.checking.now (events ++ more))) is,
     )

@@ -1,5 +1,5 @@
 use Rattle.kob_script.proofs.Imports.{IsUtf8-from_is_utf8, is_utf8, is_utf8-from_IsUtf8, rules, ◌∙◌}
-use Rattle.kob_script.proofs.Choices.{chosen_true, chosen_false, false_from}
+use Rattle.kob_words.proofs.Choices.{chosen_true, chosen_false, false_from}
 use Rattle.kob_script.proofs.values.lent_text_of.Goals as goal
 
 pub returns-in-Ok : goal.returns-in-Ok

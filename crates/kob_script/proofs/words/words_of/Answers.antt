@@ -1,5 +1,5 @@
 use Rattle.kob_script.proofs.Imports.{false, ◌≡◌, Fails, Ok, [], each, is_skipped, subst, sym, ◌∙◌, err_from_is_err_and, raw_words, rules, word_of}
-use Rattle.kob_script.proofs.Choices.{chosen_false}
+use Rattle.kob_words.proofs.Choices.{chosen_false}
 use Rattle.kob_script.proofs.Each.{front_ends, front_fails, front_keeps}
 use Rattle.kob_script.proofs.words.words_of.Goals as goal
 

@@ -1,12 +1,12 @@
--- The line that was read last, and those after it, ask for what was left.
+-- What is left is what was left. No request was read.
 use Rattle.kob_script.proofs.Imports.{length, requests_left, steps_left, ◌≡◌}
 use Rattle.kob_script.proofs.requests.Requests.next_event.Given as goal
 
-abbrev pub invariant-loop-alloc : goal.invariant-loop-alloc
-invariant-loop-alloc l = record {
+abbrev pub invariant-loop-event : goal.invariant-loop-event
+invariant-loop-event l = record {
   count : l.self-inside.left ≡ length (requests_left l.self-inside);
   same : requests_left l.self-inside ≡ l.fn.self;
 }
 
-abbrev pub decreases-loop-alloc : goal.decreases-loop-alloc
-decreases-loop-alloc l = steps_left l.self-inside.blocks
+abbrev pub decreases-loop-event : goal.decreases-loop-event
+decreases-loop-event l = steps_left l.self-inside.blocks

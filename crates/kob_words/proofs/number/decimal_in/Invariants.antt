@@ -1,6 +1,6 @@
-use Rattle.kob_script.proofs.Imports.{drop, ◌<◌, ◌^◌}
-use Rattle.kob_script.proofs.Numbers.{GoesOn}
-use Rattle.kob_script.proofs.values.number_in.Given as goal
+use Rattle.std.proofs.Common.{drop, ◌<◌, ◌^◌}
+use Rattle.kob_words.proofs.Numbers.{GoesOn}
+use Rattle.kob_words.proofs.number.decimal_in.Given as goal
 
 abbrev pub invariant-loop-digit : goal.invariant-loop-digit
 invariant-loop-digit l =
