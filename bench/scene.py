@@ -4,7 +4,7 @@
 Usage: bench/scene.py [STEPS]     (none: 100000)
 
 Half of the steps are of a service, half of a consumer: for each event a record and a tick, then two ticks of the consumer, which
-takes it in and commits. The built kob_scene plays them. The seconds and the last line that it prints are printed; status 1 if it failed.
+takes it in and commits. The built kob plays them. The seconds and the last line that it prints are printed; status 1 if it failed.
 """
 import pathlib
 import resource
@@ -12,7 +12,7 @@ import subprocess
 import sys
 
 TOP = pathlib.Path(__file__).resolve().parent.parent
-PROGRAM = TOP / "crates" / "kob_scene" / "out" / "kob_scene"
+PROGRAM = TOP / "crates" / "kob" / "out" / "kob"
 HEAD = """super User:root
 User:root h create-topic outbox.event.orders 1
 service svc User:root h partitions 1
@@ -34,7 +34,7 @@ def scene(steps):
 def main(words):
     steps = int(words[0]) if words else 100_000
     before = resource.getrusage(resource.RUSAGE_CHILDREN)
-    ran = subprocess.run([PROGRAM], input=scene(steps), capture_output=True, text=True, check=False)
+    ran = subprocess.run([PROGRAM, "play"], input=scene(steps), capture_output=True, text=True, check=False)
     after = resource.getrusage(resource.RUSAGE_CHILDREN)
     seconds = after.ru_utime + after.ru_stime - before.ru_utime - before.ru_stime
     print(f"{steps} steps: {seconds:.1f} seconds of a processor, {after.ru_maxrss // 1024} MiB; {ran.stdout.splitlines()[-1]}")

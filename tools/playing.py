@@ -1,11 +1,20 @@
-"""Plays a program that was built, and compares what it does with what it has to do; tools/policies and tools/scenes use it.
+"""Plays a program that was built, and compares what it does with what it has to do; tools/policies, tools/scenes and tools/mistakes use it.
 
 A case is a folder: `args`, a word a line; `stdin`, `stdout` and `stderr`, each empty where there is none; `status`, 0 where there
 is none; and the files that the program reads.
 """
 import os
+import pathlib
 import resource
 import subprocess
+
+TOP = pathlib.Path(__file__).resolve().parent.parent
+
+
+def builds(name, given=None):
+    """The program as each of two compilers built it, or the file that is given in its place."""
+    made = TOP / "crates" / name / "out" / name
+    return [pathlib.Path(given).resolve()] if given else [made, made.with_name(f"{name}.by-rattle")]
 
 
 def played(program, words, room, stdin=b"", limit=None, close=None):
@@ -34,9 +43,9 @@ def stored(program, folder):
     return played(program, text("args").splitlines(), folder, text("stdin").encode()), wanted
 
 
-def folders(crate):
-    """The cases of a crate."""
-    return sorted(it for it in (crate / "cases").iterdir() if it.is_dir())
+def folders(cases):
+    """The cases in a folder."""
+    return sorted(it for it in cases.iterdir() if it.is_dir())
 
 
 def told(program, name, found, wanted):

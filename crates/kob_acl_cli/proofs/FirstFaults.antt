@@ -1,4 +1,5 @@
 -- The first fault that stands is answered.
+use Rattle.std.specs.Prelude.{alloc_error}
 use Rattle.std.proofs.Common.{◌≡◌, ◌+◌, ◌<◌, ℕ, Bool, true, List, [], ◌∷◌, ◌++◌, length, get_or, take, drop, filter, sym, inr}
 use Rattle.std.proofs.lemmas.List.{take-append-drop, drop_more}
 use Rattle.std.proofs.lemmas.List.Elements.{filter-append}
@@ -8,7 +9,7 @@ use Rattle.kob_acl_cli.specs.declared.args.CliArgs.{CliArgs}
 use Rattle.kob_acl_cli.specs.declared.fault.CommandFault.{CommandFault}
 use Rattle.kob_acl_cli.specs.declared.fault.CommandFault.TheVariants.{Memory}
 
-pub first_or_memory : (faults : List CommandFault) (fault : CommandFault) → fault ≡ Memory → IsFirstFault faults fault
+pub first_or_memory : (faults : List CommandFault) (fault : CommandFault) → fault ≡ Memory alloc_error → IsFirstFault faults fault
 first_or_memory [] fault is = is
 first_or_memory (first ∷ others) fault is = inr is
 

@@ -1,5 +1,5 @@
 -- What the words of a line mean, and what it asks for: its commands, unless a word is misread.
-use Rattle.std.specs.Prelude.{ℕ, List, [], ◌∷◌, filter_map, Option, Some, None, unwrap_or, codes, ◌≡◌, ◌⊎◌, Bool, ◌++◌, map, filter, is_some, is_none, Result, Ok, Err, if◌then◌else◌, flat_map, not, option_map}
+use Rattle.std.specs.Prelude.{alloc_error, ℕ, List, [], ◌∷◌, filter_map, Option, Some, None, unwrap_or, codes, ◌≡◌, ◌⊎◌, Bool, ◌++◌, map, filter, is_some, is_none, Result, Ok, Err, if◌then◌else◌, flat_map, not, option_map}
 use Rattle.kob_names.specs.declared.filter.FilterPattern.{FilterPattern}
 use Rattle.kob_names.specs.declared.kinds.Operation.{Operation}
 use Rattle.kob_names.specs.declared.kinds.Operation.TheVariants.{All, Read, Write, Create, Describe, IdempotentWrite}
@@ -84,8 +84,8 @@ bad_names words = map (λ word. BadName word) words
 
 -- the fault is the first of those that stand, or lack of memory
 abbrev pub IsFirstFault : List CommandFault → CommandFault → Type 0
-IsFirstFault [] fault = fault ≡ Memory
-IsFirstFault (first ∷ others) fault = (fault ≡ first) ⊎ (fault ≡ Memory)
+IsFirstFault [] fault = fault ≡ Memory alloc_error
+IsFirstFault (first ∷ others) fault = (fault ≡ first) ⊎ (fault ≡ Memory alloc_error)
 
 -- The value was read and no word of it was misread, or the fault names the first such word.
 abbrev pub Reads : {A : Type 0} → List (List ℕ) → A → Result A CommandFault → Type 0

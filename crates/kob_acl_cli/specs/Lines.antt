@@ -1,12 +1,21 @@
 -- How clap reads the words of a line.
-use Rattle.std.specs.Prelude.{◌≡◌, ℕ, Bool, true, false, List, [], ◌∷◌, fold, map, codes, unwrap_or, Option, Some, None, ◌++◌, flat_map}
+use Rattle.std.specs.Prelude.{alloc_error, ◌≡◌, ℕ, Bool, true, false, List, [], ◌∷◌, fold, map, codes, unwrap_or, Option, Some, None, ◌++◌, flat_map}
 use Rattle.std.specs.Borrow.{Bor}
 use Rattle.clap.specs.Words.{App, Kinds, Row, Rule, all_of, fault_of, first_of, matches_of, new_app, new_rule, one_of, takes, with_rule}
 use Rattle.clap.specs.declared.builder.action.ArgAction.{ArgAction}
 use Rattle.clap.specs.declared.builder.action.ArgAction.TheVariants.{Append, Set, SetTrue}
+use Rattle.clap.specs.declared.error.kind.ErrorKind.{ErrorKind}
+use Rattle.clap.specs.declared.error.kind.ErrorKind.TheVariants.{OutOfMemory}
+use Rattle.kob_acl_cli.specs.declared.fault.LineFault.{LineFault}
+use Rattle.kob_acl_cli.specs.declared.fault.LineFault.TheVariants.{Memory, Usage}
 use Rattle.kob_acl_cli.specs.declared.args.CliArgs.{CliArgs}
 use Rattle.kob_names.specs.Binding.{Binding}
 use Rattle.kob_words.specs.Words.{binding_text}
+
+-- a line is refused as clap refuses it, of which out of memory is one kind
+abbrev pub line_fault : ErrorKind → LineFault
+line_fault OutOfMemory = Memory alloc_error
+line_fault _ = Usage
 
 -- the texts behind references
 abbrev pub texts : List (Bor (List ℕ)) → List (List ℕ)

@@ -30,10 +30,10 @@ pub fn accesses(
     ensures { IfOk result (λ made. made.items ≡ accesses pattern operations.now args.now) }
 {
     let mut made = Vec::new(alloc);
-    let Ok(()) = push_all(alloc, &mut made, args, pattern, operations) else {
+    if let Err(error) = push_all(alloc, &mut made, args, pattern, operations) {
         drop(made);
-        return Err(AllocError);
-    };
+        return Err(error);
+    }
     Ok(made)
 }
 

@@ -1,6 +1,6 @@
 //! Why a command line is refused.
 
-ghost use Rattle.std.specs.Prelude.{◌≡◌};
+ghost use Rattle.std.specs.Prelude.{◌≡◌, alloc_error};
 ghost use Rattle.kob_acl_cli.specs.declared.fault.CommandFault.TheVariants as command;
 ghost use Rattle.kob_acl_cli.specs.declared.fault.LineFault.TheVariants as line;
 
@@ -14,7 +14,7 @@ pub enum LineFault {
     #[error("unknown or malformed options")]
     Usage,
     #[error("out of memory")]
-    Memory,
+    Memory(AllocError),
 }
 
 /// Why options are not a valid command. The first fault that applies is returned, in the order of
@@ -32,37 +32,29 @@ pub enum CommandFault {
     #[error("a principal is required")]
     NoPrincipal,
     #[error("out of memory")]
-    Memory,
+    Memory(AllocError),
 }
 
 impl From<AllocError> for LineFault {
-    ghost from_gives = { λ _ fault. fault ≡ line.Memory };
+    ghost from_gives = { λ _ fault. fault ≡ line.Memory alloc_error };
 
-    fn from(_error: AllocError) -> LineFault {
-        LineFault::Memory
-    }
-}
-
-impl<T: Drop> From<AllocFailed<T>> for LineFault {
-    ghost from_gives = { λ _ fault. fault ≡ line.Memory };
-
-    fn from(_error: AllocFailed<T>) -> LineFault {
-        LineFault::Memory
+    fn from(error: AllocError) -> LineFault {
+        LineFault::Memory(error)
     }
 }
 
 impl From<AllocError> for CommandFault {
-    ghost from_gives = { λ _ fault. fault ≡ command.Memory };
+    ghost from_gives = { λ _ fault. fault ≡ command.Memory alloc_error };
 
-    fn from(_error: AllocError) -> CommandFault {
-        CommandFault::Memory
+    fn from(error: AllocError) -> CommandFault {
+        CommandFault::Memory(error)
     }
 }
 
 impl<T: Drop> From<AllocFailed<T>> for CommandFault {
-    ghost from_gives = { λ _ fault. fault ≡ command.Memory };
+    ghost from_gives = { λ _ fault. fault ≡ command.Memory alloc_error };
 
-    fn from(_error: AllocFailed<T>) -> CommandFault {
-        CommandFault::Memory
+    fn from(failed: AllocFailed<T>) -> CommandFault {
+        CommandFault::Memory(AllocError::from(failed))
     }
 }

@@ -1,8 +1,9 @@
 //! Reading the words of a command line by `clap`.
 
-ghost use Rattle.std.specs.Prelude.{◌≡◌, ◌++◌, ◌∷◌, [], true, IfOk, IfErr, OnOk};
+ghost use Rattle.std.specs.Prelude.{◌≡◌, ◌++◌, ◌∷◌, [], true, alloc_error, IfOk, IfErr, OnOk};
 ghost use Rattle.clap.specs.Words.{app_of, first_of, found_of, kind_of, rows_of};
-ghost use Rattle.kob_acl_cli.specs.Lines.{IsFlag, IsReadOf, is_taken, line_app, refusals};
+ghost use Rattle.kob_acl_cli.specs.Lines.{IsFlag, IsReadOf, is_taken, line_app, line_fault};
+ghost use Rattle.kob_acl_cli.specs.Lines.{refusals};
 ghost use Rattle.kob_acl_cli.specs.Lines.{rows_of_line, texts, values_of, with_options, with_texts};
 
 use crate::args::CliArgs;
@@ -52,7 +53,7 @@ pub fn read_line<'a>(alloc: Global, words: &'a [&'a str]) -> Result<CliArgs, Lin
     ensures read { IfOk result (λ args. IsReadOf (rows_of_line (texts words.entry.now)) args) }
     ensures taken { IfOk result (λ args. refusals (texts words.entry.now) ≡ []) }
     ensures refused { IfErr result (λ fault.
-        is_taken (texts words.entry.now) ≡ true → fault ≡ LineFault.Memory) }
+        is_taken (texts words.entry.now) ≡ true → fault ≡ LineFault.Memory alloc_error) }
     ensures usage { IfErr result (λ fault.
         fault ≡ LineFault.Usage → refusals (texts words.entry.now) ≡ [] → ⊥) }
 {
@@ -90,12 +91,12 @@ fn with_options<'a>(
     Ok(made)
 }
 
+// The errors of `clap` keep no error of an allocation, so that this one is made of their kind.
 fn fault_of(error: &Error) -> LineFault
-    ensures memory { kind_of error.now ≡ ErrorKind.OutOfMemory → result ≡ LineFault.Memory }
-    ensures usage { result ≡ LineFault.Usage → kind_of error.now ≡ ErrorKind.OutOfMemory → ⊥ }
+    ensures { result ≡ line_fault (kind_of error.now) }
 {
     match error.kind() {
-        ErrorKind::OutOfMemory => LineFault::Memory,
+        ErrorKind::OutOfMemory => LineFault::Memory(AllocError),
         _ => LineFault::Usage,
     }
 }
@@ -122,10 +123,10 @@ fn args_of(alloc: Global, matches: &ArgMatches<'_>) -> Result<CliArgs, AllocErro
         consumer: flag_of(matches, "consumer"),
         idempotent: flag_of(matches, "idempotent"),
     };
-    let Ok(()) = fill_texts(alloc, matches, &mut args) else {
+    if let Err(error) = fill_texts(alloc, matches, &mut args) {
         drop(args);
-        return Err(AllocError);
-    };
+        return Err(error);
+    }
     Ok(args)
 }
 
@@ -182,10 +183,10 @@ fn copies_of(alloc: Global, values: &[&str]) -> Result<Items<Text>, AllocError>
 {
     let mut made = Vec::new(alloc);
     for value in values {
-        let Ok(()) = put_copy(alloc, &mut made, value) else {
+        if let Err(error) = put_copy(alloc, &mut made, value) {
             drop(made);
-            return Err(AllocError);
-        };
+            return Err(error);
+        }
     }
     Ok(Items::from_vec(made))
 }

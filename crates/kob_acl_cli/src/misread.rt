@@ -29,7 +29,7 @@ fn read_principal(alloc: Global, word: &Text) -> Result<Principal, CommandFault>
 {
     match Principal::parse(alloc, word.as_str()) {
         Ok(principal) => Ok(principal),
-        Err(PrincipalFault::Memory) => Err(CommandFault::Memory),
+        Err(PrincipalFault::Memory(error)) => Err(CommandFault::Memory(error)),
         Err(_) => Err(CommandFault::BadName(word.copy(alloc)?)),
     }
 }
@@ -50,7 +50,7 @@ fn read_host(alloc: Global, word: &Text) -> Result<Host, CommandFault>
 {
     match Host::parse(alloc, word.as_str()) {
         Ok(host) => Ok(host),
-        Err(HostFault::Memory) => Err(CommandFault::Memory),
+        Err(HostFault::Memory(error)) => Err(CommandFault::Memory(error)),
         Err(_) => Err(CommandFault::BadName(word.copy(alloc)?)),
     }
 }

@@ -10,7 +10,7 @@ ghost use Rattle.kob_acl_cli.specs.Commands.{or_default, parts};
 use crate::args::CliArgs;
 use crate::fault::CommandFault;
 use crate::misread::{read_hosts, read_operations, read_pattern_type, read_principals};
-use kob_names::{FilterPattern, Host, Items, Operation, Permission, Principal, Text};
+use kob_names::{FilterPattern, Host, HostFault, Items, Operation, Permission, Principal, Text};
 use std::alloc::{AllocError, Global};
 
 /// The principals, on these hosts, that are allowed or denied something.
@@ -92,7 +92,11 @@ fn read_hosts_or_every(alloc: Global, words: &Items<Text>) -> Result<Items<Host>
 fn every_host(alloc: Global) -> Result<Host, AllocError>
     ensures { IfOk result (λ made. made ≡ codes "*") }
 {
-    Host::parse(alloc, "*").map_err(|_| AllocError)
+    match Host::parse(alloc, "*") {
+        Ok(host) => Ok(host),
+        Err(HostFault::Memory(error)) => Err(error),
+        Err(HostFault::Empty | HostFault::TooLong) => unreachable!(),
+    }
 }
 
 /// The operations that the words name, or all if there are none.

@@ -1,6 +1,7 @@
 //! The authorizer: a list of bindings, and the trees that index it.
 
 ghost use Rattle.std.specs.Prelude.{◌≡◌, ◌≢◌, ◌≤◌, IfErr, IfOk, None, OnErr, OnOk, Some, length};
+ghost use Rattle.std.specs.Prelude.{alloc_error};
 ghost use Rattle.kob_authorizer.specs.Decide.{IsRising, fresh_contents};
 ghost use Rattle.kob_authorizer.specs.Creation.{CanCreate, Creates, addition, with_creation};
 ghost use Rattle.kob_authorizer.specs.Decide.{decide, question_of, IsTrueVerdict};
@@ -160,7 +161,7 @@ impl Authorizer {
         ensures everyone { self.new.contents.everyone ≡ self.old.contents.everyone }
         ensures allowed { OnOk result (create_fault
             self.old.contents.entries self.old.contents.next bindings.now ≡ None) }
-        ensures fault { IfErr result (λ fault. fault ≢ CreateFault.Memory
+        ensures fault { IfErr result (λ fault. fault ≢ CreateFault.Memory alloc_error
             → create_fault
             self.old.contents.entries self.old.contents.next bindings.now ≡ Some fault) }
         ensures kept { OnErr result (self.new.contents ≡ self.old.contents) }
@@ -183,7 +184,7 @@ impl Authorizer {
         ensures ready { IfOk result (λ made. CanCreate made self.new) }
         ensures allowed { OnOk result (create_fault
             self.old.contents.entries self.old.contents.next bindings.now ≡ None) }
-        ensures fault { IfErr result (λ fault. fault ≢ CreateFault.Memory
+        ensures fault { IfErr result (λ fault. fault ≢ CreateFault.Memory alloc_error
             → create_fault
             self.old.contents.entries self.old.contents.next bindings.now ≡ Some fault) }
     {

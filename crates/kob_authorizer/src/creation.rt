@@ -1,7 +1,7 @@
 //! A creation of bindings between its first and its second step.
 
 ghost use Rattle.std.specs.Prelude.{◌≡◌, ◌≢◌, ◌+◌, ◌≤◌, ◌++◌, IfErr, IfOk, None, OnOk, Some};
-ghost use Rattle.std.specs.Prelude.{length, map, vec_capacity, vec_len};
+ghost use Rattle.std.specs.Prelude.{alloc_error, length, map, vec_capacity, vec_len};
 ghost use Rattle.kob_authorizer.specs.Decide.{IsRising};
 ghost use Rattle.kob_authorizer.specs.Creation.{Creates, binding_limit, serial_limit, create_fault};
 ghost use Rattle.kob_authorizer.specs.Index.{Indexes, leaf_of, AreRising};
@@ -58,7 +58,7 @@ impl PreparedCreate {
         ensures serials { IfOk result (λ made. next + length made.fresh ≤ serial_limit) }
         ensures numbered { IfOk result
             (λ made. IsRising next made.fresh (next + length made.fresh)) }
-        ensures fault { IfErr result (λ fault. fault ≢ CreateFault.Memory
+        ensures fault { IfErr result (λ fault. fault ≢ CreateFault.Memory alloc_error
             → create_fault entries.now next bindings.now ≡ Some fault) }
     {
         let new = new_bindings(alloc, entries, &index.keys, bindings)?;

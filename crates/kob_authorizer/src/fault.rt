@@ -1,6 +1,6 @@
 //! Why bindings were not created.
 
-use std::alloc::{AllocError, AllocFailed};
+use std::alloc::AllocError;
 use thiserror::Error;
 
 /// Why bindings were not created. The contents of the authorizer are then as before.
@@ -16,27 +16,16 @@ pub enum CreateFault {
     /// Out of memory. The limits may be exceeded as well: the new bindings are copied before they
     /// are counted.
     #[error("out of memory")]
-    Memory,
+    Memory(AllocError),
 }
 
 impl From<AllocError> for CreateFault {
     ghost use Rattle.std.specs.Prelude.{◌≡◌};
     ghost use Rattle.kob_authorizer.specs.declared.fault.CreateFault.TheVariants.{Memory};
 
-    ghost from_gives = { λ _ fault. fault ≡ Memory };
+    ghost from_gives = { λ refused fault. fault ≡ Memory refused };
 
-    fn from(_: AllocError) -> Self {
-        CreateFault::Memory
-    }
-}
-
-impl<T: Drop> From<AllocFailed<T>> for CreateFault {
-    ghost use Rattle.std.specs.Prelude.{◌≡◌};
-    ghost use Rattle.kob_authorizer.specs.declared.fault.CreateFault.TheVariants.{Memory};
-
-    ghost from_gives = { λ _ fault. fault ≡ Memory };
-
-    fn from(_: AllocFailed<T>) -> Self {
-        CreateFault::Memory
+    fn from(refused: AllocError) -> Self {
+        CreateFault::Memory(refused)
     }
 }

@@ -43,10 +43,10 @@ impl Patterns {
     {
         let mut patterns = Patterns::new();
         for entry in entries {
-            let Ok(()) = patterns.add(alloc, entry) else {
+            if let Err(refused) = patterns.add(alloc, entry) {
                 drop(patterns);
-                return Err(AllocError);
-            };
+                return Err(refused);
+            }
         }
         Ok(patterns)
     }

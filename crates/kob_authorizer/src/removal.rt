@@ -89,10 +89,10 @@ fn removals_among(
 {
     let mut removals = Vec::new(alloc);
     for entry in taken {
-        let Ok(()) = put_removal(alloc, &mut removals, patterns, entry) else {
+        if let Err(refused) = put_removal(alloc, &mut removals, patterns, entry) {
             drop(removals);
-            return Err(AllocError);
-        };
+            return Err(refused);
+        }
     }
     Ok(removals)
 }

@@ -1,6 +1,11 @@
 -- A denial is the same wherever the bindings in force and the super users are.
 use Rattle.kob_broker.proofs.Words.{AgreeOnAccess, Check, Code, Contents, Denied, Event, List, Meaning, Option, Reply, SameDenial, State, Verdict, [], ap, arith, denial_naming, denial_of, first_unmet, nat_tests, option_map, refl, rights, step, step_by, sym, ℕ, ◌+◌, ◌∙◌, ◌∷◌, ◌≡◌, Bool, EachBlamed, EachGranted, EachJust, HoldsInForce, IsBlame, IsDenial, IsJust, IsRising, None, Settings, Some, SomeGranted, Write, access_after, added_rises, after_write, changed_access, cond, denial_code, false, is_granted, is_met, map, named, open_state, or_cases, or_parts, question, removed_rises, slice_get, state_after, subst, suc, take, true, true_verdict, verdict, write_of, zero, AreThose, EachLists, IsTrue, Lists, ListsGroups, ListsTopics, StandsIn, Topic, describes_cluster, describes_group, describes_topic, filter, group_names, groups_shown, in_force_at, inl, inr, listed, listed_where, ◌↔◌, ◌⊎◌}
 use Rattle.kob_broker.proofs.Steps.{step_fits, reply_at, state_keeps}
+use Rattle.kob_broker.specs.Justice.{HasCodes, denial_codes}
+use Rattle.kob_broker.specs.State.{Request}
+use Rattle.kob_rights.specs.Table.{code_on_last}
+use Rattle.kob_rights.specs.declared.code.Code.TheVariants.{TopicAuthorizationFailed}
+use Rattle.std.specs.Prelude.{slice_index_or}
 
 -- no decision reads the serial that comes next
 unmet_alike : (access : Contents) (next : ℕ) (event : Event) (n : ℕ) (clauses : List (List Check))
@@ -215,3 +220,19 @@ module _ {P : Type 0} (m : Meaning P) where
       subst (Both (in_force_at m events s k)) (reply_at m events s k event reply at told)
       (subst (λ (a : Contents). Both a (step m now event).reply) (run_access m events s k)
       (lists_topics now event, lists_groups now event))
+
+-- What code a denial has.
+
+codes_by_rows : (request : Request) → denial_codes request ≡ map (code_on_last TopicAuthorizationFailed) (rights request)
+codes_by_rows request = grind (arith, nat_tests)
+
+code_of_clause : (clauses : List (List Check)) (place : ℕ)
+    → slice_get (map (code_on_last TopicAuthorizationFailed) clauses) place
+    ≡ option_map (λ _. code_on_last TopicAuthorizationFailed (slice_index_or clauses place [])) (slice_get clauses place)
+code_of_clause [] place = grind (arith, nat_tests)
+code_of_clause (clause ∷ clauses) zero = refl
+code_of_clause (clause ∷ clauses) (suc place) = grind (arith, nat_tests, code_of_clause clauses place)
+
+pub codes_by_request : (request : Request) → HasCodes request (denial_codes request)
+codes_by_request request place =
+    ap (λ codes. slice_get codes place) (codes_by_rows request) ∙ code_of_clause (rights request) place

@@ -7,8 +7,6 @@ pub use Rattle.kob_names.specs.declared.draft.Draft.{Draft}
 use Rattle.kob_rights.specs.declared.on_acls.CreateAcls.{CreateAcls}
 use Rattle.kob_rights.specs.declared.reason.Reason.TheVariants as reasons
 use Rattle.kob_broker.specs.State.{Contents, Reason, addition, create_fault, is_bad_cluster, name_limit}
-use Rattle.kob_broker.specs.declared.on_acls.DraftFault.{DraftFault}
-use Rattle.kob_broker.specs.declared.on_acls.DraftFault.TheVariants.{Refused}
 
 -- what may be wrong with a draft
 abbrev pub draft_reasons : Draft → List (Bool × Reason)
@@ -23,7 +21,7 @@ abbrev pub limit_reasons : Option CreateFault → List (Bool × Reason)
 limit_reasons None = []
 limit_reasons (Some limits.TooMany) = (true, reasons.TooManyBindings) ∷ []
 limit_reasons (Some limits.SerialsSpent) = (true, reasons.SerialsSpent) ∷ []
-limit_reasons (Some limits.Memory) = []
+limit_reasons (Some (limits.Memory refused)) = []
 
 abbrev pub create_acls_reasons : Contents → CreateAcls → List (Bool × Reason)
 create_acls_reasons access create =
@@ -33,7 +31,3 @@ create_acls_reasons access create =
 -- the serials of the bindings, in the order of the drafts
 abbrev pub created_serials : Contents → CreateAcls → List ℕ
 created_serials access create = (addition access.entries access.next create.drafts).serials
-
--- a fault that is no lack of memory is the reason
-abbrev pub IsUnlessRefused : Option Reason → DraftFault → Type 0
-IsUnlessRefused against fault = (reason : Reason) → fault ≡ Refused reason → against ≡ Some reason

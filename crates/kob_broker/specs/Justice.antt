@@ -2,6 +2,10 @@
 use Rattle.std.specs.Prelude.{◌≡◌, ◌↔◌, ◌⊎◌, ◌+◌, ℕ, Bool, true, false, IsTrue, List, [], ◌∷◌, Option, Some, None, length, map, slice_get, take}
 use Rattle.std.specs.List.{AllByRecursion, AllZip}
 pub use Rattle.kob_rights.specs.declared.code.Code.{Code}
+use Rattle.kob_rights.specs.declared.code.Code.TheVariants.{ClusterAuthorizationFailed, GroupAuthorizationFailed, TopicAuthorizationFailed}
+use Rattle.kob_names.specs.declared.batch.Idem.{Idem}
+use Rattle.kob_rights.specs.declared.request.Request.TheVariants as requests
+use Rattle.std.specs.Option.{option_map}
 use Rattle.kob_rights.specs.declared.reason.Reason.TheVariants.{OffsetsSpent, ProducerIdsSpent, SerialsSpent}
 use Rattle.kob_rights.specs.declared.reply.Body.TheVariants.{Groups, Topics}
 use Rattle.kob_rights.specs.declared.request.Request.TheVariants.{ListGroups}
@@ -19,7 +23,8 @@ changed_access _ access = access
 -- they are changed by what was done, and by nothing else
 abbrev pub access_after : Reply → Request → Contents → Contents
 access_after (Done body) request access = changed_access (write_of request) access
-access_after reply request access = access
+access_after (Denied code verdicts) request access = access
+access_after (Refused code reason) request access = access
 
 -- the bindings in force after events with these replies
 abbrev pub in_force : List Event → List Reply → Contents → Contents
@@ -72,6 +77,40 @@ pub record IsDenial (access : Contents) (event : Event) (code : Code)
   pub before : EachGranted access event (take place (rights event.request))
   pub code_is : code ≡ denial_code event.request place
   pub blamed : EachBlamed access event clause verdicts
+
+-- the codes of denials by the clauses of each request, in their order
+abbrev pub produce_codes : Option Idem → List Code
+produce_codes None = TopicAuthorizationFailed ∷ []
+produce_codes (Some idem) = ClusterAuthorizationFailed ∷ TopicAuthorizationFailed ∷ []
+
+abbrev pub metadata_codes : Option (List ℕ) → List Code
+metadata_codes None = []
+metadata_codes (Some topic) = TopicAuthorizationFailed ∷ []
+
+abbrev pub denial_codes : Request → List Code
+denial_codes (requests.Produce produce) = produce_codes produce.batch.idem
+denial_codes (requests.Fetch fetch) = TopicAuthorizationFailed ∷ []
+denial_codes (requests.ListOffsets asked) = TopicAuthorizationFailed ∷ []
+denial_codes (requests.Metadata asked) = metadata_codes asked.topic
+denial_codes (requests.OffsetCommit commit) =
+    GroupAuthorizationFailed ∷ TopicAuthorizationFailed ∷ []
+denial_codes (requests.OffsetFetch asked) =
+    GroupAuthorizationFailed ∷ TopicAuthorizationFailed ∷ []
+denial_codes requests.ListGroups = []
+denial_codes (requests.DeleteGroups delete) = GroupAuthorizationFailed ∷ []
+denial_codes (requests.CreateTopics create) = TopicAuthorizationFailed ∷ []
+denial_codes (requests.DeleteTopics delete) = TopicAuthorizationFailed ∷ []
+denial_codes (requests.DeleteRecords delete) = TopicAuthorizationFailed ∷ []
+denial_codes requests.InitProducerId = ClusterAuthorizationFailed ∷ []
+denial_codes (requests.DescribeAcls asked) = ClusterAuthorizationFailed ∷ []
+denial_codes (requests.CreateAcls create) = ClusterAuthorizationFailed ∷ []
+denial_codes (requests.DeleteAcls delete) = ClusterAuthorizationFailed ∷ []
+
+-- a denial by the clause at a place, if the request has one there, has this code
+abbrev pub HasCodes : Request → List Code → Type 0
+HasCodes request codes = (place : ℕ)
+    → slice_get codes place
+    ≡ option_map (λ _. denial_code request place) (slice_get (rights request) place)
 
 -- a request is denied for a clause that isn't granted, and served only where each clause is
 abbrev pub IsJust : Contents → Event → Reply → Type 0
@@ -173,4 +212,5 @@ is_spent _ = false
 -- the reply doesn't say that a limit is spent
 abbrev pub SaysNothingSpent : Reply → Type 0
 SaysNothingSpent (Refused code reason) = is_spent reason ≡ false
-SaysNothingSpent reply = Unit {0}
+SaysNothingSpent (Denied code verdicts) = Unit {0}
+SaysNothingSpent (Done body) = Unit {0}

@@ -1,7 +1,7 @@
 -- What a broker does: one event is one step; what a prepared change does, and when it can be made.
 use Rattle.std.specs.Prelude.{◌≡◌, ◌<◌, ◌≤◌, ◌+◌, ◌++◌, true, [], ◌∷◌, ℕ, Bool, List, Option, Some, None}
 use Rattle.kob_groups.specs.Kept.{groups_of}
-use Rattle.kob_broker.specs.Records.{producer_limit, code_of, delete_records_after, delete_records_reasons, fetch_reasons, fetched_at, init_producer_reasons, judged_at, offset_at, offset_told, produce_after, produce_reasons, start_after}
+use Rattle.kob_broker.specs.Records.{producer_limit, code_of, delete_records_after, delete_records_reasons, fetch_reasons, fetched_at, init_producer_reasons, judged_at, offset_at, offset_told, produce_after, produce_left, produce_reasons, start_after}
 use Rattle.kob_broker.specs.State.{Event, Reply, Request, State, has_partition, topic_map, with_partition, Meaning, Reason, Settings, Topic, open_state, partition_of, state_map, with_bindings, CanCreate, with_creation, CanDelete, without_taken, bindings_taken, CanAdd, catalog_log, kept_of, topics_of, CanAppend, Retained, retained_meaning, Plain, plain_meaning, retained_of, AddBindings, AddTopic, AdvanceStart, Append, CommitOffset, GiveProducerId, RemoveBindings, RemoveGroup, RemoveTopic, Write, partition_named, write_of}
 use Rattle.kob_broker.specs.Topics.{delete_topics_after, create_topics_after, create_topics_reasons, delete_topics_reasons, metadata_of, metadata_reasons}
 pub use Rattle.kob_broker.specs.declared.broker.Broker.{Broker}
@@ -9,7 +9,8 @@ use Rattle.kob_broker.specs.declared.prepared.Change.{Change}
 use Rattle.kob_broker.specs.declared.prepared.Prepared.{Prepared}
 use Rattle.kob_rights.specs.declared.reply.Body.{Body}
 pub use Rattle.kob_rights.specs.declared.request.Request.TheVariants.{Produce, Fetch, ListOffsets, Metadata, OffsetCommit, OffsetFetch, ListGroups, DeleteGroups, CreateTopics, DeleteTopics, DeleteRecords, InitProducerId, DescribeAcls, CreateAcls, DeleteAcls}
-use Rattle.kob_broker.specs.Bindings.{create_acls_reasons, created_serials}
+use Rattle.std.specs.List.{flat_map}
+use Rattle.kob_broker.specs.Bindings.{create_acls_reasons, created_serials, draft_reasons}
 use Rattle.kob_broker.specs.Denial.{Done, Refused, denial_of, end_at, first_reason, named_reasons}
 use Rattle.kob_broker.specs.Groups.{delete_groups_reasons, groups_shown, offset_commit_after, offset_commit_reasons, offset_committed, offset_fetch_reasons}
 use Rattle.kob_groups.specs.Groups as groups
@@ -49,7 +50,9 @@ module _ {P : Type 0} (m : Meaning P) where
   reasons_against s found (DeleteRecords delete) = delete_records_reasons m s found delete
   reasons_against s found InitProducerId = init_producer_reasons s.next_producer
   reasons_against s found (CreateAcls create) = create_acls_reasons s.access create
-  reasons_against s found _ = []
+  reasons_against s found ListGroups = []
+  reasons_against s found (DescribeAcls asked) = []
+  reasons_against s found (DeleteAcls delete) = []
 
   -- the body of the reply to an event whose request is done
   abbrev pub body : State P → Option P → Event → Request → Body
@@ -113,6 +116,45 @@ module _ {P : Type 0} (m : Meaning P) where
 
   abbrev pub step : State P → Event → Outcome P
   step s event = step_by (denial_of s.access event) s event
+
+  -- a request whose rights are granted may need memory: it is not of a kind that is answered in
+  -- place, and no reason holds that is looked for before anything is allocated. New bindings are
+  -- copied before they are counted
+  abbrev pub NeedsMemory : State P → Request → Type 0
+  NeedsMemory s (Produce produce) = refusal s (Produce produce) ≡ None
+  NeedsMemory s (Fetch fetch) = refusal s (Fetch fetch) ≡ None
+  NeedsMemory s (ListOffsets asked) = ⊥
+  NeedsMemory s (Metadata asked) = refusal s (Metadata asked) ≡ None
+  NeedsMemory s (OffsetCommit commit) = refusal s (OffsetCommit commit) ≡ None
+  NeedsMemory s (OffsetFetch asked) = ⊥
+  NeedsMemory s ListGroups = Unit {0}
+  NeedsMemory s (DeleteGroups delete) = refusal s (DeleteGroups delete) ≡ None
+  NeedsMemory s (CreateTopics create) = refusal s (CreateTopics create) ≡ None
+  NeedsMemory s (DeleteTopics delete) = refusal s (DeleteTopics delete) ≡ None
+  NeedsMemory s (DeleteRecords delete) = refusal s (DeleteRecords delete) ≡ None
+  NeedsMemory s InitProducerId = ⊥
+  NeedsMemory s (DescribeAcls asked) = Unit {0}
+  NeedsMemory s (CreateAcls create) = first_reason (flat_map draft_reasons create.drafts) ≡ None
+  NeedsMemory s (DeleteAcls delete) = Unit {0}
+
+  -- an event may need memory: for the verdicts of a denial, or where its request may need it
+  abbrev pub MayRunOut : State P → Event → Type 0
+  MayRunOut s event = denial_of s.access event ≡ None → NeedsMemory s event.request
+
+  -- what is left of a request that is served by taking: its batch goes, if it is appended
+  abbrev pub request_left : State P → Request → Request
+  request_left s (Produce produce) =
+      Produce (produce_left (refusal s (Produce produce))
+      (judged_at m (named s (Produce produce)) produce.batch) produce)
+  request_left s request = request
+
+  -- what is left of its event
+  abbrev pub event_left_by : Option Reply → State P → Event → Event
+  event_left_by (Some denial) s event = event
+  event_left_by None s event = record event { request = request_left s event.request }
+
+  abbrev pub event_left : State P → Event → Event
+  event_left s event = event_left_by (denial_of s.access event) s event
 
   -- the replies to events, one after another
   abbrev pub replies_of : List Event → State P → List Reply

@@ -1,7 +1,7 @@
 //! What becomes of a batch.
 
-ghost use Rattle.std.specs.Prelude.{◌≡◌, IfOk};
-ghost use Rattle.kob_broker.specs.Records.{prepared_for};
+ghost use Rattle.std.specs.Prelude.{◌≡◌, IfOk, OnErr};
+ghost use Rattle.kob_broker.specs.Records.{TakesBatch, empty_produce, left_by, prepared_for};
 
 use crate::prepared::{Change, Prepared};
 use kob_names::{Batch, Items, PlainValue, Text};
@@ -23,7 +23,8 @@ impl BatchOutcome {
     /// What is prepared. The request is moved if its batch is appended; one without a topic or
     /// records is left.
     pub(crate) fn with_taken(self, alloc: Global, produce: &mut Produce) -> Prepared
-        ensures { result ≡ prepared_for produce.old self }
+        ensures prepared { result ≡ prepared_for produce.old self }
+        ensures left { produce.new ≡ left_by self produce.old }
     {
         match self {
             BatchOutcome::Refused(reason) => Prepared::refused(reason),
@@ -40,7 +41,8 @@ impl BatchOutcome {
 
     /// The same with a copy of the request, which is made only if its batch is appended.
     pub(crate) fn with_copy(self, alloc: Global, produce: &Produce) -> Result<Prepared, AllocError>
-        ensures { IfOk result (λ prepared. prepared ≡ prepared_for produce.now self) }
+        ensures prepared { IfOk result (λ prepared. prepared ≡ prepared_for produce.now self) }
+        ensures memory { OnErr result (TakesBatch self) }
     {
         match self {
             BatchOutcome::Refused(reason) => Ok(Prepared::refused(reason)),
@@ -55,7 +57,10 @@ impl BatchOutcome {
     }
 }
 
-fn empty_request(alloc: Global) -> Produce {
+/// A request without a topic or records. Does not allocate.
+fn empty_request(alloc: Global) -> Produce
+    ensures { result ≡ empty_produce }
+{
     Produce {
         topic: Text::from_string(String::new(alloc)),
         partition: 0,

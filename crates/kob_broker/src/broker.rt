@@ -23,11 +23,12 @@ pub struct Broker {
 }
 
 impl Broker {
-    ghost use Rattle.std.specs.Prelude.{◌≡◌, ◌<◌, length, take, []};
+    ghost use Rattle.std.specs.Prelude.{◌≡◌, ◌⊎◌, ◌<◌, alloc_error, length, take, []};
     ghost use Rattle.std.specs.Prelude.{IfOk, IfErr, IsErrOf, OnOk, OnErr, Some, None};
     ghost use Rattle.kob_authorizer.specs.Creation.{create_fault};
     ghost use Rattle.kob_authorizer.specs.declared.fault.CreateFault.TheVariants as limits;
     ghost use Rattle.kob_broker.specs.Step.{IsReady, Makes, reply_of, state_of, state_with};
+    ghost use Rattle.kob_broker.specs.Step.{MayRunOut, NeedsMemory, event_left, request_left};
     ghost use Rattle.kob_broker.specs.Topics.{delete_topics_after};
     ghost use Rattle.kob_broker.specs.Step.{effect, step, replies_of, state_after};
     ghost use Rattle.kob_broker.specs.State.{open_state, settings_of};
@@ -40,6 +41,9 @@ impl Broker {
         ensures few { OnOk result (create_fault [] 1 settings.opening ≡ None) }
         ensures many { IsErrOf result OpenFault.TooMany → create_fault [] 1 settings.opening
             ≡ Some limits.TooMany }
+        ensures told { create_fault [] 1 settings.opening ≡ Some limits.TooMany
+            → IsErrOf result OpenFault.TooMany
+            ⊎ IsErrOf result (OpenFault.Memory alloc_error) }
     {
         let authorizer = opened_authorizer(alloc, settings)?;
         Ok(Broker {
@@ -57,9 +61,12 @@ impl Broker {
         ensures { IfOk result (λ settings. settings ≡ settings_of (state_of self.now)) }
     {
         let supers = Items::copied(alloc, self.authorizer.supers())?;
-        let Ok(opening) = bindings_of(alloc, self.authorizer.entries()) else {
-            drop(supers);
-            return Err(AllocError);
+        let opening = match bindings_of(alloc, self.authorizer.entries()) {
+            Ok(opening) => opening,
+            Err(refused) => {
+                drop(supers);
+                return Err(refused);
+            }
         };
         Ok(Settings {
             supers,
@@ -69,11 +76,13 @@ impl Broker {
     }
 
     /// Decides on the request of an event whose rights are granted.
-    #[tactic(auto, using(crate::proofs::Decisions::made_for_ok))]
+    #[tactic(auto, using(crate::proofs::Decisions::made_for_ok, crate::proofs::Decisions::needed_for))]
     fn prepare_effect(&mut self, alloc: Global, event: &Event) -> Result<Prepared, AllocError>
         ensures state { state_of self.new ≡ state_of self.old }
         ensures ok { IfOk result (Makes
             (effect retained_meaning (state_of self.new) event.now event.now.request) self.new) }
+        ensures memory { OnErr result
+            (NeedsMemory retained_meaning (state_of self.old) event.now.request) }
     {
         match &event.request {
             Request::Produce(asked) => self.prepare_produce(alloc, asked),
@@ -100,6 +109,8 @@ impl Broker {
         ensures state { state_of self.new ≡ state_of self.old }
         ensures ok { IfOk result
             (Makes (step retained_meaning (state_of self.new) event.now) self.new) }
+        ensures memory { OnErr result
+            (MayRunOut retained_meaning (state_of self.old) event.now) }
     {
         match denial_of(alloc, &self.authorizer, event)? {
             Some(denial) => Ok(Prepared::new(denial, Change::Unchanged)),
@@ -108,7 +119,9 @@ impl Broker {
     }
 
     /// The first step for an event that is not served again: as [`prepare`](Broker::prepare), but a
-    /// batch that is appended is moved out of it and not copied.
+    /// batch that is appended is moved out of it and not copied. A PRODUCE without a topic or records
+    /// is left then; any other event stays as it was.
+    #[tactic(auto, using(crate::proofs::Decisions::left_denied, crate::proofs::Decisions::left_granted))]
     pub fn prepare_taking(
         &mut self,
         alloc: Global,
@@ -117,6 +130,10 @@ impl Broker {
         ensures state { state_of self.new ≡ state_of self.old }
         ensures ok { IfOk result
             (Makes (step retained_meaning (state_of self.new) event.old) self.new) }
+        ensures memory { OnErr result
+            (MayRunOut retained_meaning (state_of self.old) event.old) }
+        ensures left { OnOk result
+            (event.new ≡ event_left retained_meaning (state_of self.old) event.old) }
         ensures principal { event.new.principal ≡ event.old.principal }
         ensures host { event.new.host ≡ event.old.host }
         ensures same { OnErr result (event.new ≡ event.old) }
@@ -129,7 +146,7 @@ impl Broker {
 
     /// Decides on the request of an event whose rights are granted. A batch that is appended is
     /// moved out of it.
-    #[tactic(auto, using(crate::proofs::Decisions::made_for_ok))]
+    #[tactic(auto, using(crate::proofs::Decisions::made_for_ok, crate::proofs::Decisions::needed_for, crate::proofs::Decisions::left_for))]
     fn prepare_effect_taking(
         &mut self,
         alloc: Global,
@@ -138,6 +155,10 @@ impl Broker {
         ensures state { state_of self.new ≡ state_of self.old }
         ensures ok { IfOk result (Makes
             (effect retained_meaning (state_of self.new) event.old event.old.request) self.new) }
+        ensures memory { OnErr result
+            (NeedsMemory retained_meaning (state_of self.old) event.old.request) }
+        ensures left { OnOk result (event.new.request
+            ≡ request_left retained_meaning (state_of self.old) event.old.request) }
         ensures principal { event.new.principal ≡ event.old.principal }
         ensures host { event.new.host ≡ event.old.host }
         ensures same { OnErr result (event.new ≡ event.old) }
@@ -194,6 +215,8 @@ impl Broker {
             ≡ (step retained_meaning (state_of self.old) event.now).reply) }
         ensures state { OnOk result (state_of self.new
             ≡ (step retained_meaning (state_of self.old) event.now).state) }
+        ensures memory { OnErr result
+            (MayRunOut retained_meaning (state_of self.old) event.now) }
         ensures kept { OnErr result (state_of self.new ≡ state_of self.old) }
     {
         let prepared = self.prepare(alloc, event)?;
@@ -201,13 +224,18 @@ impl Broker {
     }
 
     /// Serves one event that is not served again: as [`serve`](Broker::serve), but the batch of a
-    /// PRODUCE is moved out of it into the log and not copied.
+    /// PRODUCE that is appended is moved out of it into the log and not copied. A PRODUCE without a
+    /// topic or records is left then; any other event stays as it was.
     pub fn serve_taking(&mut self, alloc: Global, event: &mut Event) -> Result<Reply, AllocError>
         ensures reply { IfOk result (λ reply. reply
             ≡ (step retained_meaning (state_of self.old) event.old).reply) }
         ensures state { OnOk result (state_of self.new
             ≡ (step retained_meaning (state_of self.old) event.old).state) }
+        ensures memory { OnErr result
+            (MayRunOut retained_meaning (state_of self.old) event.old) }
         ensures kept { OnErr result (state_of self.new ≡ state_of self.old) }
+        ensures left { OnOk result
+            (event.new ≡ event_left retained_meaning (state_of self.old) event.old) }
         ensures principal { event.new.principal ≡ event.old.principal }
         ensures host { event.new.host ≡ event.old.host }
         ensures same { OnErr result (event.new ≡ event.old) }
@@ -232,12 +260,22 @@ impl Broker {
     {
         let mut replies = Vec::new(alloc);
         for (done, event) in events.iter().enumerate() {
-            if replies.reserve(1).is_err() {
-                return Err(Stopped { done, replies });
+            if let Err(refused) = replies.reserve(1) {
+                return Err(Stopped {
+                    done,
+                    replies,
+                    refused,
+                });
             }
             match self.serve(alloc, event) {
                 Ok(reply) => replies.push_reserved(reply),
-                Err(_) => return Err(Stopped { done, replies }),
+                Err(refused) => {
+                    return Err(Stopped {
+                        done,
+                        replies,
+                        refused,
+                    });
+                }
             }
         }
         Ok(replies)
@@ -284,12 +322,15 @@ fn opened_authorizer(alloc: Global, settings: Settings) -> Result<Authorizer, Op
     }
 }
 
-/// Puts bindings in force.
+/// Puts bindings in force where there are none, so that serials are left for all of them.
+#[tactic(auto, using(crate::proofs::Decisions::serials_left))]
 fn put_in_force(
     alloc: Global,
     authorizer: &mut Authorizer,
     bindings: &[Binding],
 ) -> Result<(), OpenFault>
+    requires none { authorizer.old.contents.entries ≡ [] }
+    requires first { authorizer.old.contents.next ≡ 1 }
     ensures ok { OnOk result (authorizer.new.contents
         ≡ with_bindings bindings.now authorizer.old.contents) }
     ensures few { OnOk result (create_fault authorizer.old.contents.entries
@@ -301,7 +342,8 @@ fn put_in_force(
     match authorizer.create(alloc, bindings) {
         Ok(_) => Ok(()),
         Err(CreateFault::TooMany) => Err(OpenFault::TooMany),
-        Err(_) => Err(OpenFault::Memory),
+        Err(CreateFault::SerialsSpent) => unreachable!(),
+        Err(CreateFault::Memory(refused)) => Err(OpenFault::Memory(refused)),
     }
 }
 
@@ -311,10 +353,10 @@ fn bindings_of(alloc: Global, entries: &[(u64, Binding)]) -> Result<Items<Bindin
 {
     let mut bindings = Vec::new(alloc);
     for entry in entries {
-        let Ok(()) = put_copy(alloc, &mut bindings, &entry.1) else {
+        if let Err(refused) = put_copy(alloc, &mut bindings, &entry.1) {
             drop(bindings);
-            return Err(AllocError);
-        };
+            return Err(refused);
+        }
     }
     Ok(Items::from_vec(bindings))
 }

@@ -1,6 +1,6 @@
 //! Which events are denied.
 
-ghost use Rattle.std.specs.Prelude.{◌≡◌, map, IfOk, IfSome, is_none};
+ghost use Rattle.std.specs.Prelude.{◌≡◌, ◌≢◌, map, IfOk, IfSome, None, OnErr, is_none};
 ghost use Rattle.std.specs.Option.{option_map};
 ghost use Rattle.kob_broker.specs.Denial.{denial_of, is_met, verdict, verdicts_view};
 ghost use Rattle.kob_rights.specs.Table.{check_view, clause_view};
@@ -77,7 +77,8 @@ pub(crate) fn denial_of(
     authorizer: &Authorizer,
     event: &Event,
 ) -> Result<Option<Reply>, AllocError>
-    ensures { IfOk result (λ denial. denial ≡ denial_of authorizer.now.contents event.now) }
+    ensures denial { IfOk result (λ denial. denial ≡ denial_of authorizer.now.contents event.now) }
+    ensures denied { OnErr result (denial_of authorizer.now.contents event.now ≢ None) }
 {
     let Some((code, verdicts)) = first_blamed(authorizer, event) else {
         return Ok(None);

@@ -10,12 +10,13 @@ ghost use Rattle.kob_names.specs.declared.settings.Settings.{Settings};
 ghost use Rattle.kob_rights.specs.Requests.{OffsetsWithin};
 ghost use Rattle.kob_rights.specs.Table.{Check};
 ghost use Rattle.kob_rights.specs.declared.event.Event.{Event};
+ghost use Rattle.kob_rights.specs.declared.request.Request.{Request};
 ghost use Rattle.kob_partition.specs.Retained.{Plain, Retained, plain_meaning, retained_meaning};
 ghost use Rattle.kob_partition.specs.Meaning.{offset_limit};
 ghost use Rattle.kob_broker.specs.Denial.{question, verdict};
 ghost use Rattle.kob_broker.specs.Justice.{AgreeOnAccess, EachJust, EachLists, HoldsInForce};
 ghost use Rattle.kob_broker.specs.Justice.{LeavesUnlessDone, SameDenial, SaysNothingSpent};
-ghost use Rattle.kob_broker.specs.Justice.{asked_in};
+ghost use Rattle.kob_broker.specs.Justice.{HasCodes, asked_in, denial_codes};
 ghost use Rattle.kob_broker.specs.Step.{OpensAlike, RunsAlike, StepsAlike, replies_of, step};
 ghost use Rattle.kob_broker.specs.State.{State, open_state};
 
@@ -28,6 +29,15 @@ pub fn each_reply_is_just()
         → EachJust plain_meaning events (open_state settings) }
     ensures retained { (settings : Settings) (events : List Event)
         → EachJust retained_meaning events (open_state settings) }
+{
+    // The contract is the law.
+}
+
+/// The code of a denial is the request's, as in Kafka: 29 on topics, 30 on groups, 31 on the
+/// cluster. CREATE_TOPICS is denied with 29, although a right on the cluster would do.
+#[tactic(auto, using(crate::proofs::Just::codes_by_request))]
+pub fn denials_have_the_codes_of_their_requests()
+    ensures { (request : Request) → HasCodes request (denial_codes request) }
 {
     // The contract is the law.
 }

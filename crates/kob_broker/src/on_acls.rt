@@ -1,10 +1,11 @@
 //! What is done about bindings.
 
 ghost use Rattle.std.specs.List.{flat_map};
-ghost use Rattle.std.specs.Prelude.{◌≡◌, ◌++◌, ◌∷◌, [], IfOk, IfErr, OnOk, None};
-ghost use Rattle.kob_broker.specs.Step.{MakesFor, state_of};
-ghost use Rattle.kob_broker.specs.Bindings.{draft_reasons, IsUnlessRefused};
+ghost use Rattle.std.specs.Prelude.{◌≡◌, ◌++◌, ◌∷◌, [], IfOk, OnErr, OnOk, None};
+ghost use Rattle.kob_broker.specs.Step.{MakesFor, NeedsMemory, state_of};
+ghost use Rattle.kob_broker.specs.Bindings.{draft_reasons};
 ghost use Rattle.kob_broker.specs.Denial.{first_reason};
+ghost use Rattle.kob_partition.specs.Retained.{retained_meaning};
 ghost use Rattle.kob_rights.specs.declared.request.Request.TheVariants as requests;
 
 use crate::broker::Broker;
@@ -23,17 +24,19 @@ impl Broker {
     ) -> Result<Prepared, AllocError>
         ensures state { state_of self.new ≡ state_of self.old }
         ensures ok { IfOk result (MakesFor (requests.CreateAcls create.now) self.new) }
+        ensures memory { OnErr result (NeedsMemory retained_meaning (state_of self.old)
+            (requests.CreateAcls create.now)) }
     {
-        let bindings = match bindings_of(alloc, create.drafts.as_slice()) {
-            Ok(bindings) => bindings,
-            Err(DraftFault::Refused(reason)) => return Ok(Prepared::refused(reason)),
-            Err(DraftFault::Memory) => return Err(AllocError),
-        };
+        let drafts = create.drafts.as_slice();
+        if let Some(reason) = against_drafts(drafts) {
+            return Ok(Prepared::refused(reason));
+        }
+        let bindings = bindings_of(alloc, drafts)?;
         let made = match self.authorizer.prepare_create(alloc, bindings.as_slice()) {
             Ok(made) => made,
             Err(CreateFault::TooMany) => return Ok(Prepared::refused(Reason::TooManyBindings)),
             Err(CreateFault::SerialsSpent) => return Ok(Prepared::refused(Reason::SerialsSpent)),
-            Err(CreateFault::Memory) => return Err(AllocError),
+            Err(CreateFault::Memory(refused)) => return Err(refused),
         };
         let serials = Items::copied(alloc, made.serials())?;
         Ok(Prepared::done(Body::Serials(serials), Change::AddBindings(made)))
@@ -63,56 +66,54 @@ impl Broker {
     }
 }
 
-/// Why drafts are not valid bindings.
-enum DraftFault {
-    Refused(Reason),
-    Memory,
-}
-
-/// The binding of a draft, if it breaks no rule.
-fn binding_of(alloc: Global, draft: &Draft) -> Result<Binding, DraftFault>
-    ensures ok { IfOk result (λ made. made ≡ draft.now) }
-    ensures allowed { OnOk result (first_reason (draft_reasons draft.now) ≡ None) }
-    ensures refused { IfErr result (IsUnlessRefused (first_reason (draft_reasons draft.now))) }
+/// The reason to refuse a draft that breaks a rule for bindings, by the first that it breaks. Does
+/// not allocate.
+fn against_draft(draft: &Draft) -> Option<Reason>
+    ensures { result ≡ first_reason (draft_reasons draft.now) }
 {
-    match Binding::new(alloc, draft) {
-        Ok(binding) => Ok(binding),
-        Err(BindingFault::EmptyName) => Err(DraftFault::Refused(Reason::EmptyName)),
-        Err(BindingFault::BadCluster) => Err(DraftFault::Refused(Reason::BadCluster)),
-        Err(BindingFault::TooLong) => Err(DraftFault::Refused(Reason::NameTooLong)),
-        Err(BindingFault::Memory) => Err(DraftFault::Memory),
+    match draft.fault() {
+        None | Some(BindingFault::Memory(_)) => None,
+        Some(BindingFault::EmptyName) => Some(Reason::EmptyName),
+        Some(BindingFault::BadCluster) => Some(Reason::BadCluster),
+        Some(BindingFault::TooLong) => Some(Reason::NameTooLong),
     }
 }
 
-/// The bindings of all drafts, or the first rule that one breaks.
-fn bindings_of(alloc: Global, drafts: &[Draft]) -> Result<Vec<Binding>, DraftFault>
-    ensures ok { IfOk result (λ made. made.items ≡ drafts.now) }
-    ensures allowed { OnOk result (first_reason (flat_map draft_reasons drafts.now) ≡ None) }
-    ensures refused { IfErr result
-        (IsUnlessRefused (first_reason (flat_map draft_reasons drafts.now))) }
+/// The first reason to refuse one of the drafts. Does not allocate.
+fn against_drafts(drafts: &[Draft]) -> Option<Reason>
+    ensures { result ≡ first_reason (flat_map draft_reasons drafts.now) }
+{
+    for draft in drafts {
+        if let Some(reason) = against_draft(draft) {
+            return Some(reason);
+        }
+    }
+    None
+}
+
+/// The bindings of drafts that break no rule.
+fn bindings_of(alloc: Global, drafts: &[Draft]) -> Result<Vec<Binding>, AllocError>
+    requires { first_reason (flat_map draft_reasons drafts.now) ≡ None }
+    ensures { IfOk result (λ made. made.items ≡ drafts.now) }
 {
     let mut bindings = Vec::new(alloc);
     for draft in drafts {
-        match put_binding(alloc, &mut bindings, draft) {
-            Ok(()) => {}
-            Err(fault) => {
-                drop(bindings);
-                return Err(fault);
-            }
+        if let Err(refused) = put_binding(alloc, &mut bindings, draft) {
+            drop(bindings);
+            return Err(refused);
         }
     }
     Ok(bindings)
 }
 
-/// Appends the binding of a draft, if it breaks no rule.
-fn put_binding(alloc: Global, bindings: &mut Vec<Binding>, draft: &Draft) -> Result<(), DraftFault>
-    ensures ok { OnOk result (bindings.new.items ≡ bindings.old.items ++ draft.now ∷ []) }
-    ensures allowed { OnOk result (first_reason (draft_reasons draft.now) ≡ None) }
-    ensures refused { IfErr result (IsUnlessRefused (first_reason (draft_reasons draft.now))) }
+/// Appends the binding of a draft that breaks no rule.
+fn put_binding(alloc: Global, bindings: &mut Vec<Binding>, draft: &Draft) -> Result<(), AllocError>
+    requires { first_reason (draft_reasons draft.now) ≡ None }
+    ensures { OnOk result (bindings.new.items ≡ bindings.old.items ++ draft.now ∷ []) }
 {
-    let binding = binding_of(alloc, draft)?;
-    if bindings.push(binding).is_err() {
-        return Err(DraftFault::Memory);
+    match Binding::new(alloc, draft) {
+        Ok(binding) => Ok(bindings.push(binding)?),
+        Err(BindingFault::Memory(refused)) => Err(refused),
+        Err(_) => unreachable!(),
     }
-    Ok(())
 }

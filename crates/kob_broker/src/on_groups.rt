@@ -1,8 +1,8 @@
 //! What is done about groups and their commits.
 
 ghost use Rattle.std.specs.List.{filter};
-ghost use Rattle.std.specs.Prelude.{◌≡◌, IfOk, None, OnErr, is_some};
-ghost use Rattle.kob_broker.specs.Step.{MakesFor, state_of, Makes, refusal, effect};
+ghost use Rattle.std.specs.Prelude.{◌≡◌, IfOk, OnErr, is_some};
+ghost use Rattle.kob_broker.specs.Step.{MakesFor, NeedsMemory, state_of, Makes, effect};
 ghost use Rattle.kob_broker.specs.Denial.{describes_group};
 ghost use Rattle.kob_broker.specs.Groups.{groups_shown};
 ghost use Rattle.kob_names.specs.TextRules.{group_fault};
@@ -27,8 +27,8 @@ impl Broker {
     ) -> Result<Prepared, AllocError>
         ensures state { state_of self.new ≡ state_of self.old }
         ensures ok { IfOk result (MakesFor (requests.OffsetCommit commit.now) self.new) }
-        ensures memory { OnErr result (refusal retained_meaning (state_of self.old)
-            (requests.OffsetCommit commit.now) ≡ None) }
+        ensures memory { OnErr result (NeedsMemory retained_meaning (state_of self.old)
+            (requests.OffsetCommit commit.now)) }
     {
         if is_bad_group_name(&commit.group) {
             return Ok(Prepared::refused(Reason::BadGroupName));
@@ -48,7 +48,7 @@ impl Broker {
         ) {
             Ok(made) => Ok(Prepared::done(Body::Committed, Change::Commit(made))),
             Err(CommitFault::TooMany) => Ok(Prepared::refused(Reason::TooManyGroups)),
-            Err(CommitFault::Memory) => Err(AllocError),
+            Err(CommitFault::Memory(refused)) => Err(refused),
         }
     }
 
@@ -83,7 +83,9 @@ impl Broker {
         alloc: Global,
         delete: &DeleteGroups,
     ) -> Result<Prepared, AllocError>
-        ensures { IfOk result (MakesFor (requests.DeleteGroups delete.now) self.now) }
+        ensures ok { IfOk result (MakesFor (requests.DeleteGroups delete.now) self.now) }
+        ensures memory { OnErr result (NeedsMemory retained_meaning (state_of self.now)
+            (requests.DeleteGroups delete.now)) }
     {
         if is_bad_group_name(&delete.group) {
             return Ok(Prepared::refused(Reason::BadGroupName));

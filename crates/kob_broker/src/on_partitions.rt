@@ -1,10 +1,11 @@
 //! What is done about the records of a partition, except for a batch.
 
-ghost use Rattle.std.specs.Prelude.{◌≡◌, IfErr, IfOk, OnOk, Some, true};
-ghost use Rattle.kob_broker.specs.Step.{MakesFor};
+ghost use Rattle.std.specs.Prelude.{◌≡◌, IfErr, IfOk, OnErr, OnOk, Some, true};
+ghost use Rattle.kob_broker.specs.Step.{MakesFor, NeedsMemory, state_of};
 ghost use Rattle.kob_broker.specs.Denial.{IsUnnamed};
 ghost use Rattle.kob_catalog.specs.Kept.{topics_of};
 ghost use Rattle.kob_catalog.specs.Topics.{has_topic, partition_of};
+ghost use Rattle.kob_partition.specs.Retained.{retained_meaning};
 ghost use Rattle.kob_rights.specs.declared.request.Request.TheVariants as requests;
 
 use crate::broker::Broker;
@@ -35,7 +36,9 @@ impl Broker {
     }
 
     pub(crate) fn prepare_fetch(&self, alloc: Global, fetch: &Fetch) -> Result<Prepared, AllocError>
-        ensures { IfOk result (MakesFor (requests.Fetch fetch.now) self.now) }
+        ensures ok { IfOk result (MakesFor (requests.Fetch fetch.now) self.now) }
+        ensures memory { OnErr result (NeedsMemory retained_meaning (state_of self.now)
+            (requests.Fetch fetch.now)) }
     {
         let log = match self.named(&fetch.topic, fetch.partition) {
             Ok(log) => log,
@@ -44,7 +47,7 @@ impl Broker {
         match log.fetch(alloc, fetch.offset, fetch.max) {
             Ok(records) => Ok(Prepared::done(Body::Records(records), Change::Unchanged)),
             Err(FetchFault::OutOfRange) => Ok(Prepared::refused(Reason::OutOfRange)),
-            Err(FetchFault::Memory) => Err(AllocError),
+            Err(FetchFault::Memory(refused)) => Err(refused),
         }
     }
 
@@ -67,7 +70,9 @@ impl Broker {
         alloc: Global,
         delete: &DeleteRecords,
     ) -> Result<Prepared, AllocError>
-        ensures { IfOk result (MakesFor (requests.DeleteRecords delete.now) self.now) }
+        ensures ok { IfOk result (MakesFor (requests.DeleteRecords delete.now) self.now) }
+        ensures memory { OnErr result (NeedsMemory retained_meaning (state_of self.now)
+            (requests.DeleteRecords delete.now)) }
     {
         let log = match self.named(&delete.topic, delete.partition) {
             Ok(log) => log,

@@ -1,7 +1,7 @@
 //! What is done about topics.
 
 ghost use Rattle.std.specs.Prelude.{◌≡◌, IfOk, None, OnErr, Some};
-ghost use Rattle.kob_broker.specs.Step.{MakesFor, state_of, Makes, refusal, effect};
+ghost use Rattle.kob_broker.specs.Step.{MakesFor, NeedsMemory, state_of, Makes, effect};
 ghost use Rattle.kob_broker.specs.Topics.{metadata_request};
 ghost use Rattle.kob_partition.specs.Retained.{retained_meaning};
 ghost use Rattle.kob_rights.specs.declared.request.Request.TheVariants as requests;
@@ -22,8 +22,8 @@ impl Broker {
     ) -> Result<Prepared, AllocError>
         ensures state { state_of self.new ≡ state_of self.old }
         ensures ok { IfOk result (MakesFor (requests.CreateTopics create.now) self.new) }
-        ensures memory { OnErr result (refusal retained_meaning (state_of self.old)
-            (requests.CreateTopics create.now) ≡ None) }
+        ensures memory { OnErr result (NeedsMemory retained_meaning (state_of self.old)
+            (requests.CreateTopics create.now)) }
     {
         if TopicNameFault::of(create.name.as_str()).is_some() {
             return Ok(Prepared::refused(Reason::BadTopicName));
@@ -36,7 +36,7 @@ impl Broker {
             Err(CreateFault::Exists) => Ok(Prepared::refused(Reason::TopicExists)),
             Err(CreateFault::BadPartitions) => Ok(Prepared::refused(Reason::BadPartitions)),
             Err(CreateFault::TooMany) => Ok(Prepared::refused(Reason::TooManyTopics)),
-            Err(CreateFault::Memory) => Err(AllocError),
+            Err(CreateFault::Memory(refused)) => Err(refused),
         }
     }
 
@@ -45,7 +45,9 @@ impl Broker {
         alloc: Global,
         delete: &DeleteTopics,
     ) -> Result<Prepared, AllocError>
-        ensures { IfOk result (MakesFor (requests.DeleteTopics delete.now) self.now) }
+        ensures ok { IfOk result (MakesFor (requests.DeleteTopics delete.now) self.now) }
+        ensures memory { OnErr result (NeedsMemory retained_meaning (state_of self.now)
+            (requests.DeleteTopics delete.now)) }
     {
         if !self.catalog.contains(&delete.name) {
             return Ok(Prepared::refused(Reason::UnknownTopic));
@@ -61,9 +63,11 @@ impl Broker {
         event: &Event,
         asked: &Metadata,
     ) -> Result<Prepared, AllocError>
-        ensures { IfOk result
+        ensures ok { IfOk result
             (Makes (effect retained_meaning (state_of self.now) event.now
             (requests.Metadata asked.now)) self.now) }
+        ensures memory { OnErr result (NeedsMemory retained_meaning (state_of self.now)
+            (requests.Metadata asked.now)) }
     {
         match &asked.topic {
             None => self.prepare_metadata_of_all(alloc, event),
@@ -87,7 +91,9 @@ impl Broker {
 
     /// One topic with its number of partitions.
     fn prepare_metadata_of_one(&self, alloc: Global, topic: &Text) -> Result<Prepared, AllocError>
-        ensures { IfOk result (MakesFor (metadata_request (Some topic.now)) self.now) }
+        ensures ok { IfOk result (MakesFor (metadata_request (Some topic.now)) self.now) }
+        ensures memory { OnErr result (NeedsMemory retained_meaning (state_of self.now)
+            (metadata_request (Some topic.now))) }
     {
         let Some(partitions) = self.catalog.partitions(topic) else {
             return Ok(Prepared::refused(Reason::UnknownTopic));

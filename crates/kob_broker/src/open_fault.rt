@@ -1,5 +1,6 @@
 //! Why a broker cannot be opened.
 
+use std::alloc::AllocError;
 use thiserror::Error;
 
 /// Why a broker cannot be opened.
@@ -8,5 +9,5 @@ pub enum OpenFault {
     #[error("too many bindings")]
     TooMany,
     #[error("out of memory")]
-    Memory,
+    Memory(AllocError),
 }

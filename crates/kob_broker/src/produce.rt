@@ -1,10 +1,12 @@
 //! A batch appended to a partition, and the ids of producers.
 
-ghost use Rattle.std.specs.Prelude.{◌≡◌, IfOk, OnErr, Some};
-ghost use Rattle.kob_broker.specs.Step.{MakesFor, state_of};
-ghost use Rattle.kob_broker.specs.Records.{IsBatchOutcome, outcome_told, prepared_for};
+ghost use Rattle.std.specs.Prelude.{◌≡◌, IfOk, None, OnErr, OnOk};
+ghost use Rattle.kob_broker.specs.Step.{MakesFor, NeedsMemory, request_left, state_of};
+ghost use Rattle.kob_broker.specs.Records.{IsBatchOutcome, left_by, outcome_told, prepared_for};
+ghost use Rattle.kob_broker.specs.Records.{TakesBatch, refusal_by};
 ghost use Rattle.kob_broker.specs.Records.{batch_reasons, is_bad_sequence, is_unknown_producer};
 ghost use Rattle.kob_broker.specs.Denial.{first_reason};
+ghost use Rattle.kob_partition.specs.Retained.{retained_meaning};
 ghost use Rattle.kob_rights.specs.declared.request.Request.TheVariants as requests;
 
 use crate::batch_outcome::BatchOutcome;
@@ -26,6 +28,8 @@ impl Broker {
     ) -> Result<Prepared, AllocError>
         ensures state { state_of self.new ≡ state_of self.old }
         ensures ok { IfOk result (MakesFor (requests.Produce produce.now) self.new) }
+        ensures memory { OnErr result (NeedsMemory retained_meaning (state_of self.old)
+            (requests.Produce produce.now)) }
     {
         let outcome = self.outcome(produce)?;
         outcome.with_copy(alloc, produce)
@@ -39,6 +43,10 @@ impl Broker {
     ) -> Result<Prepared, AllocError>
         ensures state { state_of self.new ≡ state_of self.old }
         ensures ok { IfOk result (MakesFor (requests.Produce produce.old) self.new) }
+        ensures memory { OnErr result (NeedsMemory retained_meaning (state_of self.old)
+            (requests.Produce produce.old)) }
+        ensures left { OnOk result (requests.Produce produce.new
+            ≡ request_left retained_meaning (state_of self.old) (requests.Produce produce.old)) }
         ensures same { OnErr result (produce.new ≡ produce.old) }
     {
         let outcome = self.outcome(produce)?;
@@ -50,6 +58,12 @@ impl Broker {
         ensures state { state_of self.new ≡ state_of self.old }
         ensures ok { IfOk result (λ outcome. MakesFor (requests.Produce produce.now) self.new
             (prepared_for produce.now outcome)) }
+        ensures memory { OnErr result (NeedsMemory retained_meaning (state_of self.old)
+            (requests.Produce produce.now)) }
+        ensures taken { IfOk result (λ outcome. TakesBatch outcome
+            → NeedsMemory retained_meaning (state_of self.old) (requests.Produce produce.now)) }
+        ensures left { IfOk result (λ outcome. requests.Produce (left_by outcome produce.now)
+            ≡ request_left retained_meaning (state_of self.old) (requests.Produce produce.now)) }
     {
         let next_producer = self.next_producer;
         match self
@@ -76,7 +90,7 @@ impl Broker {
 }
 
 /// What becomes of a batch in a partition. If it is appended, capacity is reserved for it.
-#[tactic(auto, using(crate::proofs::BatchOutcomes::bad_is, crate::proofs::BatchOutcomes::told_is))]
+#[tactic(auto, using(crate::proofs::BatchOutcomes::bad_is, crate::proofs::BatchOutcomes::told_is, crate::proofs::BatchOutcomes::memory_told))]
 fn outcome_in(
     log: &mut PartitionLog,
     batch: &Batch,
@@ -84,6 +98,7 @@ fn outcome_in(
 ) -> Result<BatchOutcome, AllocError>
     ensures kept { log.new.kept ≡ log.old.kept }
     ensures ok { IfOk result (IsBatchOutcome next_producer log.new batch.now) }
+    ensures memory { OnErr result (refusal_by next_producer log.new batch.now ≡ None) }
 {
     match against_batch(batch, next_producer) {
         Some(reason) => Ok(BatchOutcome::Refused(reason)),
@@ -93,7 +108,7 @@ fn outcome_in(
 
 /// What becomes of a batch, by the answer of its partition.
 fn outcome_told(answer: Result<Placement, AppendFault>) -> Result<BatchOutcome, AllocError>
-    ensures { IfOk result (λ outcome. outcome_told answer ≡ Some outcome) }
+    ensures { result ≡ outcome_told answer }
 {
     match answer {
         Ok(Placement::New(offset)) => Ok(BatchOutcome::Appended(offset)),
@@ -101,7 +116,7 @@ fn outcome_told(answer: Result<Placement, AppendFault>) -> Result<BatchOutcome, 
         Err(AppendFault::OldEpoch) => Ok(BatchOutcome::Refused(Reason::OldEpoch)),
         Err(AppendFault::OutOfOrder) => Ok(BatchOutcome::Refused(Reason::OutOfOrder)),
         Err(AppendFault::OffsetsSpent) => Ok(BatchOutcome::Refused(Reason::OffsetsSpent)),
-        Err(AppendFault::Memory) => Err(AllocError),
+        Err(AppendFault::Memory(refused)) => Err(refused),
     }
 }
 

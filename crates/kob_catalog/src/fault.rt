@@ -1,5 +1,6 @@
 //! Faults of a catalog.
 
+use std::alloc::AllocError;
 use thiserror::Error;
 
 /// Why a topic was not created.
@@ -15,7 +16,7 @@ pub enum CreateFault {
     #[error("too many topics")]
     TooMany,
     #[error("out of memory")]
-    Memory,
+    Memory(AllocError),
 }
 
 /// No topic has the name.

@@ -1,6 +1,7 @@
 //! The final state of a consumer.
 
 ghost use Rattle.std.specs.Prelude.{◌≡◌, IfErr, IfOk, map};
+ghost use Rattle.std.specs.Prelude.{alloc_error};
 ghost use Rattle.std.specs.List.{enumerate_from};
 ghost use Rattle.kob_embedding.specs.Running.{IsReaderRun};
 ghost use Rattle.kob_inbox.specs.Contents.{placed_intake};
@@ -71,7 +72,7 @@ impl ConsumerEnd {
     pub fn taken(&mut self) -> Result<Vec<InboxRow>, InboxFault>
         ensures rows { IfOk result (λ rows.
             map placed_intake rows.items ≡ enumerate_from 1 self.old.inbox) }
-        ensures memory { IfErr result (λ fault. fault ≡ InboxFault.Memory) }
+        ensures memory { IfErr result (λ fault. fault ≡ InboxFault.Memory alloc_error) }
         ensures same { self.new ≡ self.old }
     {
         self.inbox.taken()

@@ -1,10 +1,11 @@
 //! A consumer that takes records into its inbox over a line.
 
-ghost use Rattle.std.specs.Prelude.{◌≡◌, ◌≤◌, [], IfErr, IfOk, IsErrOf, IsTrue, OnErr, OnOk};
+ghost use Rattle.std.specs.Prelude.{◌≡◌, ◌≤◌, ◌↔◌, [], IfErr, IfOk, IsErrOf, IsTrue, OnErr, OnOk};
+ghost use Rattle.std.specs.Prelude.{alloc_error};
 ghost use Rattle.std.specs.Prelude.{length, map};
 ghost use Rattle.std.specs.List.{enumerate_from};
 ghost use Rattle.kob_inbox.specs.Contents.{placed_intake};
-ghost use Rattle.kob_inbox.specs.Tick.{Ticks, point_of};
+ghost use Rattle.kob_inbox.specs.Tick.{Point, Ticks, point_of};
 
 use crate::consumer_end::ConsumerEnd;
 use crate::part::Part;
@@ -89,6 +90,11 @@ impl<L: Line> RunningConsumer<L> {
     pub fn take_all(&mut self, alloc: Global, most: u32) -> Result<(), ProgramFault>
         ensures same { self.new.fetcher.subscription ≡ self.old.fetcher.subscription }
         ensures stopped { IfErr result (λ fault. fault ≡ ProgramFault.Stopped) }
+        ensures idle { OnOk result ((before : Point)
+            × Ticks self.old.fetcher.subscription before
+            (point_of self.new.fetcher self.new.inbox
+            (L.calls self.new.line) (L.unmade self.new.line))
+            Tick.Idle) }
         ensures line { L.becomes self.old.line self.new.line }
     {
         for _ in 0..most {
@@ -100,13 +106,17 @@ impl<L: Line> RunningConsumer<L> {
         Err(ProgramFault::Stopped)
     }
 
-    /// Ticks until the inbox has `count` rows or more, at most `most` times. The error is out of
-    /// memory, or `Stopped`: after no tick it had as many.
+    /// Ticks until the inbox has `count` rows or more, at most `most` times; not at all if it has
+    /// them already. The error is out of memory, or `Stopped`: after no tick it had as many.
     pub fn take_rows(&mut self, alloc: Global, count: usize, most: u32) -> Result<(), ProgramFault>
         ensures taken { OnOk result (count ≤ length self.new.inbox) }
+        ensures there { count ≤ length self.old.inbox → OnOk result (self.new ≡ self.old) }
         ensures same { self.new.fetcher.subscription ≡ self.old.fetcher.subscription }
         ensures line { L.becomes self.old.line self.new.line }
     {
+        if self.has_enough(count)? {
+            return Ok(());
+        }
         for _ in 0..most {
             if self.has_rows(alloc, count)? {
                 return Ok(());
@@ -123,9 +133,17 @@ impl<L: Line> RunningConsumer<L> {
         ensures line { L.becomes self.old.line self.new.line }
     {
         if let Tick::Took(_) = self.tick(alloc) {
-            return Ok(self.taken()?.len() >= count);
+            return self.has_enough(count);
         }
         Ok(false)
+    }
+
+    /// Whether the inbox has `count` rows or more.
+    fn has_enough(&mut self, count: usize) -> Result<bool, ProgramFault>
+        ensures has { IfOk result (λ has. IsTrue has ↔ (count ≤ length self.old.inbox)) }
+        ensures same { self.new ≡ self.old }
+    {
+        Ok(self.taken()?.len() >= count)
     }
 
     /// Restarts the consumer, as [`Consumer::restart`] does: it forgets all positions.
@@ -142,7 +160,7 @@ impl<L: Line> RunningConsumer<L> {
     pub fn taken(&mut self) -> Result<Vec<InboxRow>, InboxFault>
         ensures rows { IfOk result (λ rows.
             map placed_intake rows.items ≡ enumerate_from 1 self.old.inbox) }
-        ensures memory { IfErr result (λ fault. fault ≡ InboxFault.Memory) }
+        ensures memory { IfErr result (λ fault. fault ≡ InboxFault.Memory alloc_error) }
         ensures same { self.new ≡ self.old }
     {
         self.inbox.taken()

@@ -1,6 +1,7 @@
 //! Sessions of a shared broker, by texts.
 
 ghost use Rattle.std.specs.Prelude.{◌≡◌, IfOk};
+ghost use Rattle.kob_shared.specs.Journals.{entry_limit, new_seat};
 
 use kob_lines::ProgramFault;
 use kob_names::{Host, Principal};
@@ -16,12 +17,8 @@ pub fn session_of<'a>(
     principal: &str,
     host: &str,
 ) -> Result<Session<'a>, ProgramFault>
-    ensures { IfOk result (λ session. session ≡ record {
-      worker = worker;
-      principal = principal.now;
-      host = host.now;
-      seen = 0;
-    }) }
+    ensures { IfOk result (λ session. session
+        ≡ new_seat worker principal.now host.now entry_limit) }
 {
     let principal = Principal::parse(alloc, principal)?;
     let host = Host::parse(alloc, host)?;

@@ -18,7 +18,7 @@ pub enum CommitFault {
     #[error("too many groups")]
     TooMany,
     #[error("out of memory")]
-    Memory,
+    Memory(AllocError),
 }
 
 /// A commit that needs no more allocations. It has copies only of the names that are new.

@@ -1,6 +1,7 @@
 //! Groups in order of their first commit, with their committed offsets.
 
 ghost use Rattle.std.specs.Prelude.{◌≡◌, ◌↔◌, true, false, IsErrOf, IfOk, None, OnErr, OnOk};
+ghost use Rattle.std.specs.Prelude.{alloc_error};
 ghost use Rattle.kob_groups.specs.Groups.{committed_at, group_names, has_group, is_full_for};
 ghost use Rattle.kob_groups.specs.Groups.{no_groups, place_of, with_commit, without_group};
 ghost use Rattle.kob_groups.specs.Groups.{without_offsets, without_topic};
@@ -80,16 +81,14 @@ impl Groups {
         ensures ready { IfOk result (λ made. CanCommit made self.new) }
         ensures many { IsErrOf result CommitFault.TooMany
             ↔ (is_full_for group.now (groups_of self.old) ≡ true) }
-        ensures memory { IsErrOf result CommitFault.Memory
+        ensures memory { IsErrOf result (CommitFault.Memory alloc_error)
             → committed_at (place_of group.now topic.now partition) (groups_of self.old) ≡ None }
     {
         if self.is_full_for(group) {
             return Err(CommitFault::TooMany);
         }
-        match self.prepare_allowed(alloc, group, topic, partition, offset) {
-            Ok(made) => Ok(made),
-            Err(AllocError) => Err(CommitFault::Memory),
-        }
+        self.prepare_allowed(alloc, group, topic, partition, offset)
+            .map_err(CommitFault::Memory)
     }
 
     /// Reserves capacity for a commit, and for the group among those listed for the topic.
@@ -150,7 +149,7 @@ impl Groups {
         ensures kept { OnErr result (groups_of self.new ≡ groups_of self.old) }
         ensures many { IsErrOf result CommitFault.TooMany
             ↔ (is_full_for group.now (groups_of self.old) ≡ true) }
-        ensures memory { IsErrOf result CommitFault.Memory
+        ensures memory { IsErrOf result (CommitFault.Memory alloc_error)
             → committed_at (place_of group.now topic.now partition) (groups_of self.old) ≡ None }
     {
         let made = self.prepare_commit(alloc, group, topic, partition, offset)?;

@@ -1,4 +1,5 @@
 -- What an inbox holds, and what taking records in does to it.
+use Rattle.std.specs.Prelude.{alloc_error}
 use Rattle.std.specs.Prelude.{◌≡◌, ℕ, List, suc, length, Option, false, bytes_eq, [], ◌∷◌, ◌++◌, Bool, if◌then◌else◌, None, Some, map}
 use Rattle.sqlite.specs.Tree.{IsAscending}
 use Rattle.std.specs.List.{list_any}
@@ -109,5 +110,5 @@ arrival_from from message = record {
 
 -- lack of memory is told apart from all else
 abbrev pub fault_of : Error → InboxFault
-fault_of (SqliteFailure OutOfMemory) = Memory
+fault_of (SqliteFailure OutOfMemory) = Memory alloc_error
 fault_of _ = Store

@@ -50,7 +50,7 @@ IsReason (stop.Denied code verdicts) moves =
     (request : Request) × IsCall moves request (Some (Denied code verdicts)) 0
 IsReason (stop.Refused code reason) moves =
     (request : Request) × IsCall moves request (Some (Refused code reason)) 0
-IsReason stop.Memory moves = (moves ≡ []) ⊎ IsCut moves
+IsReason (stop.Memory refused) moves = (moves ≡ []) ⊎ IsCut moves
 IsReason stop.Store moves = IsCut moves
 
 -- what a tick answers, by the one move that it makes

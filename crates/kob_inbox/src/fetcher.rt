@@ -99,15 +99,17 @@ impl Fetcher {
         let Some(assigned) = place_on(self.subscription.assignment.as_slice(), self.turn) else {
             return Tick::Idle;
         };
-        let Ok(place) = assigned.copy(alloc) else {
-            return Tick::Stopped(StopReason::Memory);
+        let place = match assigned.copy(alloc) {
+            Ok(place) => place,
+            Err(refused) => return Tick::Stopped(StopReason::Memory(refused)),
         };
         let stood = standing_of(&self.cursors, &place);
-        if self.cursors.reserve(1).is_err() {
-            return Tick::Stopped(StopReason::Memory);
+        if let Err(refused) = self.cursors.reserve(1) {
+            return Tick::Stopped(StopReason::Memory(refused));
         }
-        let Ok(request) = self.due(alloc, &place, stood) else {
-            return Tick::Stopped(StopReason::Memory);
+        let request = match self.due(alloc, &place, stood) {
+            Ok(request) => request,
+            Err(refused) => return Tick::Stopped(StopReason::Memory(refused)),
         };
         match line.send(alloc, request) {
             Delivery::Lost => Tick::Repeat,
@@ -249,7 +251,7 @@ impl Fetcher {
         self.advance(place, passed);
         match passed.fault {
             None => Tick::Took(passed.count),
-            Some(InboxFault::Memory) => Tick::Stopped(StopReason::Memory),
+            Some(InboxFault::Memory(refused)) => Tick::Stopped(StopReason::Memory(refused)),
             Some(InboxFault::Store) => Tick::Stopped(StopReason::Store),
         }
     }

@@ -1,6 +1,7 @@
 //! The inbox.
 
 ghost use Rattle.std.specs.Prelude.{◌≡◌, ◌⊎◌, ◌<◌, ◌≤◌, ◌^◌, None, Ok, [], map, IfErr, IfOk, OnErr};
+ghost use Rattle.std.specs.Prelude.{alloc_error};
 ghost use Rattle.std.specs.Prelude.{OnOk, IsErrOf};
 ghost use Rattle.std.specs.List.{enumerate_from};
 ghost use Rattle.kob_router.specs.Route.{event_id};
@@ -61,7 +62,7 @@ impl Inbox {
     pub fn open_in_memory(alloc: Global) -> Result<Inbox, InboxFault>
         ensures { IfOk result (λ inbox. inbox ≡ []) }
     {
-        let mut conn = Connection::open_in_memory(alloc).map_err(|_| InboxFault::Memory)?;
+        let mut conn = Connection::open_in_memory(alloc).map_err(InboxFault::Memory)?;
         create_inbox(&mut conn)?;
         Ok(Inbox {
             conn,
@@ -126,7 +127,7 @@ impl Inbox {
     pub fn taken(&mut self) -> Result<Vec<InboxRow>, InboxFault>
         ensures rows { IfOk result (λ rows.
             map placed_intake rows.items ≡ enumerate_from 1 self.old) }
-        ensures memory { IfErr result (λ f. f ≡ InboxFault.Memory) }
+        ensures memory { IfErr result (λ f. f ≡ InboxFault.Memory alloc_error) }
         ensures same { self.new ≡ self.old }
     {
         all_rows(&mut self.conn, self.alloc)

@@ -1,6 +1,6 @@
 //! Reads of the table. As it is in memory, a read fails only if out of memory.
 
-ghost use Rattle.std.specs.Prelude.{◌≡◌, map, IfErr, IfOk};
+ghost use Rattle.std.specs.Prelude.{◌≡◌, map, IfErr, IfOk, alloc_error};
 ghost use Rattle.std.specs.List.{enumerate_from};
 ghost use Rattle.kob_outbox.specs.Database.{database};
 ghost use Rattle.kob_inbox.specs.Database.{IsInbox, contents};
@@ -22,7 +22,7 @@ pub(crate) fn all_rows(
     requires { IsInbox (database conn.old) }
     ensures rows { IfOk result (λ rows.
         map placed_intake rows.items ≡ enumerate_from 1 (contents conn.old)) }
-    ensures memory { IfErr result (λ f. f ≡ InboxFault.Memory) }
+    ensures memory { IfErr result (λ f. f ≡ InboxFault.Memory alloc_error) }
     ensures inbox { IsInbox (database conn.new) }
     ensures same { contents conn.new ≡ contents conn.old }
 {

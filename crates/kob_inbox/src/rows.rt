@@ -1,6 +1,6 @@
 //! Events read back from the rows of a query.
 
-ghost use Rattle.std.specs.Prelude.{◌≡◌, map, IfOk, IfErr};
+ghost use Rattle.std.specs.Prelude.{◌≡◌, map, IfOk, IfErr, alloc_error};
 ghost use Rattle.std.specs.List.{AllByRecursion};
 ghost use Rattle.kob_inbox.specs.Database.{IsShown, shown_intake};
 ghost use Rattle.kob_inbox.specs.Contents.{placed_intake};
@@ -14,7 +14,7 @@ use uuid::Uuid;
 fn row_of(row: &sqlite::Row) -> Result<InboxRow, InboxFault>
     requires { IsShown row.now }
     ensures row { IfOk result (λ r. shown_intake (placed_intake r) ≡ row.now) }
-    ensures memory { IfErr result (λ f. f ≡ InboxFault.Memory) }
+    ensures memory { IfErr result (λ f. f ≡ InboxFault.Memory alloc_error) }
 {
     let place: u64 = row.get(0)?;
     let partition: u64 = row.get(3)?;
@@ -55,11 +55,13 @@ pub(crate) fn rows_of(alloc: Global, rows: &[sqlite::Row]) -> Result<Vec<InboxRo
     requires { AllByRecursion IsShown rows.now }
     ensures rows { IfOk result (λ out.
         map (λ r. shown_intake (placed_intake r)) out.items ≡ rows.now) }
-    ensures memory { IfErr result (λ f. f ≡ InboxFault.Memory) }
+    ensures memory { IfErr result (λ f. f ≡ InboxFault.Memory alloc_error) }
 {
     let mut out = Vec::new(alloc);
     for row in rows {
-        out.push(row_of(row)?).map_err(|_| InboxFault::Memory)?;
+        let row = row_of(row)?;
+        out.push(row)
+            .map_err(|failed| InboxFault::Memory(failed.into()))?;
     }
     Ok(out)
 }

@@ -2,6 +2,7 @@
 
 use kob_names::{Items, Verdict};
 use kob_rights::{Code, Reason};
+use std::alloc::AllocError;
 
 /// Why a step stopped. The partition keeps its turn.
 #[derive(Debug, Drop)]
@@ -19,7 +20,7 @@ pub enum StopReason {
     },
     /// Out of memory: nothing was sent, or the inbox took in only a prefix of the records that were
     /// received.
-    Memory,
+    Memory(AllocError),
     /// The database failed, and the inbox took in only a prefix of the records that were received.
     Store,
 }

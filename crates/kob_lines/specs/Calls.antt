@@ -1,9 +1,12 @@
 -- What calls make of a line.
 use Rattle.std.specs.Prelude.{◌≡◌, ◌⊎◌, ◌≤◌, ℕ, List, [], ◌∷◌, ◌++◌, map, None, ◌+◌, Option, Some}
 use Rattle.std.specs.List.{All}
-use Rattle.kob_router.specs.Line.{AreServed, Served}
+use Rattle.kob_router.specs.Line.{Adds, AreServed, Served, one_more}
 use Rattle.kob_router.specs.declared.line.Call.{Call}
 use Rattle.kob_shared.specs.Journals.{Record, Seat, IsServed, event_by}
+use Rattle.std.specs.Prelude.{alloc_error}
+use Rattle.kob_shared.specs.declared.faults.CallFault.{CallFault}
+use Rattle.kob_shared.specs.declared.faults.CallFault.TheVariants.{Memory}
 use Rattle.kob_shared.specs.declared.journal.Entry.{Entry}
 use Rattle.kob_rights.specs.declared.reply.Reply.{Reply}
 use Rattle.kob_rights.specs.declared.request.Request.{Request}
@@ -68,6 +71,7 @@ pub record KeepsSeat (old new : Seat) : Type 0 where
   pub principal : new.principal ≡ old.principal
   pub host : new.host ≡ old.host
   pub seen : old.seen ≤ new.seen
+  pub places : new.places ≡ old.places
 
 -- a reply that is delivered was there
 abbrev pub IsHeardOf : Option Reply → Delivery → Type 0
@@ -102,6 +106,16 @@ GainsAtMost before now request =
     (now ≡ before)
     ⊎ ((heard : Option Reply) × (now ≡ before ++ record { request = request; heard = heard } ∷ []))
 
+-- the call was made of the line below, once, or there was no memory to note it there
+abbrev pub IsMadeBelow : List Call → List Call → ℕ → ℕ → Request → Type 0
+IsMadeBelow below then_below unmade then_unmade request =
+    (delivery : Delivery) × Adds below then_below unmade then_unmade request delivery
+
+-- the same, unless there was no memory to note the call above
+abbrev pub IsAsked : ℕ → ℕ → List Call → List Call → ℕ → ℕ → Request → Type 0
+IsAsked own then_own below then_below unmade then_unmade request =
+    (then_own ≡ one_more own) ⊎ IsMadeBelow below then_below unmade then_unmade request
+
 -- what becomes of a call, and whether the line below made it
 abbrev pub PassesOn : Loss → List Call → List Call → Request → Option Reply → Type 0
 PassesOn losses.BeforeServe below then_below request heard = (heard ≡ None) × (then_below ≡ below)
@@ -115,3 +129,9 @@ PassesOn losses.None below then_below request None = GainsAtMost below then_belo
 abbrev pub reply_of : Delivery → Option Reply
 reply_of (Delivered reply) = Some reply
 reply_of Lost = None
+
+-- why a call has no reply, after it was noted: a reply that was there could not be kept
+abbrev pub fault_after : Option CallFault → Option Reply → Delivery → Option CallFault
+fault_after fault None delivery = fault
+fault_after fault (Some reply) (Delivered heard) = fault
+fault_after fault (Some reply) Lost = Some (Memory alloc_error)

@@ -19,34 +19,34 @@ use Rattle.kob_lines.specs.declared.program_fault.ProgramFault.{ProgramFault}
 use Rattle.kob_lines.specs.declared.program_fault.ProgramFault.TheVariants.{Memory, BadText, NotBegun, NotRecorded, Store, NotServed}
 
 abbrev pub fault_of_principal : PrincipalFault → ProgramFault
-fault_of_principal of_principal.Memory = Memory
+fault_of_principal (of_principal.Memory refused) = Memory refused
 fault_of_principal _ = BadText
 
 abbrev pub fault_of_host : HostFault → ProgramFault
-fault_of_host of_host.Memory = Memory
+fault_of_host (of_host.Memory refused) = Memory refused
 fault_of_host _ = BadText
 
 abbrev pub fault_of_route : RouteFault → ProgramFault
-fault_of_route of_route.Memory = Memory
+fault_of_route (of_route.Memory refused) = Memory refused
 fault_of_route _ = BadText
 
 abbrev pub fault_of_opening : OpenFault → ProgramFault
-fault_of_opening of_opening.Memory = Memory
+fault_of_opening (of_opening.Memory refused) = Memory refused
 fault_of_opening of_opening.TooMany = NotBegun
 
 abbrev pub fault_of_record : RecordFault → ProgramFault
-fault_of_record of_record.Memory = Memory
+fault_of_record (of_record.Memory refused) = Memory refused
 fault_of_record of_record.Store = Store
 fault_of_record _ = NotRecorded
 
 abbrev pub fault_of_outbox : OutboxFault → ProgramFault
-fault_of_outbox of_outbox.Memory = Memory
+fault_of_outbox (of_outbox.Memory refused) = Memory refused
 fault_of_outbox of_outbox.Store = Store
 
 abbrev pub fault_of_inbox : InboxFault → ProgramFault
-fault_of_inbox of_inbox.Memory = Memory
+fault_of_inbox (of_inbox.Memory refused) = Memory refused
 fault_of_inbox of_inbox.Store = Store
 
 abbrev pub fault_of_call : CallFault → ProgramFault
-fault_of_call of_call.Memory = Memory
+fault_of_call (of_call.Memory refused) = Memory refused
 fault_of_call _ = NotServed

@@ -124,8 +124,8 @@ impl<'a> Line for BrokerLine<'a> {
         };
         let heard = match self.call(alloc, request) {
             Ok(reply) => within_limit(reply),
-            Err(_) => {
-                self.calls.fault = Some(CallFault::Memory);
+            Err(refused) => {
+                self.calls.fault = Some(CallFault::Memory(refused));
                 None
             }
         };

@@ -1,8 +1,8 @@
 //! What a line keeps of its calls.
 
-ghost use Rattle.std.specs.Prelude.{◌≡◌, ◌<◌, [], ◌∷◌, ◌++◌, None, IfSome, IfNone, OnSome};
-ghost use Rattle.std.specs.Prelude.{vec_capacity, vec_len};
-ghost use Rattle.kob_lines.specs.Calls.{IsHeardOf, reply_of};
+ghost use Rattle.std.specs.Prelude.{◌≡◌, ◌<◌, [], ◌∷◌, ◌++◌, None, IfSome, IfNone, IfOk, OnOk, OnSome};
+ghost use Rattle.std.specs.Prelude.{Some, alloc_error, vec_capacity, vec_len};
+ghost use Rattle.kob_lines.specs.Calls.{IsHeardOf, fault_after, reply_of};
 ghost use Rattle.kob_rights.specs.Requests.{Fits, OffsetsWithin};
 ghost use Rattle.kob_router.specs.Line.{Adds, IsFaithful, one_more};
 
@@ -10,7 +10,7 @@ use kob_names::PlainValue;
 use kob_rights::{Reply, Request};
 use kob_router::{Call, Delivery};
 use kob_shared::CallFault;
-use std::alloc::Global;
+use std::alloc::{AllocError, Global};
 
 /// The calls of a line, the oldest first. A line reserves capacity for a call before it makes it,
 /// and notes it after, so that each call that was made is noted.
@@ -47,16 +47,20 @@ impl Calls {
         ensures same { IfSome result (λ noted. noted ≡ request.now) }
         ensures counted { OnSome result (self.new.unmade ≡ self.old.unmade) }
         ensures refused { IfNone result (self.new.unmade ≡ one_more self.old.unmade) }
+        ensures cleared { OnSome result (self.new.fault ≡ None) }
+        ensures told { IfNone result (self.new.fault ≡ Some (CallFault.Memory alloc_error)) }
     {
-        if self.made.reserve(1).is_ok()
-            && let Ok(noted) = request.copy(alloc)
-        {
-            self.fault = None;
-            return Some(noted);
+        match note_of(&mut self.made, alloc, request) {
+            Ok(noted) => {
+                self.fault = None;
+                Some(noted)
+            }
+            Err(refused) => {
+                self.unmade = self.unmade.saturating_add(1);
+                self.fault = Some(CallFault::Memory(refused));
+                None
+            }
         }
-        self.unmade = self.unmade.saturating_add(1);
-        self.fault = Some(CallFault::Memory);
-        None
     }
 
     /// Notes a call, for which capacity is reserved, with its reply, if one was received. If there
@@ -71,6 +75,8 @@ impl Calls {
         ensures heard { IsHeardOf heard result }
         ensures noted { self.new.made.items
             ≡ self.old.made.items ++ record { request = request; heard = reply_of result } ∷ [] }
+        ensures counted { self.new.unmade ≡ self.old.unmade }
+        ensures told { self.new.fault ≡ fault_after self.old.fault heard result }
     {
         let Some(reply) = heard else {
             self.made.push_reserved(Call {
@@ -87,9 +93,9 @@ impl Calls {
                 });
                 Delivery::Delivered(reply)
             }
-            Err(_) => {
+            Err(refused) => {
                 drop(reply);
-                self.fault = Some(CallFault::Memory);
+                self.fault = Some(CallFault::Memory(refused));
                 self.made.push_reserved(Call {
                     request,
                     heard: None,
@@ -98,4 +104,14 @@ impl Calls {
             }
         }
     }
+}
+
+/// Reserves capacity for one more call, and copies the request for its note.
+fn note_of(made: &mut Vec<Call>, alloc: Global, request: &Request) -> Result<Request, AllocError>
+    ensures made { made.new.items ≡ made.old.items }
+    ensures room { OnOk result (vec_len made.new < vec_capacity made.new) }
+    ensures same { IfOk result (λ noted. noted ≡ request.now) }
+{
+    made.reserve(1)?;
+    request.copy(alloc)
 }

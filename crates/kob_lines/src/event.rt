@@ -16,15 +16,28 @@ pub(crate) fn event_of(
 ) -> Result<Event, AllocError>
     ensures { IfOk result (λ event. event ≡ event_by principal.now host.now request) }
 {
-    match (principal.copy(alloc), host.copy(alloc)) {
-        (Ok(principal), Ok(host)) => Ok(Event {
+    match asker_of(alloc, principal, host) {
+        Ok((principal, host)) => Ok(Event {
             principal,
             host,
             request,
         }),
-        _ => {
+        Err(refused) => {
             drop(request);
-            Err(AllocError)
+            Err(refused)
         }
     }
+}
+
+/// Copies of the principal and the host that ask.
+fn asker_of(
+    alloc: Global,
+    principal: &Principal,
+    host: &Host,
+) -> Result<(Principal, Host), AllocError>
+    ensures { IfOk result (λ asker. (asker.0 ≡ principal.now) × (asker.1 ≡ host.now)) }
+{
+    let principal = principal.copy(alloc)?;
+    let host = host.copy(alloc)?;
+    Ok((principal, host))
 }

@@ -2,7 +2,7 @@
 
 ghost use Rattle.std.specs.Prelude.{◌≡◌, [], None, IfSome};
 ghost use Rattle.kob_rights.specs.Requests.{Fits, OffsetsWithin};
-ghost use Rattle.kob_lines.specs.Calls.{PassesOn, reply_of};
+ghost use Rattle.kob_lines.specs.Calls.{IsAsked, IsMadeBelow, PassesOn, reply_of};
 ghost use Rattle.kob_router.specs.Line.{Adds, IsFaithful};
 
 use crate::calls::Calls;
@@ -92,6 +92,10 @@ impl<L: Line> Line for Lossy<L> {
         ensures loss { self.new.loss ≡ Loss.None }
         ensures passed { PassesOn self.old.loss (L.calls self.old.line) (L.calls self.new.line)
             request (reply_of result) }
+        ensures asked { self.old.loss ≡ Loss.AfterServe
+            → IsAsked self.old.calls.unmade self.new.calls.unmade
+            (L.calls self.old.line) (L.calls self.new.line)
+            (L.unmade self.old.line) (L.unmade self.new.line) request }
         ensures line { L.becomes self.old.line self.new.line
             × PassesCallsOn self.old.calls.made.items self.new.calls.made.items
             (L.calls self.old.line) (L.calls self.new.line) }
@@ -129,6 +133,8 @@ impl<L: Line> Line for Lossy<L> {
 /// Makes a call on the line, unless it is lost before. Returns the reply, unless it is lost.
 fn pass_on<L: Line>(line: &mut L, alloc: Global, request: Request, loss: Loss) -> Option<Reply>
     ensures passed { PassesOn loss (L.calls line.old) (L.calls line.new) request result }
+    ensures asked { loss ≡ Loss.AfterServe → IsMadeBelow (L.calls line.old) (L.calls line.new)
+        (L.unmade line.old) (L.unmade line.new) request }
     ensures line { L.becomes line.old line.new }
     ensures fits { IfSome result (λ reply. Fits request reply) }
     ensures within { IfSome result (λ reply. OffsetsWithin reply) }

@@ -1,6 +1,6 @@
 //! Whether the offsets of a reply are within the limit of a log.
 
-ghost use Rattle.std.specs.Prelude.{◌≡◌, IfSome, IsTrue};
+ghost use Rattle.std.specs.Prelude.{◌≡◌, ◌↔◌, IfNone, IfSome, IsTrue};
 ghost use Rattle.kob_rights.specs.Requests.{BodyWithin, OffsetsWithin};
 
 use kob_rights::{Body, Reply};
@@ -12,6 +12,7 @@ const OFFSET_LIMIT: u64 = 9_223_372_036_854_775_807;
 pub(crate) fn within_limit(reply: Reply) -> Option<Reply>
     ensures same { IfSome result (λ kept. kept ≡ reply) }
     ensures within { IfSome result (λ kept. OffsetsWithin kept) }
+    ensures lost { IfNone result (¬ OffsetsWithin reply) }
 {
     if is_within(&reply) {
         return Some(reply);
@@ -21,7 +22,7 @@ pub(crate) fn within_limit(reply: Reply) -> Option<Reply>
 }
 
 fn is_within(reply: &Reply) -> bool
-    ensures { IsTrue result → OffsetsWithin reply.now }
+    ensures { IsTrue result ↔ OffsetsWithin reply.now }
 {
     match reply {
         Reply::Done(body) => body_is_within(body),
@@ -31,7 +32,7 @@ fn is_within(reply: &Reply) -> bool
 }
 
 fn body_is_within(body: &Body) -> bool
-    ensures { IsTrue result → BodyWithin body.now }
+    ensures { IsTrue result ↔ BodyWithin body.now }
 {
     match body {
         Body::Offset(offset) => *offset <= OFFSET_LIMIT,
@@ -41,6 +42,14 @@ fn body_is_within(body: &Body) -> bool
             .as_slice()
             .iter()
             .all(|entry| entry.0 < OFFSET_LIMIT),
-        _ => true,
+        Body::Commit(None)
+        | Body::Topics(_)
+        | Body::Groups(_)
+        | Body::Producer { .. }
+        | Body::Bindings(_)
+        | Body::Serials(_)
+        | Body::Committed
+        | Body::Created
+        | Body::Deleted => true,
     }
 }

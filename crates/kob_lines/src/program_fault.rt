@@ -1,6 +1,6 @@
 //! One fault for a program that runs services and consumers.
 
-ghost use Rattle.std.specs.Prelude.{◌≡◌};
+ghost use Rattle.std.specs.Prelude.{◌≡◌, alloc_error};
 ghost use Rattle.kob_lines.specs.declared.program_fault.ProgramFault.TheVariants.{Memory};
 ghost use Rattle.kob_lines.specs.ProgramFaults.{fault_of_call, fault_of_host, fault_of_inbox};
 ghost use Rattle.kob_lines.specs.ProgramFaults.{fault_of_opening, fault_of_outbox, fault_of_principal};
@@ -21,7 +21,7 @@ use thiserror::Error;
 #[derive(Clone, Copy, Debug, PartialEq, Eq, Error)]
 pub enum ProgramFault {
     #[error("out of memory")]
-    Memory,
+    Memory(AllocError),
     /// A text is not a valid principal, host, route or other value.
     #[error("invalid text")]
     BadText,
@@ -44,18 +44,18 @@ pub enum ProgramFault {
 }
 
 impl From<AllocError> for ProgramFault {
-    ghost from_gives = { λ _ fault. fault ≡ Memory };
+    ghost from_gives = { λ refused fault. fault ≡ Memory refused };
 
-    fn from(_refused: AllocError) -> ProgramFault {
-        ProgramFault::Memory
+    fn from(refused: AllocError) -> ProgramFault {
+        ProgramFault::Memory(refused)
     }
 }
 
 impl<T: Drop> From<AllocFailed<T>> for ProgramFault {
-    ghost from_gives = { λ _ fault. fault ≡ Memory };
+    ghost from_gives = { λ _ fault. fault ≡ Memory alloc_error };
 
-    fn from(_refused: AllocFailed<T>) -> ProgramFault {
-        ProgramFault::Memory
+    fn from(refused: AllocFailed<T>) -> ProgramFault {
+        ProgramFault::Memory(AllocError::from(refused))
     }
 }
 
@@ -64,7 +64,7 @@ impl From<PrincipalFault> for ProgramFault {
 
     fn from(fault: PrincipalFault) -> ProgramFault {
         match fault {
-            PrincipalFault::Memory => ProgramFault::Memory,
+            PrincipalFault::Memory(refused) => ProgramFault::Memory(refused),
             _ => ProgramFault::BadText,
         }
     }
@@ -75,7 +75,7 @@ impl From<HostFault> for ProgramFault {
 
     fn from(fault: HostFault) -> ProgramFault {
         match fault {
-            HostFault::Memory => ProgramFault::Memory,
+            HostFault::Memory(refused) => ProgramFault::Memory(refused),
             _ => ProgramFault::BadText,
         }
     }
@@ -86,7 +86,7 @@ impl From<RouteFault> for ProgramFault {
 
     fn from(fault: RouteFault) -> ProgramFault {
         match fault {
-            RouteFault::Memory => ProgramFault::Memory,
+            RouteFault::Memory(refused) => ProgramFault::Memory(refused),
             _ => ProgramFault::BadText,
         }
     }
@@ -97,7 +97,7 @@ impl From<OpenFault> for ProgramFault {
 
     fn from(fault: OpenFault) -> ProgramFault {
         match fault {
-            OpenFault::Memory => ProgramFault::Memory,
+            OpenFault::Memory(refused) => ProgramFault::Memory(refused),
             OpenFault::TooMany => ProgramFault::NotBegun,
         }
     }
@@ -108,7 +108,7 @@ impl From<RecordFault> for ProgramFault {
 
     fn from(fault: RecordFault) -> ProgramFault {
         match fault {
-            RecordFault::Memory => ProgramFault::Memory,
+            RecordFault::Memory(refused) => ProgramFault::Memory(refused),
             RecordFault::Store => ProgramFault::Store,
             RecordFault::BadField(_) | RecordFault::DuplicateId => ProgramFault::NotRecorded,
         }
@@ -120,7 +120,7 @@ impl From<OutboxFault> for ProgramFault {
 
     fn from(fault: OutboxFault) -> ProgramFault {
         match fault {
-            OutboxFault::Memory => ProgramFault::Memory,
+            OutboxFault::Memory(refused) => ProgramFault::Memory(refused),
             OutboxFault::Store => ProgramFault::Store,
         }
     }
@@ -131,7 +131,7 @@ impl From<InboxFault> for ProgramFault {
 
     fn from(fault: InboxFault) -> ProgramFault {
         match fault {
-            InboxFault::Memory => ProgramFault::Memory,
+            InboxFault::Memory(refused) => ProgramFault::Memory(refused),
             InboxFault::Store => ProgramFault::Store,
         }
     }
@@ -142,7 +142,7 @@ impl From<CallFault> for ProgramFault {
 
     fn from(fault: CallFault) -> ProgramFault {
         match fault {
-            CallFault::Memory => ProgramFault::Memory,
+            CallFault::Memory(refused) => ProgramFault::Memory(refused),
             CallFault::JournalFull | CallFault::Stale { .. } => ProgramFault::NotServed,
         }
     }

@@ -1,8 +1,9 @@
 -- Which texts are names of topics, names of groups, hosts and principals. Limits are in bytes.
-use Rattle.std.specs.Prelude.{Bool, not, ◌||◌, List, ℕ, ◌==◌, ◌≡◌, nat_lt, if◌then◌else◌, Option, Some, None, Result, Ok, Err, is_none, length, codes}
+use Rattle.std.specs.Prelude.{Bool, not, ◌||◌, List, ℕ, ◌==◌, ◌≡◌, nat_lt, if◌then◌else◌, Option, Some, None, Result, Ok, Err, is_none, length, codes, alloc_error}
 use Rattle.std.specs.Char.{is_ascii_alphanumeric}
 use Rattle.std.specs.List.{position, before_first, after_first}
 use Rattle.std.specs.Option.{option_map}
+use Rattle.std.specs.declared.alloc.AllocError.{AllocError}
 use Rattle.kob_names.specs.Same.{same_text}
 use Rattle.kob_names.specs.declared.group_name.GroupNameFault.{GroupNameFault}
 use Rattle.kob_names.specs.declared.group_name.GroupNameFault.TheVariants as group
@@ -69,8 +70,8 @@ principal_fault text =
     if is_none (position is_colon text) then Some NoColon
     else (parts_fault (before_first is_colon text) (after_first is_colon text))
 
--- a check returns the fault that the rules find; without one, the value or out of memory
-abbrev pub OkUnlessFault : {A E : Type 0} → Option E → E → A → Result A E → Type 0
+-- a check returns the fault that the rules find; without one, the value, or out of memory alone
+abbrev pub OkUnlessFault : {A E : Type 0} → Option E → (AllocError → E) → A → Result A E → Type 0
 OkUnlessFault (Some fault) memory value result = result ≡ Err fault
 OkUnlessFault None memory value (Ok made) = made ≡ value
-OkUnlessFault None memory value (Err fault) = fault ≡ memory
+OkUnlessFault None memory value (Err fault) = fault ≡ memory alloc_error

@@ -40,10 +40,8 @@ impl Binding {
         if let Some(fault) = draft.fault() {
             return Err(fault);
         }
-        match draft.copy(alloc) {
-            Ok(draft) => Ok(Binding { draft }),
-            Err(_) => Err(BindingFault::Memory),
-        }
+        let draft = draft.copy(alloc).map_err(BindingFault::Memory)?;
+        Ok(Binding { draft })
     }
 
     /// The parts of the binding, which break no rule. Does not allocate.

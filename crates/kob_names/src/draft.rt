@@ -33,12 +33,12 @@ pub enum BindingFault {
     #[error("the pattern's name is too long")]
     TooLong,
     #[error("out of memory")]
-    Memory,
+    Memory(AllocError),
 }
 
 impl Draft {
-    /// The first rule for bindings that the draft breaks.
-    pub(crate) fn fault(&self) -> Option<BindingFault>
+    /// The first rule for bindings that the draft breaks, if it breaks one. Does not allocate.
+    pub fn fault(&self) -> Option<BindingFault>
         ensures { result ≡ draft_fault self.now }
     {
         let name = self.pattern.name.as_str();

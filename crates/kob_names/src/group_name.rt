@@ -3,7 +3,6 @@
 ghost use Rattle.std.specs.Prelude.{◌≡◌, IfOk, None};
 ghost use Rattle.kob_names.specs.TextRules.{OkUnlessFault, group_fault};
 
-use crate::checked::checked_copy;
 use crate::limits::NAME_LIMIT;
 use crate::plain_value::PlainValue;
 use crate::text::Text;
@@ -38,7 +37,7 @@ pub enum GroupNameFault {
     #[error("the group name is too long")]
     TooLong,
     #[error("out of memory")]
-    Memory,
+    Memory(AllocError),
 }
 
 impl GroupName {
@@ -47,7 +46,10 @@ impl GroupName {
     pub fn parse(alloc: Global, text: &str) -> Result<GroupName, GroupNameFault>
         ensures { OkUnlessFault (group_fault text.now) GroupNameFault.Memory text.now result }
     {
-        let text = checked_copy(alloc, text, fault_of(text), GroupNameFault::Memory)?;
+        if let Some(fault) = fault_of(text) {
+            return Err(fault);
+        }
+        let text = Text::copied(alloc, text).map_err(GroupNameFault::Memory)?;
         Ok(GroupName { text })
     }
 

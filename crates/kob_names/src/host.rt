@@ -3,7 +3,6 @@
 ghost use Rattle.std.specs.Prelude.{◌≡◌, IfOk, None};
 ghost use Rattle.kob_names.specs.TextRules.{OkUnlessFault, host_fault};
 
-use crate::checked::checked_copy;
 use crate::limits::NAME_LIMIT;
 use crate::plain_value::PlainValue;
 use crate::text::Text;
@@ -38,7 +37,7 @@ pub enum HostFault {
     #[error("the host is too long")]
     TooLong,
     #[error("out of memory")]
-    Memory,
+    Memory(AllocError),
 }
 
 impl Host {
@@ -47,7 +46,10 @@ impl Host {
     pub fn parse(alloc: Global, text: &str) -> Result<Host, HostFault>
         ensures { OkUnlessFault (host_fault text.now) HostFault.Memory text.now result }
     {
-        let text = checked_copy(alloc, text, fault_of(text), HostFault::Memory)?;
+        if let Some(fault) = fault_of(text) {
+            return Err(fault);
+        }
+        let text = Text::copied(alloc, text).map_err(HostFault::Memory)?;
         Ok(Host { text })
     }
 

@@ -3,7 +3,6 @@
 ghost use Rattle.std.specs.Prelude.{◌≡◌, IfOk, None};
 ghost use Rattle.kob_names.specs.TextRules.{OkUnlessFault, principal_fault, parts_fault};
 
-use crate::checked::checked_copy;
 use crate::limits::NAME_LIMIT;
 use crate::plain_value::PlainValue;
 use crate::text::Text;
@@ -42,7 +41,7 @@ pub enum PrincipalFault {
     #[error("the principal's name is too long")]
     TooLong,
     #[error("out of memory")]
-    Memory,
+    Memory(AllocError),
 }
 
 impl Principal {
@@ -52,7 +51,10 @@ impl Principal {
     pub fn parse(alloc: Global, text: &str) -> Result<Principal, PrincipalFault>
         ensures { OkUnlessFault (principal_fault text.now) PrincipalFault.Memory text.now result }
     {
-        let text = checked_copy(alloc, text, fault_of(text), PrincipalFault::Memory)?;
+        if let Some(fault) = fault_of(text) {
+            return Err(fault);
+        }
+        let text = Text::copied(alloc, text).map_err(PrincipalFault::Memory)?;
         Ok(Principal { text })
     }
 

@@ -4,7 +4,6 @@ ghost use Rattle.std.specs.Prelude.{◌≡◌, IfOk, None, not};
 ghost use Rattle.std.specs.List.{position};
 ghost use Rattle.kob_names.specs.TextRules.{OkUnlessFault, topic_fault, is_topic_byte};
 
-use crate::checked::checked_copy;
 use crate::limits::TOPIC_NAME_LIMIT;
 use crate::plain_value::PlainValue;
 use crate::text::Text;
@@ -43,7 +42,7 @@ pub enum TopicNameFault {
     #[error("the topic name has an invalid byte at {0}")]
     BadByte(usize),
     #[error("out of memory")]
-    Memory,
+    Memory(AllocError),
 }
 
 impl TopicName {
@@ -53,12 +52,10 @@ impl TopicName {
     pub fn parse(alloc: Global, text: &str) -> Result<TopicName, TopicNameFault>
         ensures { OkUnlessFault (topic_fault text.now) TopicNameFault.Memory text.now result }
     {
-        let text = checked_copy(
-            alloc,
-            text,
-            TopicNameFault::of(text),
-            TopicNameFault::Memory,
-        )?;
+        if let Some(fault) = TopicNameFault::of(text) {
+            return Err(fault);
+        }
+        let text = Text::copied(alloc, text).map_err(TopicNameFault::Memory)?;
         Ok(TopicName { text })
     }
 

@@ -1,4 +1,5 @@
 -- What becomes of an error of the database.
+use Rattle.std.specs.Prelude.{alloc_error}
 use Rattle.sqlite.specs.declared.error.Error.{Error}
 use Rattle.sqlite.specs.declared.error.Error.TheVariants.{SqliteFailure}
 use Rattle.sqlite.specs.declared.error.ErrorCode.TheVariants.{OutOfMemory}
@@ -11,15 +12,15 @@ use Rattle.kob_outbox.specs.declared.fault.RecordFault.TheVariants as of_record
 
 -- lack of memory is told apart from all else
 abbrev pub fault_of : Error → OutboxFault
-fault_of (SqliteFailure OutOfMemory) = Memory
+fault_of (SqliteFailure OutOfMemory) = Memory alloc_error
 fault_of _ = Store
 
 -- the same for a record
 abbrev pub record_fault : OutboxFault → RecordFault
-record_fault Memory = of_record.Memory
+record_fault (Memory refused) = of_record.Memory refused
 record_fault Store = of_record.Store
 
 -- the same for the mark
 abbrev pub mark_fault : OutboxFault → MarkFault
-mark_fault Memory = of_mark.Memory
+mark_fault (Memory refused) = of_mark.Memory refused
 mark_fault Store = of_mark.Store

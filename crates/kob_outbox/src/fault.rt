@@ -2,13 +2,14 @@
 
 use crate::fields::Column;
 use sqlite::{Error, ErrorCode};
+use std::alloc::AllocError;
 use thiserror::Error as Fault;
 
 /// Why a call failed that can fail only in the database.
 #[derive(Clone, Copy, Debug, PartialEq, Eq, Fault)]
 pub enum OutboxFault {
     #[error("out of memory")]
-    Memory,
+    Memory(AllocError),
     /// The database failed for another cause than out of memory.
     #[error("the database failed")]
     Store,
@@ -24,7 +25,7 @@ pub enum RecordFault {
     #[error("the event's id was recorded before")]
     DuplicateId,
     #[error("out of memory")]
-    Memory,
+    Memory(AllocError),
     /// The database failed for another cause than out of memory, or all numbers are used.
     #[error("the database failed")]
     Store,
@@ -40,7 +41,7 @@ pub enum MarkFault {
     #[error("no event has this number yet")]
     Ahead,
     #[error("out of memory")]
-    Memory,
+    Memory(AllocError),
     /// The database failed for another cause than out of memory.
     #[error("the database failed")]
     Store,
@@ -54,7 +55,7 @@ impl From<Error> for OutboxFault {
 
     fn from(error: Error) -> OutboxFault {
         match error {
-            Error::SqliteFailure(ErrorCode::OutOfMemory) => OutboxFault::Memory,
+            Error::SqliteFailure(ErrorCode::OutOfMemory) => OutboxFault::Memory(AllocError),
             _ => OutboxFault::Store,
         }
     }
@@ -68,7 +69,7 @@ impl From<OutboxFault> for MarkFault {
 
     fn from(fault: OutboxFault) -> MarkFault {
         match fault {
-            OutboxFault::Memory => MarkFault::Memory,
+            OutboxFault::Memory(refused) => MarkFault::Memory(refused),
             OutboxFault::Store => MarkFault::Store,
         }
     }
@@ -82,7 +83,7 @@ impl From<OutboxFault> for RecordFault {
 
     fn from(fault: OutboxFault) -> RecordFault {
         match fault {
-            OutboxFault::Memory => RecordFault::Memory,
+            OutboxFault::Memory(refused) => RecordFault::Memory(refused),
             OutboxFault::Store => RecordFault::Store,
         }
     }

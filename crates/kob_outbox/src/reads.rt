@@ -1,6 +1,6 @@
 //! Reads of the tables. As these are in memory, a read fails only if out of memory.
 
-ghost use Rattle.std.specs.Prelude.{◌≡◌, option_map, string_bytes, map, IfErr, IfOk};
+ghost use Rattle.std.specs.Prelude.{◌≡◌, option_map, string_bytes, map, IfErr, IfOk, alloc_error};
 ghost use Rattle.kob_outbox.specs.Contents.{stored_row, first_after, state_at};
 ghost use Rattle.kob_outbox.specs.Database.{IsService, contents, database};
 
@@ -23,7 +23,7 @@ pub(crate) fn state_of(
     requires { IsService (database conn.old) }
     ensures value { IfOk result (λ found.
         option_map string_bytes found ≡ state_at kind.now id.now (contents conn.old).business) }
-    ensures memory { IfErr result (λ f. f ≡ OutboxFault.Memory) }
+    ensures memory { IfErr result (λ f. f ≡ OutboxFault.Memory alloc_error) }
     ensures service { IsService (database conn.new) }
     ensures same { contents conn.new ≡ contents conn.old }
 {
@@ -43,7 +43,7 @@ pub(crate) fn rows_after(
     requires { IsService (database conn.old) }
     ensures rows { IfOk result (λ rows.
         map stored_row rows.items ≡ first_after seq limit (contents conn.old).events) }
-    ensures memory { IfErr result (λ f. f ≡ OutboxFault.Memory) }
+    ensures memory { IfErr result (λ f. f ≡ OutboxFault.Memory alloc_error) }
     ensures service { IsService (database conn.new) }
     ensures same { contents conn.new ≡ contents conn.old }
 {

@@ -1,6 +1,6 @@
 //! Events read back from the rows of a query.
 
-ghost use Rattle.std.specs.Prelude.{◌≡◌, map, IfOk, IfErr};
+ghost use Rattle.std.specs.Prelude.{◌≡◌, map, IfOk, IfErr, alloc_error};
 ghost use Rattle.std.specs.List.{AllByRecursion};
 ghost use Rattle.kob_outbox.specs.Contents.{stored_row};
 ghost use Rattle.kob_outbox.specs.Layout.{IsShown, shown_event};
@@ -14,7 +14,7 @@ use uuid::Uuid;
 fn row_of(row: &sqlite::Row) -> Result<Row, OutboxFault>
     requires { IsShown row.now }
     ensures row { IfOk result (λ r. shown_event (stored_row r) ≡ row.now) }
-    ensures memory { IfErr result (λ f. f ≡ OutboxFault.Memory) }
+    ensures memory { IfErr result (λ f. f ≡ OutboxFault.Memory alloc_error) }
 {
     let id: String = row.get(1)?;
     let payload: Vec<u8> = row.get(5)?;
@@ -35,11 +35,13 @@ fn row_of(row: &sqlite::Row) -> Result<Row, OutboxFault>
 pub(crate) fn rows_of(alloc: Global, rows: &[sqlite::Row]) -> Result<Vec<Row>, OutboxFault>
     requires { AllByRecursion IsShown rows.now }
     ensures rows { IfOk result (λ out. map (λ r. shown_event (stored_row r)) out.items ≡ rows.now) }
-    ensures memory { IfErr result (λ f. f ≡ OutboxFault.Memory) }
+    ensures memory { IfErr result (λ f. f ≡ OutboxFault.Memory alloc_error) }
 {
     let mut out = Vec::new(alloc);
     for row in rows {
-        out.push(row_of(row)?).map_err(|_| OutboxFault::Memory)?;
+        let row = row_of(row)?;
+        out.push(row)
+            .map_err(|failed| OutboxFault::Memory(failed.into()))?;
     }
     Ok(out)
 }

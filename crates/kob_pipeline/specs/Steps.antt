@@ -64,7 +64,7 @@ pub record HasWorked {S T M : Type 0} (does : Doing S T M) (start : S) (planned 
 
 -- neither memory nor the database stopped the tick
 abbrev pub ServiceGoesOn : RouterTick → Type 0
-ServiceGoesOn (RouterStopped router_stops.Memory) = ⊥
+ServiceGoesOn (RouterStopped (router_stops.Memory refused)) = ⊥
 ServiceGoesOn (RouterStopped router_stops.Store) = ⊥
 ServiceGoesOn tick = Unit {0}
 
@@ -107,7 +107,7 @@ pub record IsServiceRun (service : Service) (noted : Noted) (left : OutboxEnd) :
 
 -- neither memory nor the database stopped the tick
 abbrev pub ConsumerGoesOn : ConsumerTick → Type 0
-ConsumerGoesOn (ConsumerStopped consumer_stops.Memory) = ⊥
+ConsumerGoesOn (ConsumerStopped (consumer_stops.Memory refused)) = ⊥
 ConsumerGoesOn (ConsumerStopped consumer_stops.Store) = ⊥
 ConsumerGoesOn tick = Unit {0}
 

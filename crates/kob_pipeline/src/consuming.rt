@@ -132,7 +132,9 @@ fn goes_on(tick: Tick) -> Result<(), StepFault>
     ensures err { OnErr result (¬ (ConsumerGoesOn tick)) }
 {
     match tick {
-        Tick::Stopped(StopReason::Memory) => Err(StepFault::Call(CallFault::Memory)),
+        Tick::Stopped(StopReason::Memory(refused)) => {
+            Err(StepFault::Call(CallFault::Memory(refused)))
+        }
         Tick::Stopped(StopReason::Store) => Err(StepFault::Store),
         _ => Ok(()),
     }

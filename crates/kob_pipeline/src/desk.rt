@@ -1,7 +1,7 @@
 //! Desks, which are sessions with notes, for the workers of a plan.
 
 ghost use Rattle.std.specs.Prelude.{◌≡◌, IfOk};
-ghost use Rattle.kob_shared.specs.Journals.{nothing};
+ghost use Rattle.kob_shared.specs.Journals.{entry_limit, new_seat, nothing};
 
 use kob_names::{Host, PlainValue, Principal};
 use kob_shared::{Desk, SharedBroker};
@@ -16,12 +16,7 @@ pub(crate) fn desk_at<'a>(
     host: &Host,
 ) -> Result<Desk<'a>, AllocError>
     ensures { IfOk result (λ desk. desk ≡ record {
-      seat = record {
-        worker = worker;
-        principal = principal.now;
-        host = host.now;
-        seen = 0;
-      };
+      seat = new_seat worker principal.now host.now entry_limit;
       noted = nothing;
     }) }
 {

@@ -2,7 +2,7 @@
 
 use crate::end::WorkerEnd;
 use kob_shared::{FleetStop, Ran};
-use std::alloc::{AllocError, AllocFailed};
+use std::alloc::AllocError;
 
 /// Why a pipeline did not run to its end.
 #[derive(Drop)]
@@ -30,22 +30,10 @@ impl From<AllocError> for PipelineFault {
     ghost use Rattle.kob_pipeline.specs.declared.fault.PipelineFault.TheVariants.{Stopped};
     ghost use Rattle.kob_shared.specs.declared.fleet_stop.FleetStop.TheVariants.{Memory};
 
-    ghost from_gives = { λ _ fault. fault ≡ Stopped Memory };
+    ghost from_gives = { λ refused fault. fault ≡ Stopped (Memory refused) };
 
-    fn from(_refused: AllocError) -> PipelineFault {
-        PipelineFault::Stopped(FleetStop::Memory)
-    }
-}
-
-impl<T: Drop> From<AllocFailed<T>> for PipelineFault {
-    ghost use Rattle.std.specs.Prelude.{◌≡◌};
-    ghost use Rattle.kob_pipeline.specs.declared.fault.PipelineFault.TheVariants.{Stopped};
-    ghost use Rattle.kob_shared.specs.declared.fleet_stop.FleetStop.TheVariants.{Memory};
-
-    ghost from_gives = { λ _ fault. fault ≡ Stopped Memory };
-
-    fn from(_refused: AllocFailed<T>) -> PipelineFault {
-        PipelineFault::Stopped(FleetStop::Memory)
+    fn from(refused: AllocError) -> PipelineFault {
+        PipelineFault::Stopped(FleetStop::Memory(refused))
     }
 }
 

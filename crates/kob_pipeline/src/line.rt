@@ -1,7 +1,7 @@
 //! A line over a desk, which loses the calls that a plan loses.
 
 ghost use Rattle.std.specs.Prelude.{◌≡◌, ◌<◌, ◌⊎◌, [], ◌∷◌, ◌++◌, None, OnOk, Some, IfErr, IfNone};
-ghost use Rattle.std.specs.Prelude.{IfOk, IfSome, vec_capacity, vec_len};
+ghost use Rattle.std.specs.Prelude.{IfOk, IfSome, alloc_error, vec_capacity, vec_len};
 ghost use Rattle.kob_lines.specs.Calls.{reply_of};
 ghost use Rattle.kob_rights.specs.Requests.{Fits, OffsetsWithin};
 ghost use Rattle.kob_pipeline.specs.Served.{AreNotedOrLost};
@@ -12,7 +12,7 @@ use kob_names::PlainValue;
 use kob_rights::{Reply, Request};
 use kob_router::{Call, Delivery, Line};
 use kob_shared::{CallFault, Desk, Gate, Notes};
-use std::alloc::Global;
+use std::alloc::{AllocError, Global};
 use std::sync::Wait;
 
 /// A line over a desk. Each call is made once the gate lets it pass, and noted with the reply that
@@ -65,13 +65,13 @@ impl<'a, R: Wait, G: Gate> DeskLine<'a, R, G> {
         ensures fault { OnOk result (self.now.fault ≡ None) }
         ensures unmade { OnOk result (self.now.calls.unmade ≡ 0) }
         ensures own { IfErr result (λ fault. (self.now.fault ≡ Some fault)
-            ⊎ ((fault ≡ CallFault.Memory) × (0 < self.now.calls.unmade))) }
+            ⊎ ((fault ≡ CallFault.Memory alloc_error) × (0 < self.now.calls.unmade))) }
     {
         if let Some(fault) = self.fault {
             return Err(fault);
         }
         if self.calls.unmade > 0 {
-            return Err(CallFault::Memory);
+            return Err(CallFault::Memory(AllocError));
         }
         Ok(())
     }
@@ -173,7 +173,7 @@ impl<'a, R: Wait, G: Gate> DeskLine<'a, R, G> {
             Delivery::Delivered(reply) => Delivery::Delivered(reply),
             Delivery::Lost => {
                 if is_heard {
-                    self.fault = Some(CallFault::Memory);
+                    self.fault = self.calls.fault;
                 }
                 Delivery::Lost
             }
@@ -199,7 +199,7 @@ impl<'a, R: Wait, G: Gate> Line for DeskLine<'a, R, G> {
         self.loss = Loss::None;
         let Some(noted) = self.calls.room_for(alloc, &request) else {
             drop(request);
-            self.fault = Some(CallFault::Memory);
+            self.fault = self.calls.fault;
             return Delivery::Lost;
         };
         self.ask();

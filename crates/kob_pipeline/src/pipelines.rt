@@ -104,7 +104,7 @@ fn broker_of(alloc: Global, settings: &Settings) -> Result<Broker, AllocError>
 {
     match Broker::open(alloc, settings.copy(alloc)?) {
         Ok(broker) => Ok(broker),
-        Err(OpenFault::Memory) => Err(AllocError),
+        Err(OpenFault::Memory(refused)) => Err(refused),
         Err(OpenFault::TooMany) => unreachable!(),
     }
 }

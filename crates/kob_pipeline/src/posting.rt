@@ -1,6 +1,7 @@
 //! A service with its router and its outbox, and its steps.
 
 ghost use Rattle.std.specs.Prelude.{◌≡◌, ◌≤◌, ◌⊎◌, ◌^◌, ◌++◌, [], map, IfErr, IfOk, IsErrOf, None};
+ghost use Rattle.std.specs.Prelude.{alloc_error};
 ghost use Rattle.std.specs.Prelude.{◌-◌, OnErr, OnOk, false, length, option_map, slice_get};
 ghost use Rattle.std.specs.Prelude.{unwrap_or};
 ghost use Rattle.kob_outbox.specs.Contents.{id_text, stored_row, first_bad, later_than};
@@ -115,7 +116,7 @@ impl Posting {
             (with_desk (state_of self.new.router self.new.outbox) desk)) }
         ensures fits { OnErr result (first_bad change.now event.now ≡ None) }
         ensures own { IfErr result (λ fault.
-            (fault ≡ StepFault.Store) ⊎ (fault ≡ StepFault.Call CallFault.Memory)) }
+            (fault ≡ StepFault.Store) ⊎ (fault ≡ StepFault.Call (CallFault.Memory alloc_error))) }
         ensures fresh { IsErrOf result StepFault.Store
             → (is_recorded self.old.outbox.ids (id_text event.now.id) ≡ false)
             ⊎ (next_seq self.old.outbox ≡ 2 ^ 63) }
@@ -124,7 +125,7 @@ impl Posting {
             Ok(_) => Ok(()),
             Err(RecordFault::BadField(_)) => Ok(()),
             Err(RecordFault::DuplicateId) => Ok(()),
-            Err(RecordFault::Memory) => Err(StepFault::Call(CallFault::Memory)),
+            Err(RecordFault::Memory(refused)) => Err(StepFault::Call(CallFault::Memory(refused))),
             Err(RecordFault::Store) => Err(StepFault::Store),
         }
     }
@@ -192,7 +193,9 @@ fn goes_on(tick: Tick) -> Result<(), StepFault>
     ensures err { OnErr result (¬ (ServiceGoesOn tick)) }
 {
     match tick {
-        Tick::Stopped(StopReason::Memory) => Err(StepFault::Call(CallFault::Memory)),
+        Tick::Stopped(StopReason::Memory(refused)) => {
+            Err(StepFault::Call(CallFault::Memory(refused)))
+        }
         Tick::Stopped(StopReason::Store) => Err(StepFault::Store),
         _ => Ok(()),
     }

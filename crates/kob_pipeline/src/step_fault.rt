@@ -15,8 +15,8 @@ pub(crate) enum StepFault {
 }
 
 impl From<AllocError> for StepFault {
-    fn from(_refused: AllocError) -> StepFault {
-        StepFault::Call(CallFault::Memory)
+    fn from(refused: AllocError) -> StepFault {
+        StepFault::Call(CallFault::Memory(refused))
     }
 }
 
@@ -34,7 +34,7 @@ impl From<CallFault> for StepFault {
 impl From<OutboxFault> for StepFault {
     fn from(fault: OutboxFault) -> StepFault {
         match fault {
-            OutboxFault::Memory => StepFault::Call(CallFault::Memory),
+            OutboxFault::Memory(refused) => StepFault::Call(CallFault::Memory(refused)),
             OutboxFault::Store => StepFault::Store,
         }
     }
@@ -43,7 +43,7 @@ impl From<OutboxFault> for StepFault {
 impl From<InboxFault> for StepFault {
     fn from(fault: InboxFault) -> StepFault {
         match fault {
-            InboxFault::Memory => StepFault::Call(CallFault::Memory),
+            InboxFault::Memory(refused) => StepFault::Call(CallFault::Memory(refused)),
             InboxFault::Store => StepFault::Store,
         }
     }

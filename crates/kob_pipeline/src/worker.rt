@@ -23,7 +23,7 @@ impl<'a> Work for Worker<'a> {
 
     type End = WorkerEnd;
 
-    ghost keeps = { λ worker noted end. IsLeft (planned_as worker) noted end };
+    ghost keeps = { λ worker _ noted end. IsLeft (planned_as worker) noted end };
 
     /// Does the work of its kind of worker.
     fn work<R: Wait, G: Gate>(

@@ -16,7 +16,7 @@ pub line_stops : (are_names : Bool) (so_far : Questions)
     → lines_from are_names so_far number rest ≡ whole → rest ≡ line ∷ more → Fails e (with_line are_names so_far line)
     → IsStopped (fault_at number e) (λ (read : Result Questions fault.Fault). read ≡ whole)
 unfolding lines_from
-line_stops are_names so_far number rest line more whole Memory kept split fails = tt
+line_stops are_names so_far number rest line more whole (Memory e) kept split fails = tt
 line_stops are_names so_far number rest line more whole (Fault kind) kept split fails = grind (arith, nat_tests)
 
 pub lines_end : (are_names : Bool) (so_far : Questions) (number : ℕ)

@@ -4,7 +4,7 @@ use Rattle.kob_policy_text.specs.Lines.{items_of}
 
 pub fails_at : {A B : Type 0} (e : LineError) (read : Result A FaultKind) (f : A → Result B FaultKind)
     → Fails e read → Fails e (read >>= f)
-fails_at Memory read f fails = tt
+fails_at (Memory e) read f fails = tt
 fails_at (Fault kind) read f fails = rw fails refl
 
 listed_by : {A : Type 0} (view : A → List Item) (line : List ℕ) (r : Result A LineError)
@@ -12,13 +12,13 @@ listed_by : {A : Type 0} (view : A → List Item) (line : List ℕ) (r : Result 
     → MayGive view r (SaysBy line)
 unfolding items_of
 listed_by view line (Ok x) listed unlisted gives = (None, λ off. absurd (unlisted off), rw listed gives)
-listed_by view line (Err Memory) listed unlisted gives = tt
+listed_by view line (Err (Memory e)) listed unlisted gives = tt
 listed_by view line (Err (Fault kind)) listed unlisted gives = (None, λ off. absurd (unlisted off), rw listed gives)
 
 no_line_by : (line : List ℕ) (e : LineError)
     → is_listed line ≡ false → Fails e (script_line line) → MayFail e (SaysBy line)
 unfolding items_of
-no_line_by line Memory unlisted fails = tt
+no_line_by line (Memory e) unlisted fails = tt
 no_line_by line (Fault kind) unlisted fails = (None, λ _. rw fails tt, rw (unlisted, fails) refl)
 
 words_by : {A : Type 0} (view : A → List Item) (line text : List ℕ) (r : Result A LineError)
@@ -26,7 +26,7 @@ words_by : {A : Type 0} (view : A → List Item) (line text : List ℕ) (r : Res
     → MayGive view r (SaysBy line)
 unfolding items_of
 words_by view line text (Ok x) unlisted is_text says = grind (arith, nat_tests)
-words_by view line text (Err Memory) unlisted is_text says = tt
+words_by view line text (Err (Memory e)) unlisted is_text says = tt
 words_by view line text (Err (Fault kind)) unlisted is_text says = grind (arith, nat_tests)
 
 pub says_listed : {A : Type 0} (view : A → List Item) (given line : List ℕ) (test : Bool) (r : Result A LineError)

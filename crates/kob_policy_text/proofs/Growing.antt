@@ -1,6 +1,7 @@
 -- Lists of lines that grow at their ends.
 use Rattle.kob_policy_text.proofs.Words.{List, Policy, answer_line, append-nil, append_assoc, arith, drop, drop_more, drop_of_length-le, get_or, length, nat_tests, sym, ℕ, ◌++◌, ◌+◌, ◌<◌, ◌≡◌, ◌≤◌}
-use Rattle.kob_policy_text.specs.Answers.{answers_text, lines_up_to}
+use Rattle.kob_policy_text.specs.Answers.{lines_up_to}
+use Rattle.kob_policy_text.specs.Review.{answers_text}
 use Rattle.kob_policy_text.specs.declared.question.Question as of_text
 
 -- no line stands behind what was there

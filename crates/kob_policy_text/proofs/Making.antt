@@ -31,7 +31,7 @@ pub stopped : (file text : List ℕ) (old policy : Policy) (number : ℕ) (rest 
     (line : List ℕ) (more : List (List ℕ)) (e : LineError)
     → Leads file text old policy number rest → rest ≡ line ∷ more → MayFail e (LineMakes file policy number line)
     → IsStopped (fault_at number e) (FileMakes file text old)
-stopped file text old policy number rest line more Memory leads split makes = tt
+stopped file text old policy number rest line more (Memory e) leads split makes = tt
 stopped file text old policy number rest line more (Fault kind) leads split makes =
     line_stops file text old policy number rest line more kind leads split makes
 
@@ -54,7 +54,7 @@ pub item_fails : (policy : Policy) (origin : Origin) (rest more : List Item) (fi
     → with_items policy origin rest ≡ whole → rest ≡ first ∷ more → Fails e (with_item policy origin first)
     → Fails e whole
 unfolding with_items
-item_fails policy origin rest more first whole Memory kept split fails = tt
+item_fails policy origin rest more first whole (Memory e) kept split fails = tt
 item_fails policy origin rest more first whole (Fault kind) kept split fails = grind (arith, nat_tests)
 
 -- none is left
@@ -67,7 +67,7 @@ items_end policy origin rest whole kept none = sym kept ∙ ap (with_items polic
 pub line_unread : (file : List ℕ) (policy : Policy) (number : ℕ) (line : List ℕ) (e : LineError)
     → MayFail e (Says line) → MayFail e (LineMakes file policy number line)
 unfolding LineMakes
-line_unread file policy number line Memory says = tt
+line_unread file policy number line (Memory e) says = tt
 line_unread file policy number line (Fault kind) says = (Err kind, says, refl)
 
 pub line_made : {A : Type 0} (file made : List ℕ) (policy new : Policy) (number : ℕ) (line : List ℕ)
@@ -77,6 +77,6 @@ pub line_made : {A : Type 0} (file made : List ℕ) (policy new : Policy) (numbe
 unfolding LineMakes
 line_made file made policy new number line items (Ok x) same says gives =
     (Ok items, says, ap (λ (f : List ℕ). with_items policy (place f number) items) (sym same) ∙ gives)
-line_made file made policy new number line items (Err Memory) same says gives = tt
+line_made file made policy new number line items (Err (Memory e)) same says gives = tt
 line_made file made policy new number line items (Err (Fault kind)) same says gives =
     (Ok items, says, ap (λ (f : List ℕ). with_items policy (place f number) items) (sym same) ∙ gives)

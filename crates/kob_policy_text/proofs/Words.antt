@@ -1,6 +1,7 @@
 -- The names that the lemmas cite, passed on from one place.
 pub use Rattle.kob_authorizer.specs.Decide.{question_of}
-pub use Rattle.kob_policy_text.specs.Answers.{answer_line, answers_text, change_line, lines_up_to, omission_line, seen_text, shadowed_line, unused_line, who_line}
+pub use Rattle.kob_policy_text.specs.Answers.{lines_up_to, omission_line, seen_text, shadowed_line, who_line}
+pub use Rattle.kob_policy_text.specs.Review.{answer_line, answers_text}
 pub use Rattle.kob_policy_text.specs.AtHand.{asked_by, asked_from, asked_on, operations, topic_target, with_bindings}
 pub use Rattle.kob_policy_text.specs.Lines.{Says, SaysBy, SaysByWords, is_listed, listed_items, rule_items, script_line, super_item}
 pub use Rattle.kob_policy_text.specs.Outcomes.{MayFail, MayGive}

@@ -24,7 +24,7 @@ use Rattle.kob_policy_text.specs.declared.question.Asker.{Asker}
 use Rattle.kob_policy_text.specs.declared.question.Question.{Question}
 use Rattle.kob_policy_text.specs.declared.question.Question.TheVariants.{May, Ask, Who, Sees, Unused, Shadowed}
 use Rattle.kob_policy_text.specs.declared.question.Right.{Right}
-use Rattle.kob_policy_text.specs.Policy.{deciding, is_yes, may, place_of, serials_of, Policy, without}
+use Rattle.kob_policy_text.specs.Policy.{deciding, is_yes, may, place_of, serials_of, Policy}
 use Rattle.kob_policy_text.specs.Questions.{Questions}
 
 -- FILE:LINE
@@ -157,20 +157,6 @@ abbrev pub sees_text : Policy → List (List ℕ) → Asker → List ℕ
 sees_text policy topics asker =
     codes "topics" ++ flat_map (seen_text policy asker) topics ++ codes "\n"
 
--- no question at hand has another answer without the binding
-abbrev pub same_bool : Bool → Bool → Bool
-same_bool true answer = answer
-same_bool false answer = not answer
-
-abbrev pub same_answer : Policy → Policy → authorizer.Question → Bool
-same_answer one other asked = same_bool (is_yes one asked) (is_yes other asked)
-
-abbrev pub is_same : Policy → Policy → List authorizer.Question → Bool
-is_same one other asked = list_all (same_answer one other) asked
-
-abbrev pub is_unused : Policy → List authorizer.Question → ℕ → Bool
-is_unused policy asked place = is_same policy (without policy place) asked
-
 -- an allow is beaten where a deny decides, and does nothing for a super user
 abbrev pub is_beaten : Verdict → Bool
 is_beaten (verdict.DeniedBy serial) = true
@@ -203,11 +189,6 @@ is_shadowed policy asked binding =
     same_permission binding.permission Allow
     && (is_always_beaten policy asked binding && is_ever_denied policy asked binding)
 
--- the line of a binding that no other needs
-abbrev pub unused_line : Policy → List authorizer.Question → ℕ → List ℕ
-unused_line policy asked place =
-    if is_unused policy asked place then line_at policy (Some place) else []
-
 -- the lines of the first places
 unfoldable pub lines_up_to : (ℕ → List ℕ) → ℕ → List ℕ
 lines_up_to line zero = []
@@ -227,60 +208,9 @@ abbrev pub shadowed_line : Policy → List authorizer.Question → ℕ → List 
 shadowed_line policy asked place =
     if is_shadowed_at policy asked place then line_at policy (Some place) else []
 
-abbrev pub unused_text : Policy → List authorizer.Question → List ℕ
-unused_text policy asked =
-    codes "unused\n" ++ lines_up_to (unused_line policy asked) (length policy.bindings)
-
 abbrev pub shadowed_text : Policy → List authorizer.Question → List ℕ
 shadowed_text policy asked =
     codes "shadowed\n" ++ lines_up_to (shadowed_line policy asked) (length policy.bindings)
-
--- the answer to a question, with the names of topics that are given
-abbrev pub question_text : Policy → List (List ℕ) → Question → List ℕ
-question_text policy topics (May asker right) = may_text policy
-    (may policy
-    (question_of asker.principal asker.host right.operation right.resource right.name))
-question_text policy topics (Ask event) = request_text policy event
-question_text policy topics (Who right host) = who_text policy right host
-question_text policy topics (Sees asker) = sees_text policy topics asker
-question_text policy topics Unused = unused_text policy (asked_at_hand (hand_of policy topics))
-question_text policy topics Shadowed = shadowed_text policy (asked_at_hand (hand_of policy topics))
-
--- an answer behind its number
-abbrev pub answer_line : Policy → List (List ℕ) → ℕ → Question → List ℕ
-answer_line policy topics number question =
-    decimal number ++ codes " " ++ question_text policy topics question
-
--- the answers, numbered from one on
-unfoldable pub answers_text : Policy → List (List ℕ) → ℕ → List Question → List ℕ
-answers_text policy topics number [] = []
-answers_text policy topics number (question ∷ others) =
-    answer_line policy topics number question ++ answers_text policy topics (number + 1) others
-
--- PRINCIPAL HOST OPERATION RESOURCE NAME
-abbrev pub asked_text : authorizer.Question → List ℕ
-asked_text asked =
-    bytes_text asked.principal ++ codes " " ++ bytes_text asked.host ++ codes " "
-    ++ right_text asked
-
--- a question whose answer changes, with both
-abbrev pub change_text : Policy → Policy → authorizer.Question → List ℕ
-change_text before after asked =
-    asked_text asked ++ codes " " ++ reason_text before (may before asked) ++ codes " -> "
-    ++ reason_text after (may after asked) ++ codes "\n"
-
-unfoldable pub change_line : Policy → Policy → authorizer.Question → List ℕ
-change_line before after asked =
-    if same_answer before after asked then [] else change_text before after asked
-
--- what is at hand of two policies
-abbrev pub hand_of_both : Policy → Policy → List (List ℕ) → AtHand
-hand_of_both before after topics = with_bindings (hand_of before topics) after.bindings
-
--- each question at hand whose answer changes
-abbrev pub changes_text : Policy → Policy → List (List ℕ) → List ℕ
-changes_text before after topics =
-    flat_map (change_line before after) (asked_at_hand (hand_of_both before after topics))
 
 abbrev pub left_out_word : LeftOut → List ℕ
 left_out_word left_out.Resource = codes "resource"
@@ -295,9 +225,3 @@ omission_line omission =
 -- what was left out
 abbrev pub omissions_text : Policy → List ℕ
 omissions_text policy = flat_map omission_line policy.omissions
-
--- what changes, and then the answers of the second policy
-abbrev pub review_text : Policy → Policy → Questions → List ℕ
-review_text before after questions =
-    changes_text before after questions.topics
-    ++ answers_text after questions.topics 1 questions.asked

@@ -5,3 +5,4 @@ pub mod Listing
 pub mod Outcomes
 pub mod Policy
 pub mod Questions
+pub mod Review

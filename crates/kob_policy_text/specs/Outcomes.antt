@@ -6,7 +6,7 @@ use Rattle.kob_script.specs.declared.fault.LineError.TheVariants.{Memory, Fault}
 
 -- an error; nothing is said where memory ran out
 abbrev pub MayFail : {B : Type 0} → LineError → (Result B FaultKind → Type 0) → Type 0
-MayFail Memory Reads = Unit {0}
+MayFail (Memory e) Reads = Unit {0}
 MayFail (Fault kind) Reads = Reads (Err kind)
 
 -- by a view of what was read

@@ -45,14 +45,6 @@ empty_policy = record {
   heading = None;
 }
 
--- the policy without the binding at a place
-abbrev pub without : Policy → ℕ → Policy
-without policy place = record empty_policy {
-  supers = policy.supers;
-  everyone = policy.everyone;
-  bindings = remove policy.bindings place;
-}
-
 -- no heading stands above the first line of a file
 abbrev pub at_file : Policy → Policy
 at_file policy = record policy { heading = None }
@@ -136,12 +128,12 @@ FileMakes file text policy read = LinesMake file (at_file policy) 1 (lines_in te
 
 -- a fault with the number of its line
 abbrev pub fault_at : ℕ → LineError → ScriptError
-fault_at line line_error.Memory = script_error.Memory
+fault_at line (line_error.Memory e) = script_error.Memory e
 fault_at line (line_error.Fault kind) = script_error.Fault (record { line = line; kind = kind })
 
 -- The fault that was reported is what reading may end with; nothing is said where memory ran out.
 abbrev pub IsStopped : {S : Type 0} → ScriptError → (Result S Fault → Type 0) → Type 0
-IsStopped script_error.Memory Makes = Unit {0}
+IsStopped (script_error.Memory e) Makes = Unit {0}
 IsStopped (script_error.Fault fault) Makes = Makes (Err fault)
 
 -- What was read is what reading may make, unless memory ran out.

@@ -1,8 +1,9 @@
 //! The answers to questions.
 
 ghost use Rattle.std.specs.Prelude.{◌≡◌, ◌++◌, OnOk};
-ghost use Rattle.kob_policy_text.specs.Answers.{answer_line, answers_text, omissions_text};
-ghost use Rattle.kob_policy_text.specs.Answers.{question_text, review_text};
+ghost use Rattle.kob_policy_text.specs.Answers.{omissions_text};
+ghost use Rattle.kob_policy_text.specs.Review.{answer_line, answers_text, question_text};
+ghost use Rattle.kob_policy_text.specs.Review.{review_text};
 
 use crate::asked::Asked;
 use crate::changes::print_changes;
@@ -42,7 +43,7 @@ fn push_question(
         Question::Ask(event) => push_request(out, judge, event),
         Question::Who(right, host) => push_who(alloc, out, judge, right, host),
         Question::Sees(asker) => push_sees(out, judge, topics, asker),
-        Question::Unused => push_unused(alloc, out, judge, topics),
+        Question::Unused => push_unused(alloc, out, judge),
         Question::Shadowed => push_shadowed(alloc, out, judge, topics),
     }
 }
@@ -106,6 +107,6 @@ pub fn print_review(
     ensures { OnOk result (out.new.items ≡ out.old.items
         ++ review_text before.now after.now questions.now) }
 {
-    print_changes(alloc, out, before, after, questions.topics())?;
+    print_changes(alloc, out, before, after)?;
     print_answers(alloc, out, after, questions.topics(), questions.asked())
 }

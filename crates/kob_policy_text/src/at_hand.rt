@@ -9,7 +9,9 @@ ghost use Rattle.kob_policy_text.specs.AtHand.{with_binding, with_bindings, with
 
 use crate::asked::Asked;
 use crate::policy::Policy;
-use kob_names::{Binding, Host, Operation, PlainValue, Principal, ResourceKind, Text};
+use kob_names::{
+    Binding, Host, HostFault, Operation, PlainValue, Principal, PrincipalFault, ResourceKind, Text,
+};
 use std::alloc::{AllocError, Global};
 use std::marker::Model;
 
@@ -134,13 +136,21 @@ pub fn hand_of(alloc: Global, policy: &Policy, topics: &[Text]) -> Result<AtHand
 fn every_user(alloc: Global) -> Result<Principal, AllocError>
     ensures { IfOk result (λ made. made ≡ codes "User:*") }
 {
-    Principal::parse(alloc, "User:*").map_err(|_| AllocError)
+    match Principal::parse(alloc, "User:*") {
+        Ok(principal) => Ok(principal),
+        Err(PrincipalFault::Memory(refused)) => Err(refused),
+        Err(_) => unreachable!(),
+    }
 }
 
 pub fn every_host(alloc: Global) -> Result<Host, AllocError>
     ensures { IfOk result (λ made. made ≡ codes "*") }
 {
-    Host::parse(alloc, "*").map_err(|_| AllocError)
+    match Host::parse(alloc, "*") {
+        Ok(host) => Ok(host),
+        Err(HostFault::Memory(refused)) => Err(refused),
+        Err(_) => unreachable!(),
+    }
 }
 
 fn topic_targets(alloc: Global, topics: &[Text]) -> Result<Vec<Target>, AllocError>

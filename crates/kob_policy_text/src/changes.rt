@@ -1,74 +1,156 @@
-//! What changes from one policy to another.
+//! What changes from one policy to another, over all principals, hosts, operations and names.
 
 ghost use Rattle.std.specs.Prelude.{◌≡◌, ◌++◌, OnOk, flat_map};
-ghost use Rattle.kob_policy_text.specs.Answers.{change_line, changes_text, same_answer};
+ghost use Rattle.kob_policy_text.specs.Review.{asker_text, change_line, changes_text};
+ghost use Rattle.kob_policy_text.specs.Review.{everyone_text, names_text, outcome_text};
+ghost use Rattle.kob_policy_text.specs.Review.{party_text, super_line, supers_text, target_text};
+ghost use Rattle.kob_authorizer.specs.Decide.{is_super};
 
-use crate::asked::Asked;
-use crate::at_hand::{add_bindings, hand_of};
 use crate::judge::Judge;
-use crate::printed::{push_asked, push_reason};
-use kob_names::Text;
+use kob_names::{Principal, Text};
+use kob_policy_review::{Change, Class, Names, Outcome, changes};
+use kob_words::{operation_name, push_bytes, resource_name};
 use std::alloc::{AllocError, Global};
 
-/// Whether both policies answer yes, or both no.
-pub fn same_answer(one: &Judge, other: &Judge, asked: &Asked<'_>) -> bool
-    ensures { result ≡ same_answer one.now other.now asked.now }
+fn push_party(out: &mut Vec<u8>, all: &[u8], party: &Option<Text>) -> Result<(), AllocError>
+    ensures { OnOk result (out.new.items ≡ out.old.items ++ party_text all.now party.now) }
 {
-    let is_yes = other.is_yes(asked);
-    if one.is_yes(asked) { is_yes } else { !is_yes }
-}
-
-/// A question whose answer changes, with both answers.
-#[tactic(auto, using(kob_words::proofs::Appending::appending), unfolding(crate::specs::Answers::change_line))]
-fn push_change_line(
-    out: &mut Vec<u8>,
-    before: &Judge,
-    after: &Judge,
-    asked: &Asked<'_>,
-) -> Result<(), AllocError>
-    ensures { OnOk result (out.new.items ≡ out.old.items
-        ++ change_line before.now after.now asked.now) }
-{
-    if same_answer(before, after, asked) {
-        return Ok(());
+    match party {
+        None => out.extend_from_slice(all),
+        Some(party) => push_bytes(out, party.as_str().as_bytes()),
     }
-    push_asked(out, asked)?;
-    out.extend_from_slice(b" ")?;
-    push_reason(out, before, before.verdict(asked))?;
-    out.extend_from_slice(b" -> ")?;
-    push_reason(out, after, after.verdict(asked))?;
-    out.extend_from_slice(b"\n")
 }
 
-fn push_changes(
-    out: &mut Vec<u8>,
-    before: &Judge,
-    after: &Judge,
-    asked: &[Asked<'_>],
-) -> Result<(), AllocError>
-    ensures { OnOk result (out.new.items ≡ out.old.items
-        ++ flat_map (change_line before.now after.now) asked.now) }
+#[tactic(auto, using(kob_words::proofs::Appending::appending))]
+fn push_names(out: &mut Vec<u8>, names: &Names) -> Result<(), AllocError>
+    ensures { OnOk result (out.new.items ≡ out.old.items ++ names_text names.now) }
 {
-    for asked in asked {
-        push_change_line(out, before, after, asked)?;
+    match names {
+        Names::Exactly(name) => push_bytes(out, name.as_str().as_bytes()),
+        Names::Below(start) => {
+            push_bytes(out, start.as_str().as_bytes())?;
+            out.extend_from_slice(b"* (others)")
+        }
+    }
+}
+
+#[tactic(auto, using(kob_words::proofs::Appending::appending), unfolding(crate::specs::Review::asker_text))]
+fn push_asker(out: &mut Vec<u8>, class: &Class) -> Result<(), AllocError>
+    ensures { OnOk result (out.new.items ≡ out.old.items ++ asker_text class.now) }
+{
+    push_party(out, b"User:* (others)", &class.principal)?;
+    out.extend_from_slice(b" ")?;
+    push_party(out, b"* (others)", &class.host)?;
+    out.extend_from_slice(b" ")
+}
+
+#[tactic(auto, using(kob_words::proofs::Appending::appending), unfolding(crate::specs::Review::target_text))]
+fn push_target(out: &mut Vec<u8>, class: &Class) -> Result<(), AllocError>
+    ensures { OnOk result (out.new.items ≡ out.old.items ++ target_text class.now) }
+{
+    out.extend_from_slice(operation_name(class.operation).as_bytes())?;
+    out.extend_from_slice(b" ")?;
+    out.extend_from_slice(resource_name(class.target.resource).as_bytes())?;
+    out.extend_from_slice(b" ")?;
+    push_names(out, &class.target.names)
+}
+
+fn outcome_text(outcome: Outcome) -> &'static str
+    ensures { result.now ≡ outcome_text outcome }
+{
+    match outcome {
+        Outcome::Gained => " no -> yes\n",
+        Outcome::Lost => " yes -> no\n",
+        Outcome::Same => " unchanged\n",
+    }
+}
+
+#[tactic(auto, using(kob_words::proofs::Appending::appending), unfolding(crate::specs::Review::change_line))]
+fn push_change(out: &mut Vec<u8>, change: &Change) -> Result<(), AllocError>
+    ensures { OnOk result (out.new.items ≡ out.old.items ++ change_line change.now) }
+{
+    push_asker(out, &change.class)?;
+    push_target(out, &change.class)?;
+    out.extend_from_slice(outcome_text(change.outcome).as_bytes())
+}
+
+#[tactic(auto, using(kob_words::proofs::Appending::appending))]
+fn push_each(out: &mut Vec<u8>, found: &[Change]) -> Result<(), AllocError>
+    ensures { OnOk result (out.new.items ≡ out.old.items ++ flat_map change_line found.now) }
+{
+    for change in found {
+        push_change(out, change)?;
     }
     Ok(())
 }
 
-/// Prints each question whose answer changes, with both answers, on a line. The error is out of
-/// memory; `out` has then grown by a part of them.
+fn is_super(supers: &[Principal], user: &Principal) -> bool
+    ensures { result ≡ is_super supers.now user.now }
+{
+    supers.iter().any(|other| other == user)
+}
+
+#[tactic(auto, using(kob_words::proofs::Appending::appending), unfolding(crate::specs::Review::super_line))]
+fn push_super(
+    out: &mut Vec<u8>,
+    what: &[u8],
+    others: &[Principal],
+    user: &Principal,
+) -> Result<(), AllocError>
+    ensures { OnOk result (out.new.items
+        ≡ out.old.items ++ super_line what.now others.now user.now) }
+{
+    if is_super(others, user) {
+        return Ok(());
+    }
+    out.extend_from_slice(b"super ")?;
+    push_bytes(out, user.as_str().as_bytes())?;
+    out.extend_from_slice(what)
+}
+
+/// The super users that are not among the others.
+#[tactic(auto, using(kob_words::proofs::Appending::appending))]
+fn push_supers(
+    out: &mut Vec<u8>,
+    what: &[u8],
+    others: &[Principal],
+    supers: &[Principal],
+) -> Result<(), AllocError>
+    ensures { OnOk result (out.new.items
+        ≡ out.old.items ++ flat_map (super_line what.now others.now) supers.now) }
+{
+    for user in supers {
+        push_super(out, what, others, user)?;
+    }
+    Ok(())
+}
+
+fn everyone_text(before: bool, after: bool) -> &'static str
+    ensures { result.now ≡ everyone_text before after }
+{
+    match (before, after) {
+        (false, true) => "everyone off -> on\n",
+        (true, false) => "everyone on -> off\n",
+        (false, false) | (true, true) => "",
+    }
+}
+
+/// Prints what changes: super users, `everyone`, and for each class of questions what becomes of
+/// the answer. Nothing is printed exactly if no answer at all changes, super users apart. The error
+/// is out of memory; `out` has then grown by a part of them.
+#[tactic(auto, using(kob_words::proofs::Appending::appending))]
 pub fn print_changes(
     alloc: Global,
     out: &mut Vec<u8>,
     before: &Judge,
     after: &Judge,
-    topics: &[Text],
 ) -> Result<(), AllocError>
-    ensures { OnOk result (out.new.items ≡ out.old.items
-        ++ changes_text before.now after.now topics.now) }
+    ensures { OnOk result (out.new.items ≡ out.old.items ++ changes_text before.now after.now) }
 {
-    let mut hand = hand_of(alloc, before.policy(), topics)?;
-    add_bindings(alloc, &mut hand, after.policy().bindings())?;
-    let asked = hand.asked(alloc)?;
-    push_changes(out, before, after, &asked)
+    let found = changes(alloc, before.authorizer(), after.authorizer())?;
+    let (old, new) = (before.policy(), after.policy());
+    push_supers(out, b" removed\n", new.supers(), old.supers())?;
+    push_supers(out, b" added\n", old.supers(), new.supers())?;
+    out.extend_from_slice(everyone_text(old.everyone(), new.everyone()).as_bytes())?;
+    push_each(out, &found)
 }

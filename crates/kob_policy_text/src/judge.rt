@@ -1,9 +1,9 @@
 //! How a policy decides.
 
-ghost use Rattle.std.specs.Prelude.{◌≡◌, ◌≢◌, ◌<◌, [], IfErr, IfOk, Some, length};
+ghost use Rattle.std.specs.Prelude.{◌≡◌, ◌≢◌, [], IfErr, IfOk, Some, alloc_error};
 ghost use Rattle.kob_authorizer.specs.Creation.{create_fault};
 ghost use Rattle.kob_policy_text.specs.Policy.{contents_of, deciding, is_yes, may, place_of};
-ghost use Rattle.kob_policy_text.specs.Policy.{serials_of, without};
+ghost use Rattle.kob_policy_text.specs.Policy.{serials_of};
 
 use crate::asked::Asked;
 use crate::policy::Policy;
@@ -38,7 +38,7 @@ impl Judge {
     /// serial. `TooMany` is more than 100,000 different bindings, `SerialsSpent` is never returned.
     pub fn open(alloc: Global, policy: Policy) -> Result<Judge, CreateFault>
         ensures policy { IfOk result (λ judge. judge ≡ policy) }
-        ensures fault { IfErr result (λ fault. fault ≢ CreateFault.Memory
+        ensures fault { IfErr result (λ fault. fault ≢ CreateFault.Memory alloc_error
             → create_fault [] 1 policy.bindings ≡ Some fault) }
     {
         match in_force(alloc, &policy) {
@@ -54,20 +54,18 @@ impl Judge {
         }
     }
 
-    /// The policy without the binding at a place, in force.
-    pub fn without(&self, alloc: Global, place: usize) -> Result<Judge, AllocError>
-        requires { place < length self.now.bindings }
-        ensures { IfOk result (λ judge. judge ≡ without self.now place) }
-    {
-        let policy = self.policy.without(alloc, place)?;
-        Judge::open(alloc, policy).map_err(|_| AllocError)
-    }
-
     /// The policy that decides.
     pub fn policy(&self) -> &Policy
         ensures { result.now ≡ self.now }
     {
         &self.policy
+    }
+
+    /// The authorizer that decides, with the bindings in force.
+    pub fn authorizer(&self) -> &Authorizer
+        ensures { result.now.contents ≡ contents_of self.now }
+    {
+        &self.authorizer
     }
 
     /// Who may do what: the decision of the authorizer's contract on the bindings in their order.
@@ -110,7 +108,7 @@ impl Judge {
 fn in_force(alloc: Global, policy: &Policy) -> Result<(Authorizer, Vec<u64>), CreateFault>
     ensures made { IfOk result (λ made. (made.0.contents ≡ contents_of policy.now)
         × (made.1.items ≡ serials_of policy.now)) }
-    ensures fault { IfErr result (λ fault. fault ≢ CreateFault.Memory
+    ensures fault { IfErr result (λ fault. fault ≢ CreateFault.Memory alloc_error
         → create_fault [] 1 policy.now.bindings ≡ Some fault) }
 {
     let supers = Items::copied(alloc, policy.supers())?.into_vec();

@@ -5,7 +5,7 @@ ghost use Rattle.kob_policy_text.specs.Outcomes.{MayGive};
 ghost use Rattle.kob_policy_text.specs.Policy.{FileMakes, IsRead, LineMakes, at_file, draft_under};
 ghost use Rattle.kob_policy_text.specs.Policy.{empty_policy, fault_at, with_binding, with_draft};
 ghost use Rattle.kob_policy_text.specs.Policy.{with_grant, with_item, with_items};
-ghost use Rattle.kob_policy_text.specs.Policy.{with_omission, without};
+ghost use Rattle.kob_policy_text.specs.Policy.{with_omission};
 ghost use Rattle.kob_script.specs.Words.{GivesSeen};
 
 use crate::item::{Grant, Item, LeftOut, Target};
@@ -106,24 +106,6 @@ impl Policy {
         self.omissions.as_slice()
     }
 
-    /// The policy without the binding at a place, and without origins and what was left out.
-    pub fn without(&self, alloc: Global, place: usize) -> Result<Policy, AllocError>
-        requires { place < length self.now.bindings }
-        ensures { IfOk result (λ made. made ≡ without self.now place) }
-    {
-        let supers = Items::copied(alloc, self.supers.as_slice())?.into_vec();
-        let mut bindings = Items::copied(alloc, self.bindings.as_slice())?.into_vec();
-        let _ = bindings.remove(place);
-        Ok(Policy {
-            supers,
-            everyone: self.everyone,
-            bindings,
-            origins: Vec::new(alloc),
-            omissions: Vec::new(alloc),
-            heading: None,
-        })
-    }
-
     fn add_omission(
         &mut self,
         alloc: Global,
@@ -155,7 +137,7 @@ impl Policy {
     {
         match Binding::new(alloc, draft) {
             Ok(binding) => Ok(self.add_binding(alloc, origin, binding)?),
-            Err(BindingFault::Memory) => Err(LineError::Memory),
+            Err(BindingFault::Memory(refused)) => Err(LineError::Memory(refused)),
             Err(_) => Err(LineError::Fault(FaultKind::BadName)),
         }
     }
@@ -273,9 +255,12 @@ fn add_items(
 fn draft_under(alloc: Global, target: &Target, grant: Grant) -> Result<Draft, AllocError>
     ensures { IfOk result (λ draft. draft ≡ draft_under target.now grant) }
 {
-    let Ok(pattern) = target.pattern.copy(alloc) else {
-        drop(grant);
-        return Err(AllocError);
+    let pattern = match target.pattern.copy(alloc) {
+        Ok(pattern) => pattern,
+        Err(refused) => {
+            drop(grant);
+            return Err(refused);
+        }
     };
     Ok(Draft {
         permission: grant.permission,
@@ -291,7 +276,7 @@ pub fn fault_at(error: LineError, line: u64) -> ScriptError
     ensures { result ≡ fault_at line error }
 {
     match error {
-        LineError::Memory => ScriptError::Memory,
+        LineError::Memory(refused) => ScriptError::Memory(refused),
         LineError::Fault(kind) => ScriptError::Fault(Fault { line, kind }),
     }
 }

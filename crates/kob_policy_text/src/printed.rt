@@ -1,7 +1,7 @@
 //! How answers are printed: origins, verdicts, bindings and rights.
 
 ghost use Rattle.std.specs.Prelude.{◌≡◌, ◌++◌, OnOk, Some};
-ghost use Rattle.kob_policy_text.specs.Answers.{answer_text, asked_text, binding_line};
+ghost use Rattle.kob_policy_text.specs.Answers.{answer_text, binding_line};
 ghost use Rattle.kob_policy_text.specs.Answers.{left_out_word, line_at, line_by, line_of, may_text};
 ghost use Rattle.kob_policy_text.specs.Answers.{omission_line, origin_behind, origin_by};
 ghost use Rattle.kob_policy_text.specs.Answers.{origin_text, reason_text, right_text, yes_or_no};
@@ -123,7 +123,8 @@ pub fn push_line_at(out: &mut Vec<u8>, judge: &Judge, place: usize) -> Result<()
     }
 }
 
-fn push_line_by(out: &mut Vec<u8>, judge: &Judge, serial: u64) -> Result<(), AllocError>
+/// The line of the first binding with a serial.
+pub fn push_line_by(out: &mut Vec<u8>, judge: &Judge, serial: u64) -> Result<(), AllocError>
     ensures { OnOk result (out.new.items ≡ out.old.items ++ line_by judge.now (Some serial)) }
 {
     match judge.place_of(serial) {
@@ -155,18 +156,6 @@ pub fn push_right(out: &mut Vec<u8>, asked: &Asked<'_>) -> Result<(), AllocError
     out.extend_from_slice(resource_name(asked.resource).as_bytes())?;
     out.extend_from_slice(b" ")?;
     push_bytes(out, asked.name.as_bytes())
-}
-
-/// Who asks from where, and for what.
-#[tactic(auto, using(kob_words::proofs::Appending::appending))]
-pub fn push_asked(out: &mut Vec<u8>, asked: &Asked<'_>) -> Result<(), AllocError>
-    ensures { OnOk result (out.new.items ≡ out.old.items ++ asked_text asked.now) }
-{
-    push_bytes(out, asked.principal.as_str().as_bytes())?;
-    out.extend_from_slice(b" ")?;
-    push_bytes(out, asked.host.as_str().as_bytes())?;
-    out.extend_from_slice(b" ")?;
-    push_right(out, asked)
 }
 
 fn left_out_word(what: LeftOut) -> &'static str

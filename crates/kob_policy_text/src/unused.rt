@@ -1,78 +1,61 @@
-//! Bindings that no other needs: if one of them is removed, no answer changes.
+//! Bindings that no answer needs, over all principals, hosts, operations and names.
 
-ghost use Rattle.std.specs.Prelude.{◌≡◌, ◌++◌, ◌<◌, IfOk, OnOk, length};
-ghost use Rattle.kob_policy_text.specs.Answers.{hand_of, is_unused, lines_up_to, unused_line};
-ghost use Rattle.kob_policy_text.specs.Answers.{unused_text};
-ghost use Rattle.kob_policy_text.specs.AtHand.{asked_at_hand};
+ghost use Rattle.std.specs.Prelude.{◌≡◌, ◌++◌, OnOk, codes, flat_map};
+ghost use Rattle.std.specs.Fmt.{decimal};
+ghost use Rattle.kob_policy_text.specs.Review.{unneeded_text, unused_text, why_text};
 
-use crate::asked::Asked;
-use crate::at_hand::hand_of;
-use crate::changes::same_answer;
 use crate::judge::Judge;
-use crate::printed::push_line_at;
-use kob_names::Text;
+use crate::printed::push_line_by;
+use kob_policy_review::{Reason, Unneeded, unused};
+use kob_words::push_number;
 use std::alloc::{AllocError, Global};
 
-fn is_unused(
-    alloc: Global,
-    judge: &Judge,
-    asked: &[Asked<'_>],
-    place: usize,
-) -> Result<bool, AllocError>
-    requires { place < length judge.now.bindings }
-    ensures { IfOk result (λ unused. unused ≡ is_unused judge.now asked.now place) }
+#[tactic(auto, using(kob_words::proofs::Appending::appending))]
+fn push_behind(out: &mut Vec<u8>, what: &[u8], serial: u64) -> Result<(), AllocError>
+    ensures { OnOk result (out.new.items
+        ≡ out.old.items ++ (what.now ++ decimal serial ++ codes "\n")) }
 {
-    let other = judge.without(alloc, place)?;
-    let unused = asked.iter().all(|asked| same_answer(judge, &other, asked));
-    drop(other);
-    Ok(unused)
+    out.extend_from_slice(what)?;
+    push_number(out, serial)?;
+    out.extend_from_slice(b"\n")
 }
 
-fn push_unused_lines(
-    alloc: Global,
-    out: &mut Vec<u8>,
-    judge: &Judge,
-    asked: &[Asked<'_>],
-) -> Result<(), AllocError>
-    ensures { OnOk result (out.new.items ≡ out.old.items
-        ++ lines_up_to (unused_line judge.now asked.now) (length judge.now.bindings)) }
+fn push_why(out: &mut Vec<u8>, reason: Reason) -> Result<(), AllocError>
+    ensures { OnOk result (out.new.items ≡ out.old.items ++ why_text reason) }
 {
-    for place in 0..judge.policy().bindings().len() {
-        push_unused_line(alloc, out, judge, asked, place)?;
+    match reason {
+        Reason::Super => out.extend_from_slice(b"    its principal is a super user\n"),
+        Reason::CoveredBy(serial) => push_behind(out, b"    covered by ", serial),
+        Reason::DeniedBy(serial) => push_behind(out, b"    denied by ", serial),
+        Reason::Together => out.extend_from_slice(b"    covered by several, or nothing to deny\n"),
+    }
+}
+
+#[tactic(auto, using(kob_words::proofs::Appending::appending), unfolding(crate::specs::Review::unneeded_text))]
+fn push_unneeded(out: &mut Vec<u8>, judge: &Judge, one: &Unneeded) -> Result<(), AllocError>
+    ensures { OnOk result (out.new.items ≡ out.old.items ++ unneeded_text judge.now one.now) }
+{
+    push_line_by(out, judge, one.serial)?;
+    push_why(out, one.reason)
+}
+
+#[tactic(auto, using(kob_words::proofs::Appending::appending))]
+fn push_each(out: &mut Vec<u8>, judge: &Judge, found: &[Unneeded]) -> Result<(), AllocError>
+    ensures { OnOk result (out.new.items
+        ≡ out.old.items ++ flat_map (unneeded_text judge.now) found.now) }
+{
+    for one in found {
+        push_unneeded(out, judge, one)?;
     }
     Ok(())
 }
 
-fn push_unused_line(
-    alloc: Global,
-    out: &mut Vec<u8>,
-    judge: &Judge,
-    asked: &[Asked<'_>],
-    place: usize,
-) -> Result<(), AllocError>
-    requires { place < length judge.now.bindings }
-    ensures { OnOk result (out.new.items ≡ out.old.items
-        ++ unused_line judge.now asked.now place) }
-{
-    if is_unused(alloc, judge, asked, place)? {
-        push_line_at(out, judge, place)
-    } else {
-        Ok(())
-    }
-}
-
+/// Prints the bindings without which, each taken alone, no answer at all changes, with the reason.
 #[tactic(auto, using(kob_words::proofs::Appending::appending))]
-pub fn push_unused(
-    alloc: Global,
-    out: &mut Vec<u8>,
-    judge: &Judge,
-    topics: &[Text],
-) -> Result<(), AllocError>
-    ensures { OnOk result (out.new.items ≡ out.old.items
-        ++ unused_text judge.now (asked_at_hand (hand_of judge.now topics.now))) }
+pub fn push_unused(alloc: Global, out: &mut Vec<u8>, judge: &Judge) -> Result<(), AllocError>
+    ensures { OnOk result (out.new.items ≡ out.old.items ++ unused_text judge.now) }
 {
+    let found = unused(alloc, judge.authorizer())?;
     out.extend_from_slice(b"unused\n")?;
-    let hand = hand_of(alloc, judge.policy(), topics)?;
-    let asked = hand.asked(alloc)?;
-    push_unused_lines(alloc, out, judge, &asked)
+    push_each(out, judge, &found)
 }

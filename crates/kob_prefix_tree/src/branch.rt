@@ -16,7 +16,6 @@ use crate::siblings::{Item, Room};
 use crate::tail::Tail;
 use std::alloc::{AllocError, Global};
 use std::mem::replace;
-use std_alloc::room::Vacant;
 
 /// The subtree after one byte: the other bytes of its node, the serials of the key that ends with
 /// the last of them, and the child nodes.
@@ -156,9 +155,7 @@ impl Branch {
             self.link(path, kind, serial);
             return Ok(());
         }
-        let Ok(room) = Vacant::take(alloc) else {
-            return Err(AllocError);
-        };
+        let room = Link::block(alloc)?;
         self.graft(count, path, room, alloc, kind, serial);
         Ok(())
     }

@@ -50,9 +50,7 @@ impl Cells {
     pub(crate) fn one(alloc: Global, value: u64) -> Result<Cells, AllocError>
         ensures { IfOk result (λ s. s ≡ value ∷ []) }
     {
-        let Ok(room) = Vacant::take(alloc) else {
-            return Err(AllocError);
-        };
+        let room = Link::block(alloc)?;
         Ok(Cells::in_room(room, alloc, value))
     }
 

@@ -1,12 +1,12 @@
 //! The link to a list of siblings: a pointer that is null, or points to the first of them. No other
 //! module dereferences a raw pointer.
-ghost use Rattle.std.specs.Prelude.{◌≡◌, ◌↔◌, IsTrue};
+ghost use Rattle.std.specs.Prelude.{◌≡◌, ◌↔◌, IfOk, IsTrue};
 ghost use types.Logic.{sem};
 ghost use Rattle.kob_prefix_tree.specs.Tree.{Tree, leaf, tree_coded};
 ghost use Rattle.kob_prefix_tree.specs.Owned.{nodes_own, nodes_lent};
 
 use crate::node::Node;
-use std::alloc::Global;
+use std::alloc::{AllocError, Global};
 use std::marker::{Model, Send, Sync};
 use std::ptr;
 use std_alloc::room::Vacant;
@@ -34,6 +34,14 @@ impl<T> Link<T> {
         Link {
             first: ptr::null_mut(),
         }
+    }
+
+    /// A block for one node. The kit's `take` answers a refusal with the allocator, so the error is
+    /// made here, where an allocation was refused.
+    pub fn block(alloc: Global) -> Result<Vacant<Node<T, Link<T>, Link<T>>, Global>, AllocError>
+        ensures { IfOk result (λ room. room.alloc ≡ alloc) }
+    {
+        Vacant::take(alloc).map_err(|_| AllocError)
     }
 
     /// Whether the link is null.

@@ -12,7 +12,6 @@ use crate::siblings::Item;
 use crate::tail::Tail;
 use std::alloc::{AllocError, Global};
 use std::mem::replace;
-use std_alloc::room::Vacant;
 
 impl Link<Item> {
     /// The first byte of the key.
@@ -80,9 +79,7 @@ impl Link<Item> {
                 return Ok(());
             }
         }
-        let Ok(room) = Vacant::take(alloc) else {
-            return Err(AllocError);
-        };
+        let room = Link::block(alloc)?;
         let item = Item {
             byte,
             tail: Tail::new(),

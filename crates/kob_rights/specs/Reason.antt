@@ -53,7 +53,19 @@ code_of OldEpoch = InvalidProducerEpoch
 code_of OutOfOrder = OutOfOrderSequenceNumber
 code_of BadGroupName = InvalidGroupId
 code_of GroupNotFound = GroupIdNotFound
-code_of _ = InvalidRequest
+code_of NoRecords = InvalidRequest
+code_of TooManyRecords = InvalidRequest
+code_of OffsetsSpent = InvalidRequest
+code_of TooManyTopics = InvalidRequest
+code_of EmptyName = InvalidRequest
+code_of BadCluster = InvalidRequest
+code_of NameTooLong = InvalidRequest
+code_of TooManyBindings = InvalidRequest
+code_of SerialsSpent = InvalidRequest
+code_of BadSequence = InvalidRequest
+code_of BadOffset = InvalidRequest
+code_of TooManyGroups = InvalidRequest
+code_of ProducerIdsSpent = InvalidRequest
 
 abbrev pub reason_name : Reason → List ℕ
 reason_name UnknownTopic = codes "UnknownTopic"

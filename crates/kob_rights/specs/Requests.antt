@@ -13,7 +13,7 @@ use Rattle.kob_rights.specs.declared.on_topics.DeleteTopics.{DeleteTopics}
 use Rattle.kob_rights.specs.declared.reply.Body.{Body}
 use Rattle.kob_rights.specs.declared.reply.Body.TheVariants as bodies
 use Rattle.kob_rights.specs.declared.reply.Reply.{Reply}
-use Rattle.kob_rights.specs.declared.reply.Reply.TheVariants.{Done}
+use Rattle.kob_rights.specs.declared.reply.Reply.TheVariants.{Denied, Done, Refused}
 use Rattle.kob_rights.specs.declared.request.Request.{Request}
 use Rattle.kob_rights.specs.declared.request.Request.TheVariants as requests
 
@@ -52,12 +52,20 @@ BodyWithin (bodies.Start offset) = offset ≤ greatest_offset
 BodyWithin (bodies.Commit committed) = IfSome committed (λ offset. offset ≤ greatest_offset)
 BodyWithin (bodies.Records records) =
     All (λ (entry : ℕ × Record). entry.0 < greatest_offset) records
-BodyWithin body = Unit {0}
+BodyWithin (bodies.Topics topics) = Unit {0}
+BodyWithin (bodies.Groups groups) = Unit {0}
+BodyWithin (bodies.Producer id epoch) = Unit {0}
+BodyWithin (bodies.Bindings bindings) = Unit {0}
+BodyWithin (bodies.Serials serials) = Unit {0}
+BodyWithin bodies.Committed = Unit {0}
+BodyWithin bodies.Created = Unit {0}
+BodyWithin bodies.Deleted = Unit {0}
 
 -- every offset in what is done is within the limit
 abbrev pub OffsetsWithin : Reply → Type 0
 OffsetsWithin (Done body) = BodyWithin body
-OffsetsWithin reply = Unit {0}
+OffsetsWithin (Denied code verdicts) = Unit {0}
+OffsetsWithin (Refused code reason) = Unit {0}
 
 -- the topic's name and the partition's number, if the request needs that partition to be there
 abbrev pub partition_named : Request → Option (List ℕ × ℕ)

@@ -2,7 +2,7 @@
 use Rattle.std.specs.Prelude.{List, ℕ, codes, [], ◌∷◌, Option, Some, None, slice_index_or}
 use Rattle.kob_names.specs.declared.kinds.Operation.{Operation}
 use Rattle.kob_names.specs.declared.kinds.ResourceKind.{ResourceKind}
-use Rattle.kob_names.specs.declared.kinds.ResourceKind.TheVariants.{Topic, Group, Cluster}
+use Rattle.kob_names.specs.declared.kinds.ResourceKind.TheVariants.{Topic, Group, Cluster, TransactionalId}
 use Rattle.kob_names.specs.declared.batch.Idem.{Idem}
 use Rattle.kob_names.specs.declared.kinds.Operation.TheVariants.{Read, Write, Create, Delete, Alter, Describe, IdempotentWrite}
 use Rattle.kob_rights.specs.declared.check.Clause.{Clause}
@@ -81,9 +81,10 @@ rights (DeleteAcls delete) = (on_cluster Alter ∷ []) ∷ []
 
 -- the code of a denial on a kind of resource; no request asks for a transactional id
 abbrev pub code_on : ResourceKind → Code
+code_on Topic = TopicAuthorizationFailed
 code_on Group = GroupAuthorizationFailed
 code_on Cluster = ClusterAuthorizationFailed
-code_on _ = TopicAuthorizationFailed
+code_on TransactionalId = TopicAuthorizationFailed
 
 -- the code on the last alternative of a clause, and the given one if there is none
 abbrev pub code_on_last : Code → List Check → Code

@@ -74,9 +74,9 @@ fn code_on(resource: ResourceKind) -> Code
     ensures { result ≡ code_on resource }
 {
     match resource {
+        ResourceKind::Topic | ResourceKind::TransactionalId => Code::TopicAuthorizationFailed,
         ResourceKind::Group => Code::GroupAuthorizationFailed,
         ResourceKind::Cluster => Code::ClusterAuthorizationFailed,
-        _ => Code::TopicAuthorizationFailed,
     }
 }
 

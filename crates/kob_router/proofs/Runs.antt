@@ -140,7 +140,7 @@ pub ticks_unmarked : {route : Dispatching} (s : Sender) (outbox : Contents) (ask
     → IsHeld route (state_of s outbox) → Adds before now u t asked (Delivered (Done body))
     → Acknowledges (state_of s outbox) new (Err reason)
     → Ticks IsAtMostOne route (point (state_of s outbox) before u) (point new now t) (Stopped reason)
-ticks_unmarked s outbox (Produce produce) body stop.Memory may held (made, same) done =
+ticks_unmarked s outbox (Produce produce) body (stop.Memory refused) may held (made, same) done =
     rw done (ticks_call s outbox (Produce produce) (Some (Done body)) may held made (inr ([], produce, body, refl), same))
 ticks_unmarked s outbox (Produce produce) body stop.Store may held (made, same) done =
     rw done (ticks_call s outbox (Produce produce) (Some (Done body)) may held made (([], produce, body, refl), same))

@@ -1,4 +1,6 @@
 -- What a route makes of a row, in the terms of Debezium's outbox event router.
+use Rattle.std.specs.declared.alloc.AllocError.{AllocError}
+use Rattle.std.specs.Prelude.{alloc_error}
 use Rattle.std.specs.Prelude.{ℕ, List, [], ◌∷◌, Bool, true, not, ◌&&◌, ◌||◌, ◌==◌, nat_eq, codes, length, nat_le, if◌then◌else◌, Option, Some, None, option_map, option_and_then, map, ◌≡◌, ◌⊎◌, Result, Ok, Err}
 use Rattle.std.specs.List.{starts_with, slice_split, find}
 use Rattle.bstr.specs.Find.{matches}
@@ -144,6 +146,6 @@ abbrev pub event_id : Record → Option (List ℕ)
 event_id sent = option_and_then (λ (header : Header). parsed header.value) (find is_id sent.headers)
 
 -- what there is, or this fault where there is nothing; out of memory may take the place of both
-abbrev pub OkIfSome : {A E : Type 0} → Option A → E → E → Result A E → Type 0
+abbrev pub OkIfSome : {A E : Type 0} → Option A → E → (AllocError → E) → Result A E → Type 0
 OkIfSome found nothing memory (Ok value) = found ≡ Some value
-OkIfSome found nothing memory (Err fault) = ((found ≡ None) × (fault ≡ nothing)) ⊎ (fault ≡ memory)
+OkIfSome found nothing memory (Err fault) = ((found ≡ None) × (fault ≡ nothing)) ⊎ (fault ≡ memory alloc_error)

@@ -101,7 +101,7 @@ IsReason route (stop.Refused code reason) moves new = EndsHeard moves (Refused c
 IsReason route stop.BadTopic moves new =
     IsIntroduced moves new
     × ((event : Event) × (next_row new.outbox ≡ Some event) × (route event ≡ None))
-IsReason route stop.Memory moves new = IsIntroduced moves new ⊎ EndsUnmarked moves
+IsReason route (stop.Memory refused) moves new = IsIntroduced moves new ⊎ EndsUnmarked moves
 IsReason route stop.Store moves new = EndsUnmarked moves
 
 -- what a tick answers
@@ -195,7 +195,7 @@ Takes route outbox old new (Ok false) = (old.hand ≡ None) × (next_row outbox 
 Takes route outbox old new (Err stop.BadTopic) =
     (old.hand ≡ None) × (new ≡ old)
     × ((event : Event) × (next_row outbox ≡ Some event) × (route event ≡ None))
-Takes route outbox old new (Err stop.Memory) = new ≡ old
+Takes route outbox old new (Err (stop.Memory refused)) = new ≡ old
 Takes route outbox old new (Err _) = ⊥
 
 -- a row is in hand
@@ -211,6 +211,6 @@ Requests route sender _ = ⊥
 -- the mark moves to the row in hand, or all stays
 abbrev pub Acknowledges : State → State → Result ℕ StopReason → Type 0
 Acknowledges old new (Ok seq) = (new ≡ after_acknowledgement old old.hand) × (new.outbox.mark ≡ seq)
-Acknowledges old new (Err stop.Memory) = new ≡ old
+Acknowledges old new (Err (stop.Memory refused)) = new ≡ old
 Acknowledges old new (Err stop.Store) = new ≡ old
 Acknowledges old new (Err _) = ⊥

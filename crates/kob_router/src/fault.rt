@@ -12,7 +12,7 @@ pub enum RouteFault {
     #[error("invalid placement: at most 16 entries `column:header:alias` are allowed")]
     BadPlacement,
     #[error("out of memory")]
-    Memory,
+    Memory(AllocError),
 }
 
 /// Why no record can be made of a row.
@@ -21,28 +21,28 @@ pub enum RecordFault {
     #[error("the route makes an invalid topic name")]
     BadTopic,
     #[error("out of memory")]
-    Memory,
+    Memory(AllocError),
 }
 
 impl From<AllocError> for RouteFault {
     ghost use Rattle.std.specs.Prelude.{◌≡◌};
     ghost use Rattle.kob_router.specs.declared.fault.RouteFault.TheVariants.{Memory};
 
-    ghost from_gives = { λ _ fault. fault ≡ Memory };
+    ghost from_gives = { λ refused fault. fault ≡ Memory refused };
 
-    fn from(_error: AllocError) -> RouteFault {
-        RouteFault::Memory
+    fn from(refused: AllocError) -> RouteFault {
+        RouteFault::Memory(refused)
     }
 }
 
 impl<T: Drop> From<AllocFailed<T>> for RouteFault {
-    ghost use Rattle.std.specs.Prelude.{◌≡◌};
+    ghost use Rattle.std.specs.Prelude.{◌≡◌, alloc_error};
     ghost use Rattle.kob_router.specs.declared.fault.RouteFault.TheVariants.{Memory};
 
-    ghost from_gives = { λ _ fault. fault ≡ Memory };
+    ghost from_gives = { λ _ fault. fault ≡ Memory alloc_error };
 
-    fn from(_error: AllocFailed<T>) -> RouteFault {
-        RouteFault::Memory
+    fn from(refused: AllocFailed<T>) -> RouteFault {
+        RouteFault::Memory(AllocError::from(refused))
     }
 }
 
@@ -50,9 +50,9 @@ impl From<AllocError> for RecordFault {
     ghost use Rattle.std.specs.Prelude.{◌≡◌};
     ghost use Rattle.kob_router.specs.declared.fault.RecordFault.TheVariants.{Memory};
 
-    ghost from_gives = { λ _ fault. fault ≡ Memory };
+    ghost from_gives = { λ refused fault. fault ≡ Memory refused };
 
-    fn from(_error: AllocError) -> RecordFault {
-        RecordFault::Memory
+    fn from(refused: AllocError) -> RecordFault {
+        RecordFault::Memory(refused)
     }
 }

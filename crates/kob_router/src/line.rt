@@ -20,11 +20,13 @@ impl Call {
         ensures { IfOk result (λ made. made ≡ self.now) }
     {
         let request = self.request.copy(alloc)?;
-        let Ok(heard) = self.heard.copy(alloc) else {
-            drop(request);
-            return Err(AllocError);
-        };
-        Ok(Call { request, heard })
+        match self.heard.copy(alloc) {
+            Ok(heard) => Ok(Call { request, heard }),
+            Err(refused) => {
+                drop(request);
+                Err(refused)
+            }
+        }
     }
 }
 

@@ -79,7 +79,7 @@ fn topic_named(alloc: Global, text: &[u8]) -> Result<TopicName, RecordFault>
     };
     match TopicName::parse(alloc, name) {
         Ok(topic) => Ok(topic),
-        Err(TopicNameFault::Memory) => Err(RecordFault::Memory),
+        Err(TopicNameFault::Memory(refused)) => Err(RecordFault::Memory(refused)),
         Err(_) => Err(RecordFault::BadTopic),
     }
 }

@@ -1,6 +1,7 @@
 //! The state of a router, and the parts of its step.
 
 ghost use Rattle.std.specs.Prelude.{◌≡◌, ◌<◌, IfErr, IfOk, option_map};
+ghost use Rattle.std.specs.Prelude.{alloc_error};
 ghost use Rattle.kob_outbox.specs.Contents.{stored_row};
 ghost use Rattle.kob_router.specs.Run.{batch_of, next_row};
 
@@ -117,16 +118,17 @@ impl Sender {
         let row = match next_row(outbox) {
             Ok(Some(row)) => row,
             Ok(None) => return Ok(false),
-            Err(_) => return Err(StopReason::Memory),
+            Err(OutboxFault::Memory(refused)) => return Err(StopReason::Memory(refused)),
+            Err(OutboxFault::Store) => unreachable!(),
         };
         let place = match place_of(alloc, &self.target, &row) {
             Ok(place) => place,
             Err(RecordFault::BadTopic) => return Err(StopReason::BadTopic),
-            Err(RecordFault::Memory) => return Err(StopReason::Memory),
+            Err(RecordFault::Memory(refused)) => return Err(StopReason::Memory(refused)),
         };
-        let Ok(()) = self.sequences.prepare(alloc, &place) else {
-            return Err(StopReason::Memory);
-        };
+        if let Err(refused) = self.sequences.prepare(alloc, &place) {
+            return Err(StopReason::Memory(refused));
+        }
         self.hand = Some(HeldRow { row, place });
         Ok(true)
     }
@@ -151,7 +153,7 @@ impl Sender {
     {
         let request = match self.request(alloc, producer) {
             Ok(request) => request,
-            Err(_) => return Tick::Stopped(StopReason::Memory),
+            Err(refused) => return Tick::Stopped(StopReason::Memory(refused)),
         };
         match line.send(alloc, request) {
             Delivery::Lost => Tick::Repeat,
@@ -205,7 +207,7 @@ impl Sender {
         let seq = hand.row.seq;
         match outbox.set_mark(seq) {
             Ok(()) => {}
-            Err(MarkFault::Memory) => return Err(StopReason::Memory),
+            Err(MarkFault::Memory(refused)) => return Err(StopReason::Memory(refused)),
             Err(_) => return Err(StopReason::Store),
         }
         self.sequences.use_one(&hand.place);
@@ -217,7 +219,7 @@ impl Sender {
 /// The first row after the mark.
 fn next_row(outbox: &mut Outbox) -> Result<Option<Row>, OutboxFault>
     ensures row { IfOk result (λ row. option_map stored_row row ≡ next_row outbox.old) }
-    ensures memory { IfErr result (λ fault. fault ≡ OutboxFault.Memory) }
+    ensures memory { IfErr result (λ fault. fault ≡ OutboxFault.Memory alloc_error) }
     ensures same { outbox.new ≡ outbox.old }
 {
     let mark = outbox.mark()?;

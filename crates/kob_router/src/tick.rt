@@ -2,6 +2,7 @@
 
 use kob_names::{Items, Verdict};
 use kob_rights::{Code, Reason};
+use std::alloc::AllocError;
 
 /// Why a step stopped. A row in flight stays in flight, and the mark stays.
 #[derive(Debug, Drop)]
@@ -21,7 +22,7 @@ pub enum StopReason {
     BadTopic,
     /// Out of memory: no call was made except for a producer id, or what was sent is done and the
     /// mark could not be moved.
-    Memory,
+    Memory(AllocError),
     /// What was sent is done, and the database failed to move the mark.
     Store,
 }

@@ -9,7 +9,7 @@ abbrev pub status_of : Result Ended RunFault → ℕ
 status_of (Ok Clean) = 0
 status_of (Ok Fault) = 1
 status_of (Ok Stopped) = 2
-status_of (Err Memory) = 2
+status_of (Err (Memory e)) = 2
 status_of (Err ReadFailed) = 1
 status_of (Err WriteFailed) = 1
 status_of (Err TooLong) = 1

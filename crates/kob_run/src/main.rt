@@ -7,10 +7,23 @@ ghost use Rattle.kob_run.specs.Status.{status_of};
 use kob_text::{Ended, RunFault, run_text};
 use std::io;
 use std::process::ExitCode;
+use std::rt::Env;
 
 fn main(rt: HostRuntime) -> ExitCode {
+    if is_given_words(&rt) {
+        let _ = eprintln!(rt; "kob_run takes no words: it serves the script on standard input");
+        return ExitCode::from(1);
+    }
     let ended = run_text(rt.alloc(), &mut rt.reader(), &mut io::writer(&rt));
     ExitCode::from(status_of(ended))
+}
+
+/// Whether the command line has a word after the program's name.
+fn is_given_words<R: AllocGlobal + Env>(rt: &R) -> bool {
+    match std::env::args(rt) {
+        Ok(words) => words.skip(1).next().is_some(),
+        Err(_) => true,
+    }
 }
 
 /// 0 for a script that was served to its end, 2 for out of memory, and 1 for every other end.
@@ -20,7 +33,7 @@ fn status_of(ended: Result<Ended, RunFault>) -> u8
     match ended {
         Ok(Ended::Clean) => 0,
         Ok(Ended::Fault) => 1,
-        Ok(Ended::Stopped) | Err(RunFault::Memory) => 2,
+        Ok(Ended::Stopped) | Err(RunFault::Memory(_)) => 2,
         Err(RunFault::ReadFailed | RunFault::WriteFailed | RunFault::TooLong) => 1,
     }
 }

@@ -1,7 +1,8 @@
 -- Bindings, as `kafka-acls.sh` adds them.
-use Rattle.std.specs.Prelude.{ℕ, Bool, true, false, ◌&&◌, List, ◌++◌, codes}
+use Rattle.std.specs.Prelude.{ℕ, Bool, true, false, ◌&&◌, List, [], ◌++◌, bytes_eq, codes, if◌then◌else◌}
 use Rattle.kob_names.specs.declared.draft.Draft.{Draft}
-use Rattle.kob_names.specs.declared.kinds.Operation.TheVariants.{IdempotentWrite}
+use Rattle.kob_names.specs.declared.kinds.Operation.{Operation}
+use Rattle.kob_names.specs.declared.kinds.Operation.TheVariants.{All, Read, Write, Create, Delete, Alter, Describe, ClusterAction, DescribeConfigs, AlterConfigs, IdempotentWrite}
 use Rattle.kob_names.specs.declared.kinds.PatternKind.{PatternKind}
 use Rattle.kob_names.specs.declared.kinds.PatternKind.TheVariants.{Literal, Prefixed}
 use Rattle.kob_names.specs.declared.kinds.Permission.{Permission}
@@ -10,8 +11,8 @@ use Rattle.kob_names.specs.declared.kinds.ResourceKind.{ResourceKind}
 use Rattle.kob_names.specs.declared.kinds.ResourceKind.TheVariants.{Topic, Group, Cluster, TransactionalId}
 use Rattle.kob_names.specs.declared.pattern.Pattern.{Pattern}
 use Rattle.kob_names.specs.Same.{same_operation}
-use Rattle.kob_words.specs.Words.{operation_name, bytes_text}
-use Rattle.kob_scene_export.specs.Plain.{comment_unless, is_plain}
+use Rattle.kob_words.specs.Words.{operation_name}
+use Rattle.kob_scene_export.specs.Plain.{comment_unless, is_line, word_text}
 
 abbrev pub principal_option : Permission → List ℕ
 principal_option Allow = codes " --allow-principal="
@@ -21,25 +22,33 @@ abbrev pub host_option : Permission → List ℕ
 host_option Allow = codes " --allow-host="
 host_option Deny = codes " --deny-host="
 
+-- from any host where no option names one
+abbrev pub host_text : Bool → Permission → List ℕ → List ℕ
+host_text written permission host =
+    if bytes_eq host (codes "*") then [] else host_option permission ++ word_text written host
+
 -- who may, or may not, do what
-abbrev pub grant_text : Draft → List ℕ
-grant_text d =
-    principal_option d.permission ++ bytes_text d.principal ++ host_option d.permission
-    ++ bytes_text d.host ++ codes " --operation=" ++ operation_name d.operation
+abbrev pub grant_text : Bool → Draft → List ℕ
+grant_text written d =
+    principal_option d.permission ++ word_text written d.principal
+    ++ host_text written d.permission d.host
+    ++ codes " --operation=" ++ operation_name d.operation
 
 abbrev pub pattern_text : PatternKind → List ℕ
 pattern_text Literal = codes ""
 pattern_text Prefixed = codes " --resource-pattern-type=prefixed"
 
-abbrev pub named_text : List ℕ → Pattern → List ℕ
-named_text option pattern = option ++ bytes_text pattern.name ++ pattern_text pattern.kind
+abbrev pub named_text : Bool → List ℕ → Pattern → List ℕ
+named_text written option pattern =
+    option ++ word_text written pattern.name ++ pattern_text pattern.kind
 
 -- on what; the cluster has one name
-abbrev pub target_text : ResourceKind → Pattern → List ℕ
-target_text Topic pattern = named_text (codes " --topic=") pattern
-target_text Group pattern = named_text (codes " --group=") pattern
-target_text TransactionalId pattern = named_text (codes " --transactional-id=") pattern
-target_text Cluster pattern = codes " --cluster"
+abbrev pub target_text : Bool → ResourceKind → Pattern → List ℕ
+target_text written Topic pattern = named_text written (codes " --topic=") pattern
+target_text written Group pattern = named_text written (codes " --group=") pattern
+target_text written TransactionalId pattern =
+    named_text written (codes " --transactional-id=") pattern
+target_text written Cluster pattern = codes " --cluster"
 
 -- a pattern of the cluster is literal
 abbrev pub is_whole_cluster : ResourceKind → PatternKind → Bool
@@ -49,15 +58,47 @@ is_whole_cluster Topic pattern = true
 is_whole_cluster Group pattern = true
 is_whole_cluster TransactionalId pattern = true
 
--- the command line can write it, and needs no quotes
+-- which operations `kafka-acls.sh` takes for a kind of resource
+abbrev pub is_of_topics : Operation → Bool
+is_of_topics ClusterAction = false
+is_of_topics IdempotentWrite = false
+is_of_topics operation = true
+
+abbrev pub is_of_groups : Operation → Bool
+is_of_groups Read = true
+is_of_groups Describe = true
+is_of_groups Delete = true
+is_of_groups All = true
+is_of_groups operation = false
+
+abbrev pub is_of_the_cluster : Operation → Bool
+is_of_the_cluster Read = false
+is_of_the_cluster Write = false
+is_of_the_cluster Delete = false
+is_of_the_cluster operation = true
+
+abbrev pub is_of_transactions : Operation → Bool
+is_of_transactions Write = true
+is_of_transactions Describe = true
+is_of_transactions All = true
+is_of_transactions operation = false
+
+abbrev pub is_taken : ResourceKind → Operation → Bool
+is_taken Topic operation = is_of_topics operation
+is_taken Group operation = is_of_groups operation
+is_taken Cluster operation = is_of_the_cluster operation
+is_taken TransactionalId operation = is_of_transactions operation
+
+-- the command line can write it, in one line
 abbrev pub is_written : Draft → Bool
 is_written d =
-    is_plain d.principal && is_plain d.host && is_plain d.pattern.name
-    && is_whole_cluster d.resource d.pattern.kind
+    is_line d.principal && is_line d.host && is_line d.pattern.name
+    && is_whole_cluster d.resource d.pattern.kind && is_taken d.resource d.operation
 
 -- a command and its options
-unfoldable pub line_text : List ℕ → Draft → List ℕ
-line_text command d = command ++ grant_text d ++ target_text d.resource d.pattern ++ codes "\n"
+unfoldable pub line_text : Bool → List ℕ → Draft → List ℕ
+line_text written command d =
+    command ++ grant_text written d ++ target_text written d.resource d.pattern ++ codes "\n"
 
 unfoldable pub add_text : List ℕ
 add_text = codes "kafka-acls.sh --add"
@@ -67,7 +108,13 @@ abbrev pub write_note : Bool → List ℕ
 write_note true = codes "# Kafka 2.8 and later accept Write on any topic instead (KIP-679).\n"
 write_note false = codes ""
 
+-- why a line is a comment, above it
+abbrev pub refused_note : Bool → List ℕ
+refused_note true = codes ""
+refused_note false = codes "# kafka-acls.sh refuses this operation on this kind of resource.\n"
+
 abbrev pub binding_line : Draft → List ℕ
 binding_line d =
-    write_note (same_operation d.operation IdempotentWrite) ++ comment_unless (is_written d)
-    ++ line_text add_text d
+    write_note (same_operation d.operation IdempotentWrite)
+    ++ refused_note (is_taken d.resource d.operation) ++ comment_unless (is_written d)
+    ++ line_text (is_written d) add_text d

@@ -1,12 +1,14 @@
--- Which words stand in a shell's line, or behind a property, without quotes.
-use Rattle.std.specs.Prelude.{ℕ, Bool, not, ◌&&◌, ◌||◌, ◌==◌, List, [], codes, length, nat_le, if◌then◌else◌}
+-- Which words stand in a shell's line as they are, which in quotes, and which values in a property.
+use Rattle.std.specs.Prelude.{ℕ, Bool, not, ◌&&◌, ◌||◌, ◌==◌, List, [], ◌∷◌, ◌++◌, codes, flat_map, length, nat_le, if◌then◌else◌}
 use Rattle.std.specs.Char.{is_ascii_alphanumeric}
 use Rattle.std.specs.List.{list_all}
+use Rattle.kob_words.specs.Words.{bytes_text}
 
--- one of . _ - : / @ *
+-- one of . _ - : / @ , =
 abbrev pub is_sign : ℕ → Bool
 is_sign byte =
-    byte == 46 || byte == 95 || byte == 45 || byte == 58 || byte == 47 || byte == 64 || byte == 42
+    byte == 46 || byte == 95 || byte == 45 || byte == 58 || byte == 47 || byte == 64 || byte == 44
+    || byte == 61
 
 abbrev pub is_plain_byte : ℕ → Bool
 is_plain_byte byte = is_ascii_alphanumeric byte || is_sign byte
@@ -14,7 +16,27 @@ is_plain_byte byte = is_ascii_alphanumeric byte || is_sign byte
 abbrev pub is_plain : List ℕ → Bool
 is_plain text = list_all is_plain_byte text
 
--- what can't be written without quotes stands as a comment
+-- no control character, which would end the line or be lost
+abbrev pub is_line_byte : ℕ → Bool
+is_line_byte byte = nat_le 32 byte && not (byte == 127)
+
+abbrev pub is_line : List ℕ → Bool
+is_line text = list_all is_line_byte text
+
+-- a byte within single quotes: a quote ends them, stands behind a backslash, and begins them again
+abbrev pub quoted_byte : ℕ → List ℕ
+quoted_byte byte = if byte == 39 then codes "'\\''" else byte ∷ []
+
+-- a word as a POSIX shell reads it
+abbrev pub shell_word : List ℕ → List ℕ
+shell_word text =
+    if is_plain text then text else codes "'" ++ flat_map quoted_byte text ++ codes "'"
+
+-- a word of a line, and in a comment with the escapes of scripts
+abbrev pub word_text : Bool → List ℕ → List ℕ
+word_text written text = if written then shell_word text else bytes_text text
+
+-- what can't be written stands as a comment
 abbrev pub comment_unless : Bool → List ℕ
 comment_unless written = if written then [] else codes "# "
 

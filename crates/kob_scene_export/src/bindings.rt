@@ -2,27 +2,42 @@
 
 ghost use Rattle.std.specs.Prelude.{◌≡◌, ◌++◌, OnOk};
 ghost use Rattle.kob_scene_export.specs.Bindings.{add_text, binding_line, grant_text, host_option};
+ghost use Rattle.kob_scene_export.specs.Bindings.{host_text, is_of_groups, is_of_the_cluster};
+ghost use Rattle.kob_scene_export.specs.Bindings.{is_of_topics, is_of_transactions, is_taken};
 ghost use Rattle.kob_scene_export.specs.Bindings.{is_whole_cluster, is_written, line_text};
 ghost use Rattle.kob_scene_export.specs.Bindings.{named_text, pattern_text, principal_option};
-ghost use Rattle.kob_scene_export.specs.Bindings.{target_text, write_note};
+ghost use Rattle.kob_scene_export.specs.Bindings.{refused_note, target_text, write_note};
 
-use crate::plain::{is_plain, push_mark};
+use crate::plain::{is_line, push_mark, push_word};
 use kob_names::{Draft, Operation, Pattern, PatternKind, Permission, ResourceKind};
-use kob_words::{operation_name, push_bytes};
+use kob_words::operation_name;
 use std::alloc::AllocError;
 
-/// Appends the line `kafka-acls.sh --add ..` of a binding. The words after the first are those of
-/// the command `acl` of a script that creates the same binding. The line is a comment if a word of
-/// it needs quotes, and for a prefixed pattern of the cluster, which `kafka-acls.sh` cannot write.
-/// A comment above a line for IdempotentWrite says what differs in Kafka. The error is out of
-/// memory; `out` then ends with a part of the text.
+/// Appends the line `kafka-acls.sh --add ..` of a binding, with single quotes where a POSIX shell
+/// needs them. The words after the first are those of the command `acl` of a script that creates the
+/// same binding. The line is a comment if a word of it has a control character, for a prefixed
+/// pattern of the cluster, which `kafka-acls.sh` cannot write, and for an operation that it refuses
+/// on that kind of resource. A comment above a line for IdempotentWrite says what differs in Kafka.
+/// The error is out of memory; `out` then ends with a part of the text.
 #[tactic(auto, using(kob_words::proofs::Appending::appending))]
 pub fn export_binding(out: &mut Vec<u8>, binding: &Draft) -> Result<(), AllocError>
     ensures { OnOk result (out.new.items ≡ out.old.items ++ binding_line binding.now) }
 {
+    let is_written = is_written(binding);
     out.extend_from_slice(write_note(binding.operation == Operation::IdempotentWrite).as_bytes())?;
-    push_mark(out, is_written(binding))?;
-    push_line(out, add_text().as_bytes(), binding)
+    out.extend_from_slice(refused_note(is_taken(binding.resource, binding.operation)).as_bytes())?;
+    push_mark(out, is_written)?;
+    push_line(out, is_written, add_text().as_bytes(), binding)
+}
+
+fn refused_note(is_taken: bool) -> &'static str
+    ensures { result.now ≡ refused_note is_taken }
+{
+    if is_taken {
+        ""
+    } else {
+        "# kafka-acls.sh refuses this operation on this kind of resource.\n"
+    }
 }
 
 fn write_note(is_of_producers: bool) -> &'static str
@@ -43,12 +58,18 @@ fn add_text() -> &'static str
 }
 
 #[tactic(auto, using(kob_words::proofs::Appending::appending), unfolding(crate::specs::Bindings::line_text))]
-fn push_line(out: &mut Vec<u8>, command: &[u8], binding: &Draft) -> Result<(), AllocError>
-    ensures { OnOk result (out.new.items ≡ out.old.items ++ line_text command.now binding.now) }
+fn push_line(
+    out: &mut Vec<u8>,
+    written: bool,
+    command: &[u8],
+    binding: &Draft,
+) -> Result<(), AllocError>
+    ensures { OnOk result (out.new.items
+        ≡ out.old.items ++ line_text written command.now binding.now) }
 {
     out.extend_from_slice(command)?;
-    push_grant(out, binding)?;
-    push_target(out, binding.resource, &binding.pattern)?;
+    push_grant(out, written, binding)?;
+    push_target(out, written, binding.resource, &binding.pattern)?;
     out.extend_from_slice(b"\n")
 }
 
@@ -67,20 +88,74 @@ fn is_whole_cluster(resource: ResourceKind, pattern: PatternKind) -> bool
 fn is_written(binding: &Draft) -> bool
     ensures { result ≡ is_written binding.now }
 {
-    is_plain(binding.principal.as_str().as_bytes())
-        && is_plain(binding.host.as_str().as_bytes())
-        && is_plain(binding.pattern.name.as_str().as_bytes())
+    is_line(binding.principal.as_str().as_bytes())
+        && is_line(binding.host.as_str().as_bytes())
+        && is_line(binding.pattern.name.as_str().as_bytes())
         && is_whole_cluster(binding.resource, binding.pattern.kind)
+        && is_taken(binding.resource, binding.operation)
+}
+
+/// Whether `kafka-acls.sh` takes an operation on a kind of resource: Kafka's `AclEntry` has the
+/// list.
+fn is_taken(resource: ResourceKind, operation: Operation) -> bool
+    ensures { result ≡ is_taken resource operation }
+{
+    match resource {
+        ResourceKind::Topic => is_of_topics(operation),
+        ResourceKind::Group => is_of_groups(operation),
+        ResourceKind::Cluster => is_of_the_cluster(operation),
+        ResourceKind::TransactionalId => is_of_transactions(operation),
+    }
+}
+
+fn is_of_topics(operation: Operation) -> bool
+    ensures { result ≡ is_of_topics operation }
+{
+    !matches!(
+        operation,
+        Operation::ClusterAction | Operation::IdempotentWrite
+    )
+}
+
+fn is_of_groups(operation: Operation) -> bool
+    ensures { result ≡ is_of_groups operation }
+{
+    matches!(
+        operation,
+        Operation::Read | Operation::Describe | Operation::Delete | Operation::All
+    )
+}
+
+fn is_of_the_cluster(operation: Operation) -> bool
+    ensures { result ≡ is_of_the_cluster operation }
+{
+    !matches!(
+        operation,
+        Operation::Read | Operation::Write | Operation::Delete
+    )
+}
+
+fn is_of_transactions(operation: Operation) -> bool
+    ensures { result ≡ is_of_transactions operation }
+{
+    matches!(
+        operation,
+        Operation::Write | Operation::Describe | Operation::All
+    )
 }
 
 #[tactic(auto, using(kob_words::proofs::Appending::appending))]
-fn push_grant(out: &mut Vec<u8>, binding: &Draft) -> Result<(), AllocError>
-    ensures { OnOk result (out.new.items ≡ out.old.items ++ grant_text binding.now) }
+fn push_grant(out: &mut Vec<u8>, written: bool, binding: &Draft) -> Result<(), AllocError>
+    ensures { OnOk result (out.new.items ≡ out.old.items ++ grant_text written binding.now) }
 {
     out.extend_from_slice(principal_option(binding.permission).as_bytes())?;
-    push_bytes(out, binding.principal.as_str().as_bytes())?;
-    out.extend_from_slice(host_option(binding.permission).as_bytes())?;
-    push_bytes(out, binding.host.as_str().as_bytes())?;
+    push_word(out, written, binding.principal.as_str().as_bytes())?;
+    push_host(
+        out,
+        written,
+        binding.permission,
+        binding.host.as_str().as_bytes(),
+    )?;
     out.extend_from_slice(b" --operation=")?;
     out.extend_from_slice(operation_name(binding.operation).as_bytes())
 }
@@ -94,6 +169,24 @@ fn principal_option(permission: Permission) -> &'static str
     }
 }
 
+/// Any host is what an option names by default.
+#[tactic(auto, using(kob_words::proofs::Appending::appending))]
+fn push_host(
+    out: &mut Vec<u8>,
+    written: bool,
+    permission: Permission,
+    host: &[u8],
+) -> Result<(), AllocError>
+    ensures { OnOk result (out.new.items
+        ≡ out.old.items ++ host_text written permission host.now) }
+{
+    if host == b"*".as_slice() {
+        return Ok(());
+    }
+    out.extend_from_slice(host_option(permission).as_bytes())?;
+    push_word(out, written, host)
+}
+
 fn host_option(permission: Permission) -> &'static str
     ensures { result.now ≡ host_option permission }
 {
@@ -105,25 +198,35 @@ fn host_option(permission: Permission) -> &'static str
 
 fn push_target(
     out: &mut Vec<u8>,
+    written: bool,
     resource: ResourceKind,
     pattern: &Pattern,
 ) -> Result<(), AllocError>
-    ensures { OnOk result (out.new.items ≡ out.old.items ++ target_text resource pattern.now) }
+    ensures { OnOk result (out.new.items
+        ≡ out.old.items ++ target_text written resource pattern.now) }
 {
     match resource {
-        ResourceKind::Topic => push_named(out, b" --topic=", pattern),
-        ResourceKind::Group => push_named(out, b" --group=", pattern),
-        ResourceKind::TransactionalId => push_named(out, b" --transactional-id=", pattern),
+        ResourceKind::Topic => push_named(out, written, b" --topic=", pattern),
+        ResourceKind::Group => push_named(out, written, b" --group=", pattern),
+        ResourceKind::TransactionalId => {
+            push_named(out, written, b" --transactional-id=", pattern)
+        }
         ResourceKind::Cluster => out.extend_from_slice(b" --cluster"),
     }
 }
 
 #[tactic(auto, using(kob_words::proofs::Appending::appending))]
-fn push_named(out: &mut Vec<u8>, option: &[u8], pattern: &Pattern) -> Result<(), AllocError>
-    ensures { OnOk result (out.new.items ≡ out.old.items ++ named_text option.now pattern.now) }
+fn push_named(
+    out: &mut Vec<u8>,
+    written: bool,
+    option: &[u8],
+    pattern: &Pattern,
+) -> Result<(), AllocError>
+    ensures { OnOk result (out.new.items
+        ≡ out.old.items ++ named_text written option.now pattern.now) }
 {
     out.extend_from_slice(option)?;
-    push_bytes(out, pattern.name.as_str().as_bytes())?;
+    push_word(out, written, pattern.name.as_str().as_bytes())?;
     out.extend_from_slice(pattern_text(pattern.kind).as_bytes())
 }
 

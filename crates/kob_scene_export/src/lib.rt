@@ -10,4 +10,4 @@ mod topics;
 pub use bindings::export_binding;
 pub use connector::export_connector;
 pub use server::{export_head, export_settings};
-pub use topics::export_topic;
+pub use topics::{export_topic, metric_name};

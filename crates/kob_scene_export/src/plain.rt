@@ -1,11 +1,12 @@
-//! Which words can be in a shell's line, or be the value of a property, without quotes.
+//! Which words can be in a shell's line as they are or in quotes, and be the value of a property.
 
 ghost use Rattle.std.specs.List.{list_all};
-ghost use Rattle.std.specs.Prelude.{◌≡◌, ◌++◌, OnOk};
-ghost use Rattle.kob_scene_export.specs.Plain.{comment_unless};
+ghost use Rattle.std.specs.Prelude.{◌≡◌, ◌++◌, OnOk, flat_map};
+ghost use Rattle.kob_scene_export.specs.Plain.{comment_unless, is_line, is_line_byte, quoted_byte};
 ghost use Rattle.kob_scene_export.specs.Plain.{is_plain, is_plain_byte, is_sign, is_value};
-ghost use Rattle.kob_scene_export.specs.Plain.{is_value_byte};
+ghost use Rattle.kob_scene_export.specs.Plain.{is_value_byte, shell_word, word_text};
 
+use kob_words::push_bytes;
 use std::alloc::AllocError;
 
 fn is_sign(byte: u8) -> bool
@@ -17,7 +18,8 @@ fn is_sign(byte: u8) -> bool
         || byte == b':'
         || byte == b'/'
         || byte == b'@'
-        || byte == b'*'
+        || byte == b','
+        || byte == b'='
 }
 
 fn is_plain_byte(byte: u8) -> bool
@@ -26,11 +28,70 @@ fn is_plain_byte(byte: u8) -> bool
     byte.is_ascii_alphanumeric() || is_sign(byte)
 }
 
-/// Whether a text has only letters, digits and `.`, `_`, `-`, `:`, `/`, `@`, `*`.
-pub fn is_plain(text: &[u8]) -> bool
+/// Whether a text has only letters, digits and `.`, `_`, `-`, `:`, `/`, `@`, `,`, `=`, which bash,
+/// dash and zsh read as they are.
+fn is_plain(text: &[u8]) -> bool
     ensures { result ≡ is_plain text.now }
 {
     text.iter().all(|byte| is_plain_byte(*byte))
+}
+
+fn is_line_byte(byte: u8) -> bool
+    ensures { result ≡ is_line_byte byte }
+{
+    32 <= byte && byte != 127
+}
+
+/// Whether a text has no control character, so that it can be in a line.
+pub fn is_line(text: &[u8]) -> bool
+    ensures { result ≡ is_line text.now }
+{
+    text.iter().all(|byte| is_line_byte(*byte))
+}
+
+/// Appends a word of a line as a POSIX shell reads it, in single quotes where it needs them; of a
+/// line that is not written, the word with the escapes of scripts.
+#[tactic(auto, using(kob_words::proofs::Appending::appending))]
+pub fn push_word(out: &mut Vec<u8>, written: bool, text: &[u8]) -> Result<(), AllocError>
+    ensures { OnOk result (out.new.items ≡ out.old.items ++ word_text written text.now) }
+{
+    if written {
+        push_shell_word(out, text)
+    } else {
+        push_bytes(out, text)
+    }
+}
+
+#[tactic(auto, using(kob_words::proofs::Appending::appending))]
+fn push_shell_word(out: &mut Vec<u8>, text: &[u8]) -> Result<(), AllocError>
+    ensures { OnOk result (out.new.items ≡ out.old.items ++ shell_word text.now) }
+{
+    if is_plain(text) {
+        return out.extend_from_slice(text);
+    }
+    out.extend_from_slice(b"'")?;
+    push_quoted(out, text)?;
+    out.extend_from_slice(b"'")
+}
+
+#[tactic(auto, using(kob_words::proofs::Appending::appending))]
+fn push_quoted(out: &mut Vec<u8>, text: &[u8]) -> Result<(), AllocError>
+    ensures { OnOk result (out.new.items ≡ out.old.items ++ flat_map quoted_byte text.now) }
+{
+    for byte in text {
+        push_quoted_byte(out, *byte)?;
+    }
+    Ok(())
+}
+
+fn push_quoted_byte(out: &mut Vec<u8>, byte: u8) -> Result<(), AllocError>
+    ensures { OnOk result (out.new.items ≡ out.old.items ++ quoted_byte byte) }
+{
+    if byte == b'\'' {
+        out.extend_from_slice(b"'\\''")
+    } else {
+        out.extend_from_slice(&[byte])
+    }
 }
 
 fn is_value_byte(byte: u8) -> bool

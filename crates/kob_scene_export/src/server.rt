@@ -1,10 +1,12 @@
 //! Settings, as lines of `server.properties`.
 
 ghost use Rattle.std.specs.Prelude.{◌≡◌, ◌++◌, OnOk, flat_map};
-ghost use Rattle.kob_scene_export.specs.Server.{are_plain, everyone_text, head_text};
-ghost use Rattle.kob_scene_export.specs.Server.{settings_text, super_text, supers_text};
+ghost use Rattle.std.specs.List.{list_all};
+ghost use Rattle.kob_scene_export.specs.Server.{are_written, authorizer_text, everyone_text};
+ghost use Rattle.kob_scene_export.specs.Server.{head_text, is_super_byte, settings_text};
+ghost use Rattle.kob_scene_export.specs.Server.{super_text, supers_text};
 
-use crate::plain::is_plain;
+use crate::plain::push_mark;
 use kob_names::{Principal, Settings};
 use kob_words::push_bytes;
 use std::alloc::AllocError;
@@ -17,17 +19,18 @@ pub fn export_head(out: &mut Vec<u8>) -> Result<(), AllocError>
 {
     out.extend_from_slice(b"# Put --bootstrap-server HOST:PORT after each command.\n")?;
     out.extend_from_slice(
-        b"# A line with a word that needs quotes is a comment; its escapes are those of scripts.\n",
+        b"# A line that can't be used as it is is a comment; its escapes are those of scripts.\n",
     )
 }
 
-/// Appends `super.users` and `allow.everyone.if.no.acl.found`. The line of super users is a comment
-/// if one of them needs quotes. The error is out of memory; `out` then ends with a part of the
+/// Appends `authorizer.class.name`, `super.users` and `allow.everyone.if.no.acl.found`. The line of
+/// super users is a comment if one of them has a byte that a property can't have, or `;`. The error is out of memory; `out` then ends with a part of the
 /// text.
 #[tactic(auto, using(kob_words::proofs::Appending::appending))]
 pub fn export_settings(out: &mut Vec<u8>, settings: &Settings) -> Result<(), AllocError>
     ensures { OnOk result (out.new.items ≡ out.old.items ++ settings_text settings.now) }
 {
+    out.extend_from_slice(authorizer_text().as_bytes())?;
     push_supers(out, settings.supers.as_slice())?;
     out.extend_from_slice(everyone_text(settings.everyone).as_bytes())
 }
@@ -42,40 +45,62 @@ fn everyone_text(everyone: bool) -> &'static str
     }
 }
 
-fn are_plain(supers: &[Principal]) -> bool
-    ensures { result ≡ are_plain supers.now }
+fn authorizer_text() -> &'static str
+    ensures { result.now ≡ authorizer_text }
+{
+    "authorizer.class.name=org.apache.kafka.metadata.authorizer.StandardAuthorizer\n"
+}
+
+fn is_super_byte(byte: u8) -> bool
+    ensures { result ≡ is_super_byte byte }
+{
+    32 <= byte && byte <= 126 && byte != b';' && byte != b'\\'
+}
+
+fn is_written(principal: &[u8]) -> bool
+    ensures { result ≡ list_all is_super_byte principal.now }
+{
+    principal.iter().all(|byte| is_super_byte(*byte))
+}
+
+fn are_written(supers: &[Principal]) -> bool
+    ensures { result ≡ are_written supers.now }
 {
     supers
         .iter()
-        .all(|principal| is_plain(principal.as_str().as_bytes()))
+        .all(|principal| is_written(principal.as_str().as_bytes()))
 }
 
 #[tactic(auto, using(kob_words::proofs::Appending::appending))]
 fn push_supers(out: &mut Vec<u8>, supers: &[Principal]) -> Result<(), AllocError>
     ensures { OnOk result (out.new.items ≡ out.old.items ++ supers_text supers.now) }
 {
-    if !are_plain(supers) {
-        out.extend_from_slice(b"# ")?;
-    }
+    let written = are_written(supers);
+    push_mark(out, written)?;
     out.extend_from_slice(b"super.users=")?;
-    push_each(out, supers)?;
+    push_each(out, written, supers)?;
     out.extend_from_slice(b"\n")
 }
 
 #[tactic(auto, using(kob_words::proofs::Appending::appending))]
-fn push_each(out: &mut Vec<u8>, supers: &[Principal]) -> Result<(), AllocError>
-    ensures { OnOk result (out.new.items ≡ out.old.items ++ flat_map super_text supers.now) }
+fn push_each(out: &mut Vec<u8>, written: bool, supers: &[Principal]) -> Result<(), AllocError>
+    ensures { OnOk result (out.new.items
+        ≡ out.old.items ++ flat_map (super_text written) supers.now) }
 {
     for principal in supers {
-        push_super(out, principal)?;
+        push_super(out, written, principal)?;
     }
     Ok(())
 }
 
 #[tactic(auto, using(kob_words::proofs::Appending::appending))]
-fn push_super(out: &mut Vec<u8>, principal: &Principal) -> Result<(), AllocError>
-    ensures { OnOk result (out.new.items ≡ out.old.items ++ super_text principal.now) }
+fn push_super(out: &mut Vec<u8>, written: bool, principal: &Principal) -> Result<(), AllocError>
+    ensures { OnOk result (out.new.items ≡ out.old.items ++ super_text written principal.now) }
 {
-    push_bytes(out, principal.as_str().as_bytes())?;
+    if written {
+        out.extend_from_slice(principal.as_str().as_bytes())?;
+    } else {
+        push_bytes(out, principal.as_str().as_bytes())?;
+    }
     out.extend_from_slice(b";")
 }

@@ -24,5 +24,5 @@ pub records : (change : Change) (event : OutboxEvent) (old new : Service) (resul
 records change event old new (Ok seq) value ok err bad duplicate = (ok, value)
 records change event old new (Err (faults.BadField column)) value ok err bad duplicate = (err, bad column refl)
 records change event old new (Err faults.DuplicateId) value ok err bad duplicate = (err, duplicate refl)
-records change event old new (Err faults.Memory) value ok err bad duplicate = err
+records change event old new (Err (faults.Memory e)) value ok err bad duplicate = err
 records change event old new (Err faults.Store) value ok err bad duplicate = err

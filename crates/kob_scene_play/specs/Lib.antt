@@ -1,3 +1,4 @@
+pub mod Faults
 pub mod Scenes
 pub mod Stages
 pub mod Steps

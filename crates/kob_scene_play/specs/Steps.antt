@@ -175,7 +175,7 @@ Records change event old new (Err (faults.BadField column)) =
     (new ≡ old) × (first_bad change event ≡ Some column)
 Records change event old new (Err faults.DuplicateId) =
     (new ≡ old) × IsTrue (is_recorded old.outbox.ids (id_text event.id))
-Records change event old new (Err faults.Memory) = new ≡ old
+Records change event old new (Err (faults.Memory e)) = new ≡ old
 Records change event old new (Err faults.Store) = new ≡ old
 
 -- how many rows a sweep dropped

@@ -5,6 +5,7 @@ ghost use Rattle.std.specs.List.{enumerate_from};
 ghost use Rattle.kob_inbox.specs.Contents.{placed_intake};
 ghost use Rattle.kob_inbox.specs.Run.Move.{Restarted};
 ghost use Rattle.kob_inbox.specs.Run.{start};
+ghost use Rattle.kob_scene_play.specs.Faults.{stop_of_consumer};
 ghost use Rattle.kob_scene_play.specs.Steps.{Consumes, IsConsumerTick, consumer_state};
 
 use crate::fault::{PlayFault, line_fault, loses_first, unless};
@@ -128,9 +129,11 @@ impl ConsumerWorker {
 }
 
 /// Why a tick stopped that ran out of memory or whose database failed.
-fn stopped_by(tick: &Tick) -> Option<PlayFault> {
+fn stopped_by(tick: &Tick) -> Option<PlayFault>
+    ensures { result ≡ stop_of_consumer tick.now }
+{
     match tick {
-        Tick::Stopped(StopReason::Memory) => Some(PlayFault::Memory),
+        Tick::Stopped(StopReason::Memory(refused)) => Some(PlayFault::Memory(*refused)),
         Tick::Stopped(StopReason::Store) => Some(PlayFault::Store),
         _ => None,
     }

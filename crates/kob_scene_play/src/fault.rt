@@ -15,7 +15,7 @@ use thiserror::Error;
 #[derive(Clone, Copy, Debug, Error)]
 pub enum PlayFault {
     #[error("out of memory")]
-    Memory,
+    Memory(AllocError),
     /// The journal is full: it has 1,000,000 entries.
     #[error("the journal is full")]
     JournalFull,
@@ -25,54 +25,75 @@ pub enum PlayFault {
     /// The scene has no worker at the place that a step names.
     #[error("a step names an unknown worker")]
     NoWorker,
+    /// The settings have more bindings than can be in force. A scene's own have none.
+    #[error("too many bindings")]
+    TooMany,
+    /// A call was answered of which a message was to be lost.
+    #[error("a call that was to be lost was answered")]
+    NotLost,
     #[error("the output could not be written")]
     WriteFailed,
 }
 
 impl From<AllocError> for PlayFault {
-    ghost use Rattle.std.specs.Prelude.{◌≡◌};
+    ghost use Rattle.std.specs.Prelude.{◌≡◌, alloc_error};
     ghost use Rattle.kob_scene_play.specs.declared.fault.PlayFault.TheVariants.{Memory};
 
-    ghost from_gives = { λ _ fault. fault ≡ Memory };
+    ghost from_gives = { λ _ fault. fault ≡ Memory alloc_error };
 
-    fn from(_refused: AllocError) -> PlayFault {
-        PlayFault::Memory
+    fn from(refused: AllocError) -> PlayFault {
+        PlayFault::Memory(refused)
     }
 }
 
 impl<T: Drop> From<AllocFailed<T>> for PlayFault {
-    ghost use Rattle.std.specs.Prelude.{◌≡◌};
+    ghost use Rattle.std.specs.Prelude.{◌≡◌, alloc_error};
     ghost use Rattle.kob_scene_play.specs.declared.fault.PlayFault.TheVariants.{Memory};
 
-    ghost from_gives = { λ _ fault. fault ≡ Memory };
+    ghost from_gives = { λ _ fault. fault ≡ Memory alloc_error };
 
-    fn from(_refused: AllocFailed<T>) -> PlayFault {
-        PlayFault::Memory
+    fn from(failed: AllocFailed<T>) -> PlayFault {
+        PlayFault::Memory(AllocError::from(failed))
     }
 }
 
 impl From<CallFault> for PlayFault {
+    ghost use Rattle.std.specs.Prelude.{◌≡◌};
+    ghost use Rattle.kob_scene_play.specs.Faults.{fault_of_call};
+
+    ghost from_gives = { λ fault made. made ≡ fault_of_call fault };
+
     fn from(fault: CallFault) -> PlayFault {
         match fault {
-            CallFault::Memory => PlayFault::Memory,
+            CallFault::Memory(refused) => PlayFault::Memory(refused),
             CallFault::JournalFull | CallFault::Stale { .. } => PlayFault::JournalFull,
         }
     }
 }
 
 impl From<OutboxFault> for PlayFault {
+    ghost use Rattle.std.specs.Prelude.{◌≡◌};
+    ghost use Rattle.kob_scene_play.specs.Faults.{fault_of_outbox};
+
+    ghost from_gives = { λ fault made. made ≡ fault_of_outbox fault };
+
     fn from(fault: OutboxFault) -> PlayFault {
         match fault {
-            OutboxFault::Memory => PlayFault::Memory,
+            OutboxFault::Memory(refused) => PlayFault::Memory(refused),
             OutboxFault::Store => PlayFault::Store,
         }
     }
 }
 
 impl From<InboxFault> for PlayFault {
+    ghost use Rattle.std.specs.Prelude.{◌≡◌};
+    ghost use Rattle.kob_scene_play.specs.Faults.{fault_of_inbox};
+
+    ghost from_gives = { λ fault made. made ≡ fault_of_inbox fault };
+
     fn from(fault: InboxFault) -> PlayFault {
         match fault {
-            InboxFault::Memory => PlayFault::Memory,
+            InboxFault::Memory(refused) => PlayFault::Memory(refused),
             InboxFault::Store => PlayFault::Store,
         }
     }
@@ -113,7 +134,7 @@ pub(crate) fn unless<T: Drop>(
         None if is_lost => Ok(answer),
         None => {
             drop(answer);
-            Err(PlayFault::Memory)
+            Err(PlayFault::NotLost)
         }
         Some(fault) => {
             drop(answer);

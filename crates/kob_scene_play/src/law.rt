@@ -110,14 +110,14 @@ fn misplaced_row(
     ensures { consumer.new ≡ consumer.old }
 {
     let inbox = consumer.rows()?;
-    let Ok(rows) = rows_of(alloc, sender, steps) else {
-        drop(inbox);
-        return Err(PlayFault::Memory);
+    let rows = match rows_of(alloc, sender, steps) {
+        Ok(rows) => rows,
+        Err(refused) => {
+            drop(inbox);
+            return Err(PlayFault::Memory(refused));
+        }
     };
-    match first_out_of_order(alloc, &rows, &inbox) {
-        Ok(place) => Ok(place),
-        Err(_) => Err(PlayFault::Memory),
-    }
+    first_out_of_order(alloc, &rows, &inbox).map_err(PlayFault::Memory)
 }
 
 /// The events that the service recorded, in their order.

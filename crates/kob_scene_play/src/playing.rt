@@ -29,9 +29,12 @@ use std::io::Write;
 pub fn play<W: Write>(alloc: Global, scene: Scene, writer: &mut W) -> Result<Ended, PlayFault>
     ensures { IfOk result (EndsAs scene (W.contents writer.old) (W.contents writer.new)) }
 {
-    let Ok(mut out) = Output::open(alloc) else {
-        drop(scene);
-        return Err(PlayFault::Memory);
+    let mut out = match Output::open(alloc) {
+        Ok(out) => out,
+        Err(refused) => {
+            drop(scene);
+            return Err(PlayFault::Memory(refused));
+        }
     };
     match play_scene(alloc, scene, &mut out, writer) {
         Ok(()) => Ok(Ended::Clean),

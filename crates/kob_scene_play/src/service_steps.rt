@@ -69,7 +69,7 @@ fn record(
     let recorded = played.service.record(change, event);
     match recorded {
         Ok(_) => played.recorded_by.push_reserved(place),
-        Err(RecordFault::Memory) => return Err(PlayFault::Memory),
+        Err(RecordFault::Memory(refused)) => return Err(PlayFault::Memory(refused)),
         Err(RecordFault::Store) => return Err(PlayFault::Store),
         Err(RecordFault::BadField(_)) => {}
         Err(RecordFault::DuplicateId) => {}

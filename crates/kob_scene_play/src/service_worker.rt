@@ -5,6 +5,7 @@ ghost use Rattle.std.specs.Prelude.{length, map, option_map, string_bytes};
 ghost use Rattle.kob_outbox.specs.Contents.{empty, id_text, stored_row, first_bad};
 ghost use Rattle.kob_outbox.specs.Contents.{first_after, state_at, up_to, is_recorded, next_seq};
 ghost use Rattle.kob_router.specs.Run.Move.{Recorded as RecordedMove, Restarted, Swept};
+ghost use Rattle.kob_scene_play.specs.Faults.{stop_of_service};
 ghost use Rattle.kob_scene_play.specs.Steps.{Does, IsServiceTick};
 
 use crate::fault::{PlayFault, line_fault, loses_first, unless};
@@ -165,9 +166,11 @@ impl ServiceWorker {
 }
 
 /// Why a tick stopped that ran out of memory or whose database failed.
-fn stopped_by(tick: &Tick) -> Option<PlayFault> {
+fn stopped_by(tick: &Tick) -> Option<PlayFault>
+    ensures { result ≡ stop_of_service tick.now }
+{
     match tick {
-        Tick::Stopped(StopReason::Memory) => Some(PlayFault::Memory),
+        Tick::Stopped(StopReason::Memory(refused)) => Some(PlayFault::Memory(*refused)),
         Tick::Stopped(StopReason::Store) => Some(PlayFault::Store),
         _ => None,
     }

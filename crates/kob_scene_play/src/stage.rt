@@ -124,7 +124,7 @@ fn consumer_numbered(consumers: &[PlayedConsumer], worker: usize) -> Option<&Pla
         .find(|played| played.consumer.number() == worker)
 }
 
-// A scene opens no bindings, so that out of memory is the only fault.
+// A scene opens no bindings, so that it has never too many.
 fn recorded_by(alloc: Global, settings: Settings) -> Result<Recorded, PlayFault>
     ensures { IfOk result (λ recorded. recorded ≡ record {
       opening = settings_of (opened_by settings);
@@ -133,8 +133,10 @@ fn recorded_by(alloc: Global, settings: Settings) -> Result<Recorded, PlayFault>
       broker = opened_by settings;
     }) }
 {
-    let Ok(broker) = broker_by(alloc, settings) else {
-        return Err(PlayFault::Memory);
+    let broker = match broker_by(alloc, settings) {
+        Ok(broker) => broker,
+        Err(OpenFault::Memory(refused)) => return Err(PlayFault::Memory(refused)),
+        Err(OpenFault::TooMany) => return Err(PlayFault::TooMany),
     };
     Ok(Recorded::open(alloc, broker, ENTRY_LIMIT)?)
 }
@@ -166,10 +168,10 @@ fn add_service(
     ensures { OnOk result (map named_service all.new.items
         ≡ map named_service all.old.items ++ declared_service service ∷ []) }
 {
-    let Ok(()) = all.reserve(1) else {
+    if let Err(refused) = all.reserve(1) {
         drop(service);
-        return Err(PlayFault::Memory);
-    };
+        return Err(PlayFault::Memory(refused));
+    }
     let Service {
         name,
         worker,
@@ -214,10 +216,10 @@ fn add_consumer(
     ensures { OnOk result (map named_consumer all.new.items
         ≡ map named_consumer all.old.items ++ declared_consumer consumer ∷ []) }
 {
-    let Ok(()) = all.reserve(1) else {
+    if let Err(refused) = all.reserve(1) {
         drop(consumer);
-        return Err(PlayFault::Memory);
-    };
+        return Err(PlayFault::Memory(refused));
+    }
     let Consumer {
         name,
         worker,

@@ -31,7 +31,7 @@ pub fn play_text<W: Write>(alloc: Global, text: &[u8], writer: &mut W) -> Result
 {
     match read_scene(alloc, text) {
         Ok(scene) => play(alloc, scene, writer),
-        Err(SceneError::Memory) => Err(PlayFault::Memory),
+        Err(SceneError::Memory(refused)) => Err(PlayFault::Memory(refused)),
         Err(SceneError::Fault(fault)) => write_fault(alloc, fault, writer),
     }
 }

@@ -20,7 +20,7 @@ module _ (s : Seen) (line : List ℕ) (reading : code.Reading) where
   line_read words answer (Ok done) has is reads =
       subst (λ (read : Result (List Word) script_kind.FaultKind). (given : Option CliArgs) × IsAnswerToLine read given
       × ((as_scripts read >>> with_words given s) ≡ Ok (so_far reading))) (sym has) (answer, is, reads)
-  line_read words answer (Err Memory) has is reads = tt
+  line_read words answer (Err (Memory e)) has is reads = tt
   line_read words answer (Err (Fault kind)) has is reads =
       subst (λ (read : Result (List Word) script_kind.FaultKind). (given : Option CliArgs) × IsAnswerToLine read given
       × ((as_scripts read >>> with_words given s) ≡ Err kind)) (sym has) (answer, is, reads)
@@ -28,7 +28,7 @@ module _ (s : Seen) (line : List ℕ) (reading : code.Reading) where
   -- a line with an escape that is not whole
   pub line_fails : (e : LineError) → ScriptFails e (words_of line) → ReadsLine s line reading (Err (step_error e))
   unfolding with_line
-  line_fails line_error.Memory fails = tt
+  line_fails (line_error.Memory e) fails = tt
   line_fails (line_error.Fault kind) fails = grind (arith, nat_tests)
 
 module _ (text : List ℕ) (s : Seen) (number : ℕ) (rest : List (List ℕ)) (line : List ℕ) (more : List (List ℕ))
@@ -43,7 +43,7 @@ module _ (text : List ℕ) (s : Seen) (number : ℕ) (rest : List (List ℕ)) (l
   pub line_stops : (reading : code.Reading) (e : StepError) → ReadsLine s line reading (Err e)
       → MayRead text (Err (fault_at number e))
   unfolding LinesFrom
-  line_stops reading Memory reads = tt
+  line_stops reading (Memory e) reads = tt
   line_stops reading (Fault kind) reads =
       let read : Result Seen fault.SceneFault = Err (record { line = number; kind = kind }) in
       leads read (subst (λ (lines : List (List ℕ)). LinesFrom s number lines read) (sym split) (Err kind, reads, refl))

@@ -89,7 +89,7 @@ abbrev pub recorded_text : Result ℕ RecordFault → List ℕ
 recorded_text (Ok seq) = codes " ok recorded " ++ decimal seq
 recorded_text (Err (BadField column)) = bad_field_text column
 recorded_text (Err DuplicateId) = codes " refused DuplicateId"
-recorded_text (Err Memory) = codes " stopped memory"
+recorded_text (Err (Memory e)) = codes " stopped memory"
 recorded_text (Err Store) = codes " stopped store"
 
 -- what a tick of a service came to
@@ -102,7 +102,7 @@ service_tick_text (service_tick.Stopped (service_stop.Denied code verdicts)) =
 service_tick_text (service_tick.Stopped (service_stop.Refused code reason)) =
     codes " stopped" ++ outcome_text (Refused code reason)
 service_tick_text (service_tick.Stopped service_stop.BadTopic) = codes " stopped bad-topic"
-service_tick_text (service_tick.Stopped service_stop.Memory) = codes " stopped memory"
+service_tick_text (service_tick.Stopped (service_stop.Memory e)) = codes " stopped memory"
 service_tick_text (service_tick.Stopped service_stop.Store) = codes " stopped store"
 
 -- what a tick of a consumer came to
@@ -116,7 +116,7 @@ consumer_tick_text (consumer_tick.Stopped (consumer_stop.Denied code verdicts)) 
     codes " stopped" ++ outcome_text (Denied code verdicts)
 consumer_tick_text (consumer_tick.Stopped (consumer_stop.Refused code reason)) =
     codes " stopped" ++ outcome_text (Refused code reason)
-consumer_tick_text (consumer_tick.Stopped consumer_stop.Memory) = codes " stopped memory"
+consumer_tick_text (consumer_tick.Stopped (consumer_stop.Memory e)) = codes " stopped memory"
 consumer_tick_text (consumer_tick.Stopped consumer_stop.Store) = codes " stopped store"
 
 -- a line of output

@@ -31,7 +31,7 @@ bad_line = Script BadLine
 
 -- A function failed with the fault of reading, or memory ran out.
 abbrev pub Fails : {A : Type 0} → StepError → Result A SceneFaultKind → Type 0
-Fails Memory read = Unit {0}
+Fails (Memory e) read = Unit {0}
 Fails (Fault kind) read = read ≡ Err kind
 
 -- What a function returned is what reading gives, unless memory ran out.
@@ -47,7 +47,7 @@ GivesSeen view (Err error) read = Fails error read
 
 -- the error of a line of a script, as one of a scene's
 abbrev pub step_error : LineError → StepError
-step_error line_error.Memory = Memory
+step_error (line_error.Memory e) = Memory e
 step_error (line_error.Fault kind) = Fault (Script kind)
 
 -- How a scene's fault is printed.

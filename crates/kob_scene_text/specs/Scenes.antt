@@ -197,7 +197,7 @@ LineReadsAs s line read =
 -- A line more was read with an answer that clap may give, unless memory ran out.
 abbrev pub ReadsLine : Seen → List ℕ → Reading → Result (Unit {0}) StepError → Type 0
 ReadsLine s line reading (Ok done) = LineReadsAs s line (Ok (so_far reading))
-ReadsLine s line reading (Err step_error.Memory) = Unit {0}
+ReadsLine s line reading (Err (step_error.Memory e)) = Unit {0}
 ReadsLine s line reading (Err (step_error.Fault kind)) = LineReadsAs s line (Err kind)
 
 -- the lines after one may be read as this, unless that one has a fault
@@ -220,12 +220,12 @@ ReadsAs text read = LinesFrom nothing_yet 1 (lines_in text) read
 -- A scene was read as its bytes may be, unless memory ran out.
 abbrev pub MayRead : List ℕ → Result Scene SceneError → Type 0
 MayRead text (Ok scene) = ReadsAs text (Ok (seen scene))
-MayRead text (Err scene_error.Memory) = Unit {0}
+MayRead text (Err (scene_error.Memory e)) = Unit {0}
 MayRead text (Err (scene_error.Fault fault)) = ReadsAs text (Err fault)
 
 -- what was wrong, with the number of its line
 abbrev pub fault_at : ℕ → StepError → SceneError
-fault_at line step_error.Memory = scene_error.Memory
+fault_at line (step_error.Memory e) = scene_error.Memory e
 fault_at line (step_error.Fault kind) = scene_error.Fault (record { line = line; kind = kind })
 
 -- Scripts as scenes.

@@ -38,7 +38,7 @@ pub struct SceneFault {
 #[derive(Clone, Copy, Debug, Error)]
 pub enum SceneError {
     #[error("out of memory")]
-    Memory,
+    Memory(AllocError),
     #[error("{0}")]
     Fault(SceneFault),
 }
@@ -46,7 +46,7 @@ pub enum SceneError {
 /// Why a line of a scene was not read.
 #[derive(Clone, Copy)]
 pub(crate) enum StepError {
-    Memory,
+    Memory(AllocError),
     Fault(SceneFaultKind),
 }
 
@@ -58,41 +58,42 @@ impl From<LineError> for StepError {
 
     fn from(error: LineError) -> StepError {
         match error {
-            LineError::Memory => StepError::Memory,
+            LineError::Memory(error) => StepError::Memory(error),
             LineError::Fault(kind) => StepError::Fault(SceneFaultKind::Script(kind)),
         }
     }
 }
 
-impl From<AllocError> for StepError {
+impl From<FaultKind> for StepError {
     ghost use Rattle.std.specs.Prelude.{◌≡◌};
+    ghost use Rattle.kob_scene_text.specs.declared.fault.SceneFaultKind.TheVariants.{Script};
+    ghost use Rattle.kob_scene_text.specs.declared.fault.StepError.TheVariants.{Fault};
+
+    ghost from_gives = { λ kind error. error ≡ Fault (Script kind) };
+
+    fn from(kind: FaultKind) -> StepError {
+        StepError::Fault(SceneFaultKind::Script(kind))
+    }
+}
+
+impl From<AllocError> for StepError {
+    ghost use Rattle.std.specs.Prelude.{◌≡◌, alloc_error};
     ghost use Rattle.kob_scene_text.specs.declared.fault.StepError.TheVariants.{Memory};
 
-    ghost from_gives = { λ _ error. error ≡ Memory };
+    ghost from_gives = { λ _ error. error ≡ Memory alloc_error };
 
-    fn from(_error: AllocError) -> StepError {
-        StepError::Memory
+    fn from(error: AllocError) -> StepError {
+        StepError::Memory(error)
     }
 }
 
 impl<T: Drop> From<AllocFailed<T>> for StepError {
-    ghost use Rattle.std.specs.Prelude.{◌≡◌};
+    ghost use Rattle.std.specs.Prelude.{◌≡◌, alloc_error};
     ghost use Rattle.kob_scene_text.specs.declared.fault.StepError.TheVariants.{Memory};
 
-    ghost from_gives = { λ _ error. error ≡ Memory };
+    ghost from_gives = { λ _ error. error ≡ Memory alloc_error };
 
-    fn from(_error: AllocFailed<T>) -> StepError {
-        StepError::Memory
-    }
-}
-
-impl From<AllocError> for SceneError {
-    ghost use Rattle.std.specs.Prelude.{◌≡◌};
-    ghost use Rattle.kob_scene_text.specs.declared.fault.SceneError.TheVariants.{Memory};
-
-    ghost from_gives = { λ _ error. error ≡ Memory };
-
-    fn from(_error: AllocError) -> SceneError {
-        SceneError::Memory
+    fn from(failed: AllocFailed<T>) -> StepError {
+        StepError::Memory(AllocError::from(failed))
     }
 }

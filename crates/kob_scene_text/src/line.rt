@@ -18,7 +18,7 @@ use crate::scene::{Consumer, Service, Step};
 use crate::service_lines::{DeclaredService, service_of};
 use crate::step_lines::{begins_step, consumer_step, service_step};
 use kob_acl_cli::CliArgs;
-use kob_names::Text;
+use kob_names::{Text, sum_of};
 use kob_rights::Event;
 use kob_script::{
     FaultKind, Word, answer_to, events_of, everyone_of, is_setting, is_super, super_of, words_of,
@@ -194,10 +194,7 @@ impl Reading {
     fn next_worker(&self) -> Result<usize, AllocError>
         ensures { IfOk result (λ number. number ≡ next_worker (so_far self.now)) }
     {
-        match self.services.len().checked_add(self.consumers.len()) {
-            Some(workers) => workers.checked_add(1).ok_or(AllocError),
-            None => Err(AllocError),
-        }
+        sum_of(sum_of(self.services.len(), self.consumers.len())?, 1)
     }
 
     fn add_service(&mut self, alloc: Global, words: &[Word<'_>]) -> Result<(), StepError>

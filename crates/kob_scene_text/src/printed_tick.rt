@@ -47,7 +47,7 @@ fn print_service_stop(
             print_stopped(out, number, &Reply::Refused { code, reason })
         }
         kob_router::StopReason::BadTopic => print_word(out, number, b" stopped bad-topic"),
-        kob_router::StopReason::Memory => print_word(out, number, b" stopped memory"),
+        kob_router::StopReason::Memory(_) => print_word(out, number, b" stopped memory"),
         kob_router::StopReason::Store => print_word(out, number, b" stopped store"),
     }
 }
@@ -123,7 +123,7 @@ fn print_consumer_stop(
         kob_inbox::StopReason::Refused { code, reason } => {
             print_stopped(out, number, &Reply::Refused { code, reason })
         }
-        kob_inbox::StopReason::Memory => print_word(out, number, b" stopped memory"),
+        kob_inbox::StopReason::Memory(_) => print_word(out, number, b" stopped memory"),
         kob_inbox::StopReason::Store => print_word(out, number, b" stopped store"),
     }
 }
@@ -161,7 +161,7 @@ pub fn print_recorded(
             print_word(out, number, bad_field_text(column).as_bytes())
         }
         Err(RecordFault::DuplicateId) => print_word(out, number, b" refused DuplicateId"),
-        Err(RecordFault::Memory) => print_word(out, number, b" stopped memory"),
+        Err(RecordFault::Memory(_)) => print_word(out, number, b" stopped memory"),
         Err(RecordFault::Store) => print_word(out, number, b" stopped store"),
     }
 }

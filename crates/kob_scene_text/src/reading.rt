@@ -6,7 +6,7 @@ use crate::fault::{SceneError, SceneFault, StepError};
 use crate::line::read_line;
 use crate::scene::{Consumer, Scene, Service, Step};
 use bstr::ByteSlice;
-use kob_names::{Items, Principal, Settings};
+use kob_names::{Items, Principal, Settings, sum_of};
 use std::alloc::Global;
 
 /// What was read of a scene so far.
@@ -32,15 +32,12 @@ pub fn read_scene(alloc: Global, text: &[u8]) -> Result<Scene, SceneError>
         consumers: Vec::new(alloc),
         steps: Vec::new(alloc),
     };
-    let mut number: u64 = 0;
+    let mut number = 0;
     for line in text.lines() {
-        match number.checked_add(1) {
-            Some(next) => number = next,
-            None => return Err(SceneError::Memory),
-        }
+        number = sum_of(number, 1).map_err(SceneError::Memory)?;
         match read_line(alloc, &mut reading, line) {
             Ok(()) => {}
-            Err(error) => return Err(fault_at(error, number)),
+            Err(error) => return Err(fault_at(error, number as u64)),
         }
     }
     Ok(reading.finished(alloc))
@@ -53,7 +50,7 @@ fn fault_at(error: StepError, line: u64) -> SceneError
     ensures { result ≡ fault_at line error }
 {
     match error {
-        StepError::Memory => SceneError::Memory,
+        StepError::Memory(error) => SceneError::Memory(error),
         StepError::Fault(kind) => SceneError::Fault(SceneFault { line, kind }),
     }
 }

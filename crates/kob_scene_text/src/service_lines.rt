@@ -163,7 +163,7 @@ fn route_of(alloc: Global, settings: &RouteSettings) -> Result<Route, StepError>
 {
     match Route::new(alloc, settings) {
         Ok(route) => Ok(route),
-        Err(RouteFault::Memory) => Err(StepError::Memory),
+        Err(RouteFault::Memory(error)) => Err(StepError::Memory(error)),
         Err(_) => Err(StepError::Fault(SceneFaultKind::BadRoute)),
     }
 }

@@ -1,5 +1,5 @@
 -- Values that are read in turn, by a loop over what they are read from.
-use Rattle.kob_script.proofs.Imports.{Err, Fails, Fault, FaultKind, LineError, List, Memory, Ok, Result, [], ap, append-nil, append_assoc, arith, drop, drop_more, drop_of_length-le, get_or, length, map, nat_tests, refl, subst, sym, ℕ, ◌++◌, ◌+◌, ◌<◌, ◌>>=◌, ◌∙◌, ◌∷◌, ◌≡◌, ◌≤◌}
+use Rattle.kob_script.proofs.Imports.{None, Option, Some, result_err, Err, Fails, Fault, FaultKind, LineError, List, Memory, Ok, Result, [], ap, append-nil, append_assoc, arith, drop, drop_more, drop_of_length-le, get_or, length, map, nat_tests, refl, subst, sym, ℕ, ◌++◌, ◌+◌, ◌<◌, ◌>>=◌, ◌∙◌, ◌∷◌, ◌≡◌, ◌≤◌}
 use Rattle.kob_script.specs.Words.{each}
 
 -- values that stand before what is read
@@ -25,7 +25,7 @@ module _ {A B : Type 0} (read : A → Result B FaultKind) (all : Result (List B)
   front_is = rw split at kept
 
   pub front_fails : (e : LineError) → Fails e (read x) → Fails e all
-  front_fails Memory fails = tt
+  front_fails (Memory e) fails = tt
   front_fails (Fault kind) fails = sym (rw fails at front_is)
 
   pub front_keeps : (y : B) → read x ≡ Ok y → with_front (front ++ y ∷ []) (each read more) ≡ all
@@ -37,7 +37,7 @@ unfolding each
 front_ends read all xs front kept none = grind (arith, nat_tests, append-nil)
 
 -- the same by an index
-value_at : {A : Type 0} (xs : List A) (i : ℕ) (d x : A) → i < length xs → x ≡ get_or xs i d
+pub value_at : {A : Type 0} (xs : List A) (i : ℕ) (d x : A) → i < length xs → x ≡ get_or xs i d
     → drop i xs ≡ x ∷ drop (i + 1) xs
 value_at xs i d x below is = drop_more xs i d below ∙ ap (λ y. y ∷ drop (i + 1) xs) (sym is)
 
@@ -66,3 +66,25 @@ each_map read view (x ∷ xs) = grind (arith, nat_tests, each_map read view xs)
 pub each_fails_map : {X A B : Type 0} (read : A → Result B FaultKind) (view : X → A) (xs : List X) (e : LineError)
     → Fails e (each (λ x. read (view x)) xs) → Fails e (each read (map view xs))
 each_fails_map read view xs e fails = subst (Fails e) (sym (each_map read view xs)) fails
+
+-- the fault of values that are tested in turn
+module _ {A B : Type 0} (read : A → Result B FaultKind) (xs more : List A) (x : A) (all : Option FaultKind)
+    (kept : result_err (each read xs) ≡ all) (split : xs ≡ x ∷ more) where
+  front_fault : result_err (one_more read more (read x)) ≡ all
+  unfolding each
+  front_fault = rw split at kept
+
+  pub fault_found : (kind : FaultKind) → read x ≡ Err kind → Some kind ≡ all
+  fault_found kind gives = rw gives at front_fault
+
+  pub fault_behind : (y : B) → read x ≡ Ok y → result_err (each read more) ≡ all
+  fault_behind y gives = by (each read more) (rw gives at front_fault)
+    where
+      by : (others : Result (List B) FaultKind) → result_err (others >>= λ ys. Ok (y ∷ ys)) ≡ all → result_err others ≡ all
+      by (Ok ys) is = is
+      by (Err kind) is = is
+
+pub no_fault : {A B : Type 0} (read : A → Result B FaultKind) (xs : List A) (all : Option FaultKind)
+    → result_err (each read xs) ≡ all → xs ≡ [] → None ≡ all
+unfolding each
+no_fault read xs all kept none = rw none at kept

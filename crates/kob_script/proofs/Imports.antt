@@ -5,9 +5,9 @@ pub use Rattle.bstr.specs.Text.{lines_of, without_terminator}
 pub use Rattle.kob_acl_cli.specs.Commands.{IsFirstFault}
 pub use Rattle.kob_names.specs.TextRules.{host_fault, principal_fault}
 pub use Rattle.kob_script.specs.Checks.{ChecksLine, ChecksNext, fault_at, kept_answer, script_so_far}
-pub use Rattle.kob_script.specs.CommandLines.{AclCommand, CliArgs, Command, CommandFault, Event, Request, acl_commands, acl_request, asking, asks_by_acl, command_named, error_of, events_by, faults_in, line_fault, request_of, row, row_fault, row_named, unless_faults}
-pub use Rattle.kob_script.specs.Words.{BadLine, BadNumber, Fails, Fault, FaultKind, Finds, GivesSeen, IsAmong, LineError, Memory, counted, each, earlier, first_kind, rank, unless_found, ◌>>=◌, is_skipped, named_host, named_principal, number_in, record_of, text_of, Word, cut_at, is_blank, raw_words, word_of, words_of}
-pub use Rattle.kob_script.specs.Script.{AreWholeLines, answers_after, is_setting, lines_in_blocks, lines_left, requests_in, requests_left, requests_of, rest_of, steps_left, HasNoAclLine, IfRead, IsAnswerTo, IsAnswerToLine, ReadsAs, Script, ScriptError, ThenLines, asks_clap, empty_script, line_words, lines_in, then_lines, with_words}
+pub use Rattle.kob_script.specs.CommandLines.{AclCommand, CliArgs, Command, CommandFault, Event, Request, acl_commands, acl_request, asks_by_acl, command_named, error_of, events_by, faults_in, filter_of, filter_row, draft_of, line_fault, request_of, row, row_fault, row_named, slot_fault, unless_dash, unless_faults}
+pub use Rattle.kob_script.specs.Words.{BadLine, BadNumber, Fails, Fault, FaultKind, Finds, GivesSeen, HidesNoFault, IsAmong, seen, LineError, Memory, counted, each, earlier, first_kind, rank, unless_found, ◌>>=◌, is_skipped, named_host, named_principal, number_in, record_of, text_of, Word, cut_at, is_blank, raw_words, word_of, words_of}
+pub use Rattle.kob_script.specs.Script.{AreWholeLines, answers_after, is_setting, lines_in_blocks, lines_left, requests_in, requests_left, requests_of, requests_on, lines_ask, rest_of, steps_left, HasNoAclLine, IfRead, IsAnswerTo, IsAnswerToLine, ReadsAs, Script, ScriptError, ThenLines, asks_clap, empty_script, line_words, lines_in, then_lines, with_words}
 pub use Rattle.kob_script.specs.declared.script.Checking.{Checking}
 pub use Rattle.kob_script.specs.declared.command.Place.{Place}
 pub use Rattle.kob_script.specs.declared.command.Place.TheVariants.{One, Texts}
@@ -17,6 +17,7 @@ pub use Rattle.std.proofs.Common.{Bool, Bor, Err, IsUtf8, List, MatchOption, Non
 pub use Rattle.std.proofs.lemmas.Bool.Decides.{nat_tests}
 pub use Rattle.std.proofs.lemmas.Grind.{get_or_default_zero}
 pub use Rattle.std.proofs.lemmas.List.{drop_more, length-map, length_push, map-append}
+pub use Rattle.std.specs.Result.{IsOk}
 pub use Rattle.std.proofs.lemmas.List.Sums.{list_all-from_AllPass}
 pub use Rattle.std.proofs.lemmas.Result.{err_from_is_err_and}
 pub use Rattle.std.proofs.lemmas.Slice.Eq.{bytes_eq-Decides}

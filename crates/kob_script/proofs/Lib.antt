@@ -2,5 +2,4 @@ pub mod CheckedLines
 pub mod Each
 pub mod LineFaults
 pub mod LineWords
-pub mod Numbers
 mod Imports

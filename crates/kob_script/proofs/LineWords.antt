@@ -1,5 +1,7 @@
 -- The words of a line are cut one after another. A word that is cut at a byte, and the seven words of a row.
-use Rattle.kob_script.proofs.Imports.{Bool, IsFirstByte, IsFirstByte-value, List, None, Option, Some, Word, [], ap, arith, cut_at, drop, false, get_or, is_byte, length, length-drop, nat_lt, nat_tests, not, option_map, refl, sym, take, take_all, true, ℕ, ◌+◌, ◌-◌, ◌<◌, ◌∙◌, ◌∷◌, ◌≡◌, ◌≤◌}
+use Rattle.kob_words.specs.Words.{unescaped}
+use Rattle.kob_script.specs.Words.{BadEscape}
+use Rattle.kob_script.proofs.Imports.{Err, FaultKind, Ok, Result, is_some, ok_or, word_of, ◌>>=◌, Bool, IsFirstByte, IsFirstByte-value, List, None, Option, Some, Word, [], ap, arith, cut_at, drop, false, get_or, is_byte, length, length-drop, nat_lt, nat_tests, not, option_map, refl, sym, take, take_all, true, ℕ, ◌+◌, ◌-◌, ◌<◌, ◌∙◌, ◌∷◌, ◌≡◌, ◌≤◌}
 use Rattle.std.proofs.Common.{cond, filter}
 use Rattle.std.specs.Option.{IfSome}
 use Rattle.std.proofs.lemmas.List.Splits.{slice_split-cons_yes}
@@ -80,3 +82,22 @@ seven (a' ∷ b' ∷ c' ∷ d' ∷ e' ∷ f' ∷ g' ∷ []) a b c d e f g many f
 seven (a' ∷ b' ∷ c' ∷ d' ∷ e' ∷ f' ∷ g' ∷ h ∷ more) a b c d e f g many few is0 is1 is2 is3 is4 is5 is6 =
     absurd (omega (arith, few))
 seven _ a b c d e f g many few is0 is1 is2 is3 is4 is5 is6 = absurd (omega (arith, many))
+
+abbrev word_by : List ℕ → Option (List ℕ) → Result Word FaultKind
+word_by raw read = ok_or read BadEscape >>= λ bytes. Ok (record { raw = raw; decoded = bytes })
+
+-- a word is read if its escapes are whole
+pub torn_word : (raw : List ℕ) → is_some (unescaped raw) ≡ false → word_of raw ≡ Err BadEscape
+torn_word raw torn = by (unescaped raw) torn
+  where
+    by : (read : Option (List ℕ)) → is_some read ≡ false → word_by raw read ≡ Err BadEscape
+    by None torn = refl
+    by (Some bytes) torn = absurd cc
+
+pub whole_word : (raw : List ℕ) → is_some (unescaped raw) ≡ true → (word : Word) × (word_of raw ≡ Ok word)
+whole_word raw whole = by (unescaped raw) whole
+  where
+    by : (read : Option (List ℕ)) → is_some read ≡ true
+        → (word : Word) × (word_by raw read ≡ Ok word)
+    by (Some bytes) whole = (record { raw = raw; decoded = bytes }, refl)
+    by None whole = absurd cc

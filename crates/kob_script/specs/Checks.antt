@@ -1,6 +1,6 @@
 -- A script as it is checked, line by line.
 use Rattle.std.specs.Prelude.{◌≡◌, ℕ, List, [], ◌∷◌, ◌++◌, Option, Result, Ok, Err, length, if◌then◌else◌}
-use Rattle.kob_script.specs.declared.script.CheckedScript.{CheckedScript}
+use Rattle.kob_script.specs.declared.checked.CheckedScript.{CheckedScript}
 use Rattle.kob_script.specs.declared.script.Checking.{Checking}
 use Rattle.kob_script.specs.declared.fault.ScriptError.TheVariants as script_error
 use Rattle.kob_script.specs.Words.{Fails, Fault, FaultKind, LineError, Memory, Word, words_of}
@@ -31,12 +31,12 @@ ChecksLine s line checking old new (Ok done) =
     (answer : Option CliArgs) × IsAnswerToLine (words_of line) answer
     × (new ≡ old ++ kept_answer (line_words line) answer)
     × ChecksNext checking (Ok done) (with_line answer s line)
-ChecksLine s line checking old new (Err Memory) = Unit {0}
+ChecksLine s line checking old new (Err (Memory e)) = Unit {0}
 ChecksLine s line checking old new (Err (Fault kind)) = LineReadsAs s line (Err kind)
 
 -- what was wrong, with the number of its line
 abbrev pub fault_at : ℕ → LineError → ScriptError
-fault_at line Memory = script_error.Memory
+fault_at line (Memory e) = script_error.Memory e
 fault_at line (Fault kind) = script_error.Fault (record { line = line; kind = kind })
 
 -- the script that was checked, with all that it asks for

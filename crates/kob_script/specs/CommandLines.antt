@@ -1,6 +1,6 @@
 -- The commands: their names, a row of words for each, a line's fault, and what they ask for.
-use Rattle.std.specs.Prelude.{◌≡◌, ℕ, List, Option, Result, Ok, codes, if◌then◌else◌, [], ◌∷◌, Some, None, Err, map, Bool, false, true, find, option_map, bytes_eq, ok_or}
-use Rattle.std.specs.Result.{result_err, result_ok, result_unwrap_or}
+use Rattle.std.specs.Prelude.{◌≡◌, ℕ, List, Option, Result, Ok, codes, if◌then◌else◌, [], ◌∷◌, Some, None, Err, map, Bool, false, true, find, option_map, bytes_eq, ok_or, MatchResult}
+use Rattle.std.specs.Result.{result_err}
 use Rattle.kob_acl_cli.specs.Commands.{commands, faults}
 pub use Rattle.kob_acl_cli.specs.declared.args.CliArgs.{CliArgs}
 use Rattle.kob_acl_cli.specs.declared.commands.AclCommand.TheVariants.{Create, Delete, Describe}
@@ -9,16 +9,12 @@ use Rattle.kob_acl_cli.specs.declared.fault.CommandFault.TheVariants as options
 pub use Rattle.kob_acl_cli.specs.declared.fault.CommandFault.{CommandFault}
 use Rattle.kob_names.specs.declared.filter.BindingFilter.{BindingFilter}
 use Rattle.kob_names.specs.declared.filter.FilterPattern.{FilterPattern}
-use Rattle.kob_names.specs.declared.kinds.Operation.TheVariants.{All}
-use Rattle.kob_names.specs.declared.kinds.PatternKind.TheVariants.{Literal}
-use Rattle.kob_names.specs.declared.kinds.Permission.TheVariants.{Allow}
-use Rattle.kob_names.specs.declared.kinds.ResourceKind.TheVariants.{Topic}
 use Rattle.kob_names.specs.declared.filter.FilterPattern.TheVariants.{Any}
 pub use Rattle.kob_rights.specs.declared.event.Event.{Event}
-use Rattle.kob_rights.specs.declared.on_partitions.Before.TheVariants as befores
 use Rattle.kob_rights.specs.declared.request.Request.TheVariants as ask
 pub use Rattle.kob_rights.specs.declared.request.Request.{Request}
-use Rattle.kob_script.specs.Words.{End, idem_of, record_of, number_of, which_of, before_of, text_of, named_principal, named_host, Word, first_kind, each, unless_found, ◌>>=◌, BadWord, BadLine, Usage, NoAction, BadName, BadMix, NoResource, NoPrincipal, Fault, FaultKind, LineError, Memory}
+use Rattle.kob_names.specs.declared.draft.Draft.{Draft}
+use Rattle.kob_script.specs.Words.{Fails, earlier, idem_of, record_of, number_of, which_of, before_of, text_of, named_principal, named_host, Word, first_kind, each, unless_found, ◌>>=◌, BadWord, BadLine, Usage, NoAction, BadName, BadMix, NoResource, NoPrincipal, Fault, FaultKind, LineError, Memory}
 use Rattle.kob_script.specs.declared.command.Command.TheVariants.{CreateTopic, DeleteTopic, Metadata, Produce, Fetch, ListOffsets, DeleteRecords, InitProducer, Commit, Committed, Groups, DeleteGroup, CreateAcl, DescribeAcls, DeleteAcls}
 pub use Rattle.kob_script.specs.declared.command.Command.{Command}
 use Rattle.kob_script.specs.declared.command.Place.TheVariants.{One, OrDash, OrNone, Records, Texts}
@@ -130,93 +126,115 @@ line_fault (who ∷ from ∷ command ∷ words) =
     (row_named command.decoded)) (who ∷ from ∷ words)
 line_fault _ = Some BadLine
 
--- what a word without a fault stands for; nothing is asked by the other value
-abbrev pub value : {A : Type 0} → Result A FaultKind → A → A
-value read other = result_unwrap_or read other
-
-abbrev pub text : Word → List ℕ
-text word = value (text_of word) []
-
-abbrev pub number : Word → ℕ
-number word = value (number_of word) 0
-
 -- a part of a filter: nothing for the word `-`, which has to stand without escapes
-abbrev pub unless_dash : {A : Type 0} → Result A FaultKind → Word → Option A
-unless_dash read word = if bytes_eq word.raw (codes "-") then None else result_ok read
+abbrev pub unless_dash : {A : Type 0} → Result A FaultKind → Word → Result (Option A) FaultKind
+unless_dash read word =
+    if bytes_eq word.raw (codes "-") then Ok None else (read >>= λ part. Ok (Some part))
 
-abbrev pub filter_by : Word → Word → Word → Word → Word → Word → Word → BindingFilter
-filter_by resource name pattern who from operation permission = record {
-  resource = unless_dash (known resource_named resource) resource;
-  name = unless_dash (text_of name) name;
-  pattern = value (filter_pattern_of pattern) Any;
-  principal = unless_dash (named_principal who) who;
-  host = unless_dash (named_host from) from;
-  operation = unless_dash (known operation_named operation) operation;
-  permission = unless_dash (known permission_named permission) permission;
-}
+-- what the words of a filter select
+unfoldable pub filter_of : List Word → Result BindingFilter FaultKind
+filter_of (resource ∷ name ∷ pattern ∷ who ∷ from ∷ operation ∷ permission ∷ []) = do
+  kind ← unless_dash (known resource_named resource) resource
+  selected ← filter_pattern_of pattern
+  allowed ← unless_dash (known operation_named operation) operation
+  effect ← unless_dash (known permission_named permission) permission
+  text ← unless_dash (text_of name) name
+  principal ← unless_dash (named_principal who) who
+  host ← unless_dash (named_host from) from
+  Ok (record {
+    resource = kind;
+    name = text;
+    pattern = selected;
+    principal = principal;
+    host = host;
+    operation = allowed;
+    permission = effect;
+  })
+filter_of _ = Err BadLine
 
--- what a command asks for by the words after it, which have no fault
-unfoldable pub request_of : Command → List Word → Request
-request_of CreateTopic (name ∷ partitions ∷ []) =
-    ask.CreateTopics (record { name = text name; partitions = number partitions })
-request_of DeleteTopic (name ∷ []) = ask.DeleteTopics (record { name = text name })
-request_of Metadata [] = ask.Metadata (record { topic = None })
-request_of Metadata (name ∷ []) = ask.Metadata (record { topic = Some (text name) })
-request_of Produce (topic ∷ partition ∷ idem ∷ records) =
-    ask.Produce (record {
-      topic = text topic;
-      partition = number partition;
-      batch = record { idem = value (idem_of idem) None; records = map record_of records };
-    })
-request_of Fetch (topic ∷ partition ∷ offset ∷ max ∷ []) =
-    ask.Fetch (record {
-      topic = text topic;
-      partition = number partition;
-      offset = number offset;
-      max = number max;
-    })
-request_of ListOffsets (topic ∷ partition ∷ which ∷ []) =
-    ask.ListOffsets (record {
-      topic = text topic;
-      partition = number partition;
-      which = value (which_of which) End;
-    })
-request_of DeleteRecords (topic ∷ partition ∷ before ∷ []) =
-    ask.DeleteRecords (record {
-      topic = text topic;
-      partition = number partition;
-      before = value (before_of before) befores.End;
-    })
-request_of InitProducer words = ask.InitProducerId
-request_of Commit (group ∷ topic ∷ partition ∷ offset ∷ []) =
-    ask.OffsetCommit (record {
-      group = text group;
-      topic = text topic;
-      partition = number partition;
-      offset = number offset;
-    })
-request_of Committed (group ∷ topic ∷ partition ∷ []) =
-    ask.OffsetFetch
-    (record { group = text group; topic = text topic; partition = number partition })
-request_of DeleteGroup (group ∷ []) = ask.DeleteGroups (record { group = text group })
-request_of CreateAcl (permission ∷ who ∷ from ∷ operation ∷ resource ∷ kind ∷ name ∷ []) =
-    ask.CreateAcls (record {
-      drafts = record {
-        permission = value (known permission_named permission) Allow;
-        principal = value (named_principal who) [];
-        host = value (named_host from) [];
-        operation = value (known operation_named operation) All;
-        resource = value (known resource_named resource) Topic;
-        pattern = record { kind = value (known pattern_named kind) Literal; name = text name };
-      } ∷ [];
-    })
-request_of DescribeAcls (resource ∷ name ∷ pattern ∷ who ∷ from ∷ operation ∷ permission ∷ []) =
-    ask.DescribeAcls
-    (record { filter = filter_by resource name pattern who from operation permission })
-request_of DeleteAcls (resource ∷ name ∷ pattern ∷ who ∷ from ∷ operation ∷ permission ∷ []) =
-    ask.DeleteAcls
-    (record { filter = filter_by resource name pattern who from operation permission })
-request_of _ words = ask.ListGroups
+-- the binding that words write
+unfoldable pub draft_of : List Word → Result Draft FaultKind
+draft_of (permission ∷ who ∷ from ∷ operation ∷ resource ∷ pattern ∷ name ∷ []) = do
+  effect ← known permission_named permission
+  allowed ← known operation_named operation
+  kind ← known resource_named resource
+  matching ← known pattern_named pattern
+  text ← text_of name
+  principal ← named_principal who
+  host ← named_host from
+  Ok (record {
+    permission = effect;
+    principal = principal;
+    host = host;
+    operation = allowed;
+    resource = kind;
+    pattern = record { kind = matching; name = text };
+  })
+draft_of _ = Err BadLine
+
+-- what each command asks for by the words after it
+unfoldable pub request_of : Command → List Word → Result Request FaultKind
+request_of CreateTopic (name ∷ partitions ∷ []) = do
+  topic ← text_of name
+  count ← number_of partitions
+  Ok (ask.CreateTopics (record { name = topic; partitions = count }))
+request_of DeleteTopic (name ∷ []) =
+    text_of name >>= λ topic. Ok (ask.DeleteTopics (record { name = topic }))
+request_of Metadata [] = Ok (ask.Metadata (record { topic = None }))
+request_of Metadata (name ∷ []) =
+    text_of name >>= λ topic. Ok (ask.Metadata (record { topic = Some topic }))
+request_of Produce (name ∷ partition ∷ producer ∷ records) = do
+  topic ← text_of name
+  number ← number_of partition
+  idem ← idem_of producer
+  Ok (ask.Produce (record {
+    topic = topic;
+    partition = number;
+    batch = record { idem = idem; records = map record_of records };
+  }))
+request_of Fetch (name ∷ partition ∷ first ∷ most ∷ []) = do
+  topic ← text_of name
+  number ← number_of partition
+  offset ← number_of first
+  max ← number_of most
+  Ok (ask.Fetch (record { topic = topic; partition = number; offset = offset; max = max }))
+request_of ListOffsets (name ∷ partition ∷ end ∷ []) = do
+  topic ← text_of name
+  number ← number_of partition
+  which ← which_of end
+  Ok (ask.ListOffsets (record { topic = topic; partition = number; which = which }))
+request_of DeleteRecords (name ∷ partition ∷ end ∷ []) = do
+  topic ← text_of name
+  number ← number_of partition
+  before ← before_of end
+  Ok (ask.DeleteRecords (record { topic = topic; partition = number; before = before }))
+request_of InitProducer [] = Ok ask.InitProducerId
+request_of Commit (by ∷ name ∷ partition ∷ next ∷ []) = do
+  group ← text_of by
+  topic ← text_of name
+  number ← number_of partition
+  offset ← number_of next
+  Ok (ask.OffsetCommit (record {
+    group = group;
+    topic = topic;
+    partition = number;
+    offset = offset;
+  }))
+request_of Committed (by ∷ name ∷ partition ∷ []) = do
+  group ← text_of by
+  topic ← text_of name
+  number ← number_of partition
+  Ok (ask.OffsetFetch (record { group = group; topic = topic; partition = number }))
+request_of Groups [] = Ok ask.ListGroups
+request_of DeleteGroup (name ∷ []) =
+    text_of name >>= λ group. Ok (ask.DeleteGroups (record { group = group }))
+request_of CreateAcl words =
+    draft_of words >>= λ draft. Ok (ask.CreateAcls (record { drafts = draft ∷ [] }))
+request_of DescribeAcls words =
+    filter_of words >>= λ filter. Ok (ask.DescribeAcls (record { filter = filter }))
+request_of DeleteAcls words =
+    filter_of words >>= λ filter. Ok (ask.DeleteAcls (record { filter = filter }))
+request_of _ _ = Err BadLine
 
 -- the kind of a fault of options; out of memory is never one of theirs
 abbrev pub kind_of : CommandFault → FaultKind
@@ -225,11 +243,11 @@ kind_of (options.BadName word) = BadName
 kind_of options.BadMix = BadMix
 kind_of options.NoResource = NoResource
 kind_of options.NoPrincipal = NoPrincipal
-kind_of options.Memory = Usage
+kind_of (options.Memory e) = Usage
 
 -- why options are no commands
 abbrev pub error_of : CommandFault → LineError
-error_of options.Memory = Memory
+error_of (options.Memory e) = Memory e
 error_of fault = Fault (kind_of fault)
 
 -- the commands, unless there are faults, of which the first counts
@@ -252,19 +270,21 @@ abbrev pub events_by : List ℕ → List ℕ → List Request → List Event
 events_by principal host requests =
     map (λ request. record { principal = principal; host = host; request = request }) requests
 
--- the events by which the words of a line ask for these requests
-abbrev pub asking : Word → Word → Result (List Request) FaultKind → Result (List Event) FaultKind
-asking who from read =
-    read >>= λ requests. Ok
-    (events_by (value (named_principal who) []) (value (named_host from) []) requests)
+-- the requests of a command's name and the words after it; only `acl` may ask for several
+abbrev pub requests_by : Option CliArgs → List ℕ → List Word → Result (List Request) FaultKind
+requests_by answer name words =
+    if bytes_eq name (codes "acl") then (acl_commands answer >>= λ made. Ok (map acl_request made))
+    else (ok_or (command_named name) BadLine >>= λ command.
+    request_of command words >>= λ request. Ok (request ∷ []))
 
--- what the words of a line ask for, which have no fault; by `acl`, the options may have one
+-- what the words of a line ask for by clap's answer to those of `acl`
 unfoldable pub asked_by : Option CliArgs → List Word → Result (List Event) FaultKind
 asked_by answer (who ∷ from ∷ command ∷ words) =
-    asking who from (if bytes_eq command.decoded (codes "acl") then
-    (acl_commands answer >>= λ commands. Ok (map acl_request commands))
-    else (ok_or (command_named command.decoded) BadLine
-    >>= λ named. Ok (request_of named words ∷ [])))
+    unless_found (earlier (result_err (named_principal who)) (result_err (named_host from))) do
+      principal ← named_principal who
+      host ← named_host from
+      requests ← requests_by answer command.decoded words
+      Ok (events_by principal host requests)
 asked_by answer _ = Err BadLine
 
 -- All that was asked for: the event that was read, if one was, and others behind it.
@@ -272,6 +292,12 @@ abbrev pub AreRead : Bool → Option Event → List Event → List Event → Typ
 AreRead true (Some event) others all = all ≡ event ∷ others
 AreRead true None others all = ⊥
 AreRead false event others all = all ≡ others
+
+-- These events were read, unless memory ran out or the words have a fault.
+abbrev pub GivesEvents : Result Bool LineError → Option Event → List Event
+    → Result (List Event) FaultKind → Type 0
+GivesEvents (Ok read) event others told = MatchResult told (AreRead read event others) (λ _. ⊥)
+GivesEvents (Err error) event others told = Fails error told
 
 -- a line asks by `acl`
 abbrev pub asks_by_acl : List Word → Bool

@@ -1,6 +1,6 @@
 -- A script: settings, then requests, a line each; what it may be read as; the requests left of it.
 use Rattle.std.specs.List.{list_all, concat}
-use Rattle.std.specs.Prelude.{IfOk, MatchOption, ℕ, Bool, true, false, ◌||◌, List, [], ◌∷◌, ◌++◌, Result, Ok, Err, codes, if◌then◌else◌, bytes_eq, ◌+◌, Option, None, map, nat_lt, length, ◌≡◌, ◌&&◌, not, Some, is_some, drop, slice_index_or}
+use Rattle.std.specs.Prelude.{IsOk, IfOk, MatchOption, ℕ, Bool, true, false, ◌||◌, List, [], ◌∷◌, ◌++◌, Result, Ok, Err, codes, if◌then◌else◌, bytes_eq, ◌+◌, Option, None, map, nat_lt, length, ◌≡◌, ◌&&◌, not, Some, is_some, drop, slice_index_or}
 use Rattle.std.specs.Result.{result_unwrap_or}
 use Rattle.bstr.specs.Text.{lines_of, without_terminator}
 use Rattle.kob_acl_cli.specs.Lines.{IsReadOf, is_taken, refusals, rows_of_line}
@@ -151,7 +151,7 @@ HasNoAclLine text = list_all (λ line. not (asks_clap (line_words line))) (lines
 -- The script or the fault that was read has the property, unless memory ran out.
 abbrev pub IfRead : Result Script ScriptError → (Result Script Fault → Type 0) → Type 0
 IfRead (Ok script) P = P (Ok script)
-IfRead (Err script_error.Memory) P = Unit {0}
+IfRead (Err (script_error.Memory e)) P = Unit {0}
 IfRead (Err (script_error.Fault fault)) P = P (Err fault)
 
 -- the lines of each block, one block after another
@@ -175,28 +175,39 @@ lines_left blocks = lines_in (rest_of blocks) ++ lines_in_blocks blocks.later.it
 abbrev pub steps_left : Blocks → ℕ
 steps_left blocks = length (lines_left blocks) + length blocks.later.items
 
--- what words without a fault ask for, by clap's answer to them; a setting asks for nothing
-abbrev pub requests_of : Option CliArgs → List Word → List Event
-requests_of answer [] = []
+-- what words ask for, by clap's answer to them; a setting asks for nothing
+abbrev pub requests_of : Option CliArgs → List Word → Result (List Event) FaultKind
+requests_of answer [] = Ok []
 requests_of answer (first ∷ arguments) =
-    if is_setting first then [] else result_unwrap_or (asked_by answer (first ∷ arguments)) []
+    if is_setting first then Ok [] else asked_by answer (first ∷ arguments)
+
+-- what a line asks for
+abbrev pub requests_on : Option CliArgs → List ℕ → Result (List Event) FaultKind
+requests_on answer line = words_of line >>= requests_of answer
 
 -- the answers that are left after words
 abbrev pub answers_after : List Word → List (Option CliArgs) → List (Option CliArgs)
 answers_after words answers = if asks_clap words then drop 1 answers else answers
 
 -- what lines ask for, in order; each that clap was asked about, by the first of the answers left
-unfoldable pub requests_in : List (List ℕ) → List (Option CliArgs) → List Event
-requests_in [] answers = []
-requests_in (line ∷ lines) answers =
-    requests_of (slice_index_or answers 0 None) (line_words line)
-    ++ requests_in lines (answers_after (line_words line) answers)
+unfoldable pub requests_in : List (List ℕ) → List (Option CliArgs) → Result (List Event) FaultKind
+requests_in [] answers = Ok []
+requests_in (line ∷ lines) answers = do
+  first ← requests_on (slice_index_or answers 0 None) line
+  others ← requests_in lines (answers_after (line_words line) answers)
+  Ok (first ++ others)
+
+-- what the lines that were not read ask for
+abbrev pub lines_ask : Blocks → List (Option CliArgs) → Result (List Event) FaultKind
+lines_ask blocks answers = requests_in (lines_left blocks) answers
 
 -- the requests that were not given: those of the line that was read last, and of the lines after it
 abbrev pub requests_left : Inside → List Event
 requests_left requests =
-    requests.asked.items ++ requests_in (lines_left requests.blocks) requests.answers.items
+    requests.asked.items
+    ++ result_unwrap_or (lines_ask requests.blocks requests.answers.items) []
 
--- as many are left as are counted
-abbrev pub AreCounted : Inside → Type 0
-AreCounted requests = requests.left ≡ length (requests_left requests)
+-- No line that is left has a fault, and as many requests are left as are counted.
+pub record AreCounted (requests : Inside) : Type 0 where
+  pub checked : IsOk (lines_ask requests.blocks requests.answers.items)
+  pub count : requests.left ≡ length (requests_left requests)

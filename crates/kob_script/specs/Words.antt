@@ -50,11 +50,16 @@ abbrev pub IsAmong : FaultKind → List (Option FaultKind) → Type 0
 IsAmong kind [] = ⊥
 IsAmong kind (fault ∷ faults) = (fault ≡ Some kind) ⊎ IsAmong kind faults
 
--- A test of words found this fault or none, unless memory ran out.
+-- A test of words found this fault or none. Out of memory hides none.
 abbrev pub Finds : Result (Unit {0}) LineError → Option FaultKind → Type 0
 Finds (Ok done) fault = fault ≡ None
-Finds (Err Memory) fault = Unit {0}
+Finds (Err (Memory e)) fault = fault ≡ None
 Finds (Err (Fault kind)) fault = fault ≡ Some kind
+
+-- Out of memory is told only where there is no such fault.
+abbrev pub HidesNoFault : {A : Type 0} → Result A LineError → Option FaultKind → Type 0
+HidesNoFault (Err (Memory e)) fault = fault ≡ None
+HidesNoFault result fault = Unit {0}
 
 -- a step of reading, and those after it unless it failed
 infixl 10 ◌>>=◌
@@ -65,7 +70,7 @@ abbrev pub ◌>>=◌ : {A B : Type 0} → Result A FaultKind → (A → Result B
 
 -- A function failed with the fault of reading, or out of memory.
 abbrev pub Fails : {A : Type 0} → LineError → Result A FaultKind → Type 0
-Fails Memory read = Unit {0}
+Fails (Memory e) read = Unit {0}
 Fails (Fault kind) read = read ≡ Err kind
 
 -- What a function returned is by a view what reading gives, unless memory ran out.
@@ -75,6 +80,10 @@ GivesSeen view (Err error) read = Fails error read
 
 abbrev pub Gives : {A : Type 0} → Result A LineError → Result A FaultKind → Type 0
 Gives result read = GivesSeen (λ x. x) result read
+
+-- what was read, by a view of it
+abbrev pub seen : {A B : Type 0} → (A → B) → Result A FaultKind → Result B FaultKind
+seen view read = read >>= λ x. Ok (view x)
 
 -- each in turn, up to the first fault
 unfoldable pub each : {A B : Type 0} → (A → Result B FaultKind) → List A → Result (List B) FaultKind

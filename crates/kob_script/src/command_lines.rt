@@ -1,16 +1,16 @@
 //! What a line asks for: the request of its command, or those of the words after `acl`, which are
 //! the words of `kafka-acls`, one for each of its commands.
 
-ghost use Rattle.std.specs.Prelude.{◌≡◌, [], IfOk, MatchResult, OnErr, Ok, Result, option_map, map};
-ghost use Rattle.std.specs.Prelude.{option_copied};
-ghost use Rattle.kob_script.specs.CommandLines.{AreRead};
-ghost use Rattle.kob_rights.specs.declared.request.Request.TheVariants as requests;
-ghost use Rattle.kob_script.specs.CommandLines.{acl_commands, acl_request, asked_by, error_of};
-ghost use Rattle.kob_script.specs.CommandLines.{events_by, events_of, request_of, unless_dash};
-ghost use Rattle.kob_script.specs.Words.{Gives, GivesSeen, counted};
+ghost use Rattle.std.specs.Prelude.{◌≡◌, [], IfOk, IfSome, None, OnErr, Ok, Result, map, ok_or};
+ghost use Rattle.std.specs.Prelude.{option_copied, option_map};
+ghost use Rattle.kob_script.specs.CommandLines.{GivesEvents, acl_commands, acl_request, asked_by};
+ghost use Rattle.kob_script.specs.CommandLines.{draft_of, error_of, events_by, events_of};
+ghost use Rattle.kob_script.specs.CommandLines.{filter_of, line_fault, request_of, unless_dash};
+ghost use Rattle.kob_script.specs.Words.{Gives, GivesSeen, HidesNoFault, counted, each, text_of};
 ghost use Rattle.kob_script.specs.Script.{after_acl, asks_clap, IsAnswerTo};
 ghost use Rattle.kob_script.specs.declared.command.Command.TheVariants as commands;
 ghost use Rattle.kob_script.specs.declared.fault.FaultKind as kinds;
+ghost use Rattle.kob_script.specs.declared.fault.FaultKind.TheVariants as kind;
 
 use crate::command::{Command, command_named};
 use crate::fault::{FaultKind, LineError};
@@ -39,14 +39,15 @@ pub fn count_of(
     last: &mut Option<Event>,
     words: &[Word<'_>],
     answer: Option<&CliArgs>,
-) -> Result<u64, LineError>
-    ensures { Gives result (counted (events_of (option_copied answer.entry) words.now)) }
+) -> Result<usize, LineError>
+    ensures gives { Gives result (counted (events_of (option_copied answer.entry) words.now)) }
+    ensures memory { HidesNoFault result (line_fault words.now) }
 {
     check_line(alloc, last, words)?;
     match words {
         [_, _, command, ..] if command.decoded() == b"acl".as_slice() => {
             let commands = acl_commands(alloc, answer)?;
-            Ok(commands.len() as u64)
+            Ok(commands.len())
         }
         _ => Ok(1),
     }
@@ -78,16 +79,19 @@ fn read_events(
 {
     count_of(alloc, event, words, answer)?;
     let mut asked = VecDeque::new(alloc);
-    if !read_event(alloc, event, words, answer, &mut asked).or(Err(LineError::Memory))? {
+    if !read_event(alloc, event, words, answer, &mut asked)? {
         return Ok(asked);
     }
-    asked.push_front(event.take().ok_or(LineError::Memory)?)?;
+    let Some(event) = event.take() else {
+        unreachable!()
+    };
+    asked.push_front(event)?;
     Ok(asked)
 }
 
-/// Reads the event of words without a fault: `event` is it then, and true is returned. Those of
+/// Reads what words ask for. `event` is the one event of a command, and true is returned. Those of
 /// `acl` are put into `asked`, in order, and false is returned. The principal and the host of the
-/// event before are not parsed again. The error is out of memory.
+/// event before are not parsed again. After an error `event` may be by those of these words.
 #[tactic(auto, unfolding(crate::specs::CommandLines::asked_by))]
 pub fn read_event(
     alloc: Global,
@@ -97,24 +101,21 @@ pub fn read_event(
     asked: &mut VecDeque<Event>,
 ) -> Result<bool, LineError>
     requires { asked.old.items ≡ [] }
-    ensures asked { IfOk result (λ read. MatchResult
-        (asked_by (option_copied answer.entry) words.now)
-        (AreRead read event.new asked.new.items) (λ _. ⊥)) }
+    ensures asked { GivesEvents result event.new asked.new.items
+        (asked_by (option_copied answer.entry) words.now) }
     ensures same { OnErr result (asked.new.items ≡ []) }
 {
     let [principal, host, command, arguments @ ..] = words else {
         return Err(LineError::Fault(FaultKind::BadLine));
     };
     check_asker(alloc, event, principal, host)?;
-    let Some(event) = event else {
-        return Err(LineError::Memory);
-    };
+    let Some(event) = event else { unreachable!() };
     if command.decoded() == b"acl".as_slice() {
         let commands = acl_commands(alloc, answer)?;
         *asked = VecDeque::from(events_by(alloc, event, commands)?);
         return Ok(false);
     }
-    let command = command_named(command.decoded()).ok_or(LineError::Fault(FaultKind::BadLine))?;
+    let command = command_named(command.decoded()).ok_or(FaultKind::BadLine)?;
     let request = request_of(alloc, command, arguments)?;
     ask_for(event, request);
     Ok(true)
@@ -132,20 +133,22 @@ fn ask_for(event: &mut Event, request: Request)
 /// What `clap` answers to a line's words: the options of `acl`. `None` if it refuses them, if they
 /// are not UTF-8, or if the line does not ask by `acl`. The error is out of memory.
 pub fn answer_to(alloc: Global, words: &[Word<'_>]) -> Result<Option<CliArgs>, AllocError>
-    ensures { IfOk result (λ answer. IsAnswerTo words.now answer) }
+    ensures answer { IfOk result (λ answer. IsAnswerTo words.now answer) }
+    ensures texts { IfSome (after_acl words.now) (λ arguments. OnErr (each text_of arguments)
+        (result ≡ Ok None)) }
 {
     let Some(arguments) = after_acl(words) else {
         return Ok(None);
     };
     let texts = match texts_of(alloc, arguments) {
         Ok(texts) => texts,
-        Err(LineError::Memory) => return Err(AllocError),
+        Err(LineError::Memory(error)) => return Err(error),
         Err(LineError::Fault(_)) => return Ok(None),
     };
     match read_line(alloc, &texts) {
         Ok(args) => Ok(Some(args)),
         Err(LineFault::Usage) => Ok(None),
-        Err(LineFault::Memory) => Err(AllocError),
+        Err(LineFault::Memory(error)) => Err(error),
     }
 }
 
@@ -191,7 +194,7 @@ fn error_of(fault: &CommandFault) -> LineError
         CommandFault::BadMix => LineError::Fault(FaultKind::BadMix),
         CommandFault::NoResource => LineError::Fault(FaultKind::NoResource),
         CommandFault::NoPrincipal => LineError::Fault(FaultKind::NoPrincipal),
-        CommandFault::Memory => LineError::Memory,
+        CommandFault::Memory(error) => LineError::Memory(*error),
     }
 }
 
@@ -225,113 +228,217 @@ fn acl_request(command: AclCommand) -> Request
     }
 }
 
-// What a command asks for by the words after it, which have no fault.
+// What a command asks for by the words after it.
 #[tactic(auto, unfolding(crate::specs::CommandLines::request_of))]
 #[inline(always)]
 fn request_of(alloc: Global, command: Command, words: &[Word<'_>]) -> Result<Request, LineError>
-    ensures { IfOk result (λ made. made ≡ request_of command words.now) }
+    ensures { Gives result (request_of command words.now) }
 {
-    match (command, words) {
-        (Command::CreateTopic, [name, partitions]) => Ok(Request::CreateTopics(CreateTopics {
+    match command {
+        Command::CreateTopic => create_topic(alloc, words),
+        Command::DeleteTopic => delete_topic(alloc, words),
+        Command::Metadata => metadata(alloc, words),
+        Command::Produce => produce(alloc, words),
+        Command::Fetch => fetch(alloc, words),
+        Command::ListOffsets => list_offsets(alloc, words),
+        Command::DeleteRecords => delete_records(alloc, words),
+        Command::InitProducer => init_producer(words),
+        Command::Commit => commit(alloc, words),
+        Command::Committed => committed(alloc, words),
+        Command::Groups => groups(words),
+        Command::DeleteGroup => delete_group(alloc, words),
+        Command::CreateAcl => create_acl(alloc, words),
+        Command::DescribeAcls => {
+            Ok(Request::DescribeAcls(DescribeAcls {
+                filter: filter_of(alloc, words)?,
+            }))
+        }
+        Command::DeleteAcls => {
+            Ok(Request::DeleteAcls(DeleteAcls {
+                filter: filter_of(alloc, words)?,
+            }))
+        }
+    }
+}
+
+#[tactic(auto, unfolding(crate::specs::CommandLines::request_of))]
+fn create_topic(alloc: Global, words: &[Word<'_>]) -> Result<Request, LineError>
+    ensures { Gives result (request_of commands.CreateTopic words.now) }
+{
+    match words {
+        [name, partitions] => Ok(Request::CreateTopics(CreateTopics {
             name: text_of(alloc, name)?,
             partitions: number_of(partitions)?,
-        })),
-        (Command::DeleteTopic, [name]) => Ok(Request::DeleteTopics(DeleteTopics {
-            name: text_of(alloc, name)?,
-        })),
-        (Command::Metadata, []) => Ok(Request::Metadata(Metadata { topic: None })),
-        (Command::Metadata, [name]) => Ok(Request::Metadata(Metadata {
-            topic: Some(text_of(alloc, name)?),
-        })),
-        (Command::Produce, [topic, partition, idem, records @ ..]) => Ok(Request::Produce(
-            Produce {
-                topic: text_of(alloc, topic)?,
-                partition: number_of(partition)?,
-                batch: Batch {
-                    idem: idem_of(alloc, idem)?,
-                    records: records_of(alloc, records)?,
-                },
-            },
-        )),
-        (Command::Fetch, [topic, partition, offset, max]) => Ok(Request::Fetch(Fetch {
-            topic: text_of(alloc, topic)?,
-            partition: number_of(partition)?,
-            offset: number_of(offset)?,
-            max: number_of(max)?,
-        })),
-        _ => request_on_offsets(alloc, command, words),
-    }
-}
-
-// The requests about starts, ends and committed offsets.
-#[tactic(auto, unfolding(crate::specs::CommandLines::request_of))]
-fn request_on_offsets(
-    alloc: Global,
-    command: Command,
-    words: &[Word<'_>],
-) -> Result<Request, LineError>
-    ensures { IfOk result (λ made. made ≡ request_of command words.now) }
-{
-    match (command, words) {
-        (Command::ListOffsets, [topic, partition, end]) => Ok(Request::ListOffsets(ListOffsets {
-            topic: text_of(alloc, topic)?,
-            partition: number_of(partition)?,
-            which: which_of(end)?,
-        })),
-        (Command::DeleteRecords, [topic, partition, before]) => {
-            Ok(Request::DeleteRecords(DeleteRecords {
-                topic: text_of(alloc, topic)?,
-                partition: number_of(partition)?,
-                before: before_of(before)?,
-            }))
-        }
-        (Command::Commit, [group, topic, partition, offset]) => {
-            Ok(Request::OffsetCommit(OffsetCommit {
-                group: text_of(alloc, group)?,
-                topic: text_of(alloc, topic)?,
-                partition: number_of(partition)?,
-                offset: number_of(offset)?,
-            }))
-        }
-        (Command::Committed, [group, topic, partition]) => Ok(Request::OffsetFetch(OffsetFetch {
-            group: text_of(alloc, group)?,
-            topic: text_of(alloc, topic)?,
-            partition: number_of(partition)?,
-        })),
-        _ => other_request(alloc, command, words),
-    }
-}
-
-// The requests of producers, groups and bindings.
-#[tactic(auto, unfolding(crate::specs::CommandLines::request_of))]
-fn other_request(alloc: Global, command: Command, words: &[Word<'_>]) -> Result<Request, LineError>
-    ensures { IfOk result (λ made. made ≡ request_of command words.now) }
-{
-    match (command, words) {
-        (Command::InitProducer, []) => Ok(Request::InitProducerId),
-        (Command::Groups, []) => Ok(Request::ListGroups),
-        (Command::DeleteGroup, [group]) => Ok(Request::DeleteGroups(DeleteGroups {
-            group: text_of(alloc, group)?,
-        })),
-        (Command::CreateAcl, _) => create_acl(alloc, words),
-        (Command::DescribeAcls, _) => Ok(Request::DescribeAcls(DescribeAcls {
-            filter: filter_of(alloc, words)?,
-        })),
-        (Command::DeleteAcls, _) => Ok(Request::DeleteAcls(DeleteAcls {
-            filter: filter_of(alloc, words)?,
         })),
         _ => Err(LineError::Fault(FaultKind::BadLine)),
     }
 }
 
-#[tactic(auto, using(crate::proofs::LineWords::seven), unfolding(crate::specs::CommandLines::request_of))]
+#[tactic(auto, unfolding(crate::specs::CommandLines::request_of))]
+fn delete_topic(alloc: Global, words: &[Word<'_>]) -> Result<Request, LineError>
+    ensures { Gives result (request_of commands.DeleteTopic words.now) }
+{
+    match words {
+        [name] => Ok(Request::DeleteTopics(DeleteTopics {
+            name: text_of(alloc, name)?,
+        })),
+        _ => Err(LineError::Fault(FaultKind::BadLine)),
+    }
+}
+
+#[tactic(auto, unfolding(crate::specs::CommandLines::request_of))]
+fn metadata(alloc: Global, words: &[Word<'_>]) -> Result<Request, LineError>
+    ensures { Gives result (request_of commands.Metadata words.now) }
+{
+    match words {
+        [] => Ok(Request::Metadata(Metadata { topic: None })),
+        [name] => Ok(Request::Metadata(Metadata {
+            topic: Some(text_of(alloc, name)?),
+        })),
+        _ => Err(LineError::Fault(FaultKind::BadLine)),
+    }
+}
+
+#[tactic(auto, unfolding(crate::specs::CommandLines::request_of))]
+#[inline(always)]
+fn produce(alloc: Global, words: &[Word<'_>]) -> Result<Request, LineError>
+    ensures { Gives result (request_of commands.Produce words.now) }
+{
+    match words {
+        [topic, partition, idem, records @ ..] => Ok(Request::Produce(Produce {
+            topic: text_of(alloc, topic)?,
+            partition: number_of(partition)?,
+            batch: Batch {
+                idem: idem_of(idem)?,
+                records: records_of(alloc, records)?,
+            },
+        })),
+        _ => Err(LineError::Fault(FaultKind::BadLine)),
+    }
+}
+
+#[tactic(auto, unfolding(crate::specs::CommandLines::request_of))]
+#[inline(always)]
+fn fetch(alloc: Global, words: &[Word<'_>]) -> Result<Request, LineError>
+    ensures { Gives result (request_of commands.Fetch words.now) }
+{
+    match words {
+        [topic, partition, offset, max] => Ok(Request::Fetch(Fetch {
+            topic: text_of(alloc, topic)?,
+            partition: number_of(partition)?,
+            offset: number_of(offset)?,
+            max: number_of(max)?,
+        })),
+        _ => Err(LineError::Fault(FaultKind::BadLine)),
+    }
+}
+
+#[tactic(auto, unfolding(crate::specs::CommandLines::request_of))]
+fn list_offsets(alloc: Global, words: &[Word<'_>]) -> Result<Request, LineError>
+    ensures { Gives result (request_of commands.ListOffsets words.now) }
+{
+    match words {
+        [topic, partition, end] => Ok(Request::ListOffsets(ListOffsets {
+            topic: text_of(alloc, topic)?,
+            partition: number_of(partition)?,
+            which: which_of(end)?,
+        })),
+        _ => Err(LineError::Fault(FaultKind::BadLine)),
+    }
+}
+
+#[tactic(auto, unfolding(crate::specs::CommandLines::request_of))]
+fn delete_records(alloc: Global, words: &[Word<'_>]) -> Result<Request, LineError>
+    ensures { Gives result (request_of commands.DeleteRecords words.now) }
+{
+    match words {
+        [topic, partition, before] => Ok(Request::DeleteRecords(DeleteRecords {
+            topic: text_of(alloc, topic)?,
+            partition: number_of(partition)?,
+            before: before_of(before)?,
+        })),
+        _ => Err(LineError::Fault(FaultKind::BadLine)),
+    }
+}
+
+#[tactic(auto, unfolding(crate::specs::CommandLines::request_of))]
+fn init_producer(words: &[Word<'_>]) -> Result<Request, LineError>
+    ensures { Gives result (request_of commands.InitProducer words.now) }
+{
+    match words {
+        [] => Ok(Request::InitProducerId),
+        _ => Err(LineError::Fault(FaultKind::BadLine)),
+    }
+}
+
+#[tactic(auto, unfolding(crate::specs::CommandLines::request_of))]
+fn commit(alloc: Global, words: &[Word<'_>]) -> Result<Request, LineError>
+    ensures { Gives result (request_of commands.Commit words.now) }
+{
+    match words {
+        [group, topic, partition, offset] => Ok(Request::OffsetCommit(OffsetCommit {
+            group: text_of(alloc, group)?,
+            topic: text_of(alloc, topic)?,
+            partition: number_of(partition)?,
+            offset: number_of(offset)?,
+        })),
+        _ => Err(LineError::Fault(FaultKind::BadLine)),
+    }
+}
+
+#[tactic(auto, unfolding(crate::specs::CommandLines::request_of))]
+fn committed(alloc: Global, words: &[Word<'_>]) -> Result<Request, LineError>
+    ensures { Gives result (request_of commands.Committed words.now) }
+{
+    match words {
+        [group, topic, partition] => Ok(Request::OffsetFetch(OffsetFetch {
+            group: text_of(alloc, group)?,
+            topic: text_of(alloc, topic)?,
+            partition: number_of(partition)?,
+        })),
+        _ => Err(LineError::Fault(FaultKind::BadLine)),
+    }
+}
+
+#[tactic(auto, unfolding(crate::specs::CommandLines::request_of))]
+fn groups(words: &[Word<'_>]) -> Result<Request, LineError>
+    ensures { Gives result (request_of commands.Groups words.now) }
+{
+    match words {
+        [] => Ok(Request::ListGroups),
+        _ => Err(LineError::Fault(FaultKind::BadLine)),
+    }
+}
+
+#[tactic(auto, unfolding(crate::specs::CommandLines::request_of))]
+fn delete_group(alloc: Global, words: &[Word<'_>]) -> Result<Request, LineError>
+    ensures { Gives result (request_of commands.DeleteGroup words.now) }
+{
+    match words {
+        [group] => Ok(Request::DeleteGroups(DeleteGroups {
+            group: text_of(alloc, group)?,
+        })),
+        _ => Err(LineError::Fault(FaultKind::BadLine)),
+    }
+}
+
+#[tactic(auto, unfolding(crate::specs::CommandLines::request_of))]
 fn create_acl(alloc: Global, words: &[Word<'_>]) -> Result<Request, LineError>
-    ensures { IfOk result (λ made. made ≡ request_of commands.CreateAcl words.now) }
+    ensures { Gives result (request_of commands.CreateAcl words.now) }
+{
+    let draft = draft_of(alloc, words)?;
+    let drafts = Items::from_vec(vec![in alloc; draft]?);
+    Ok(Request::CreateAcls(CreateAcls { drafts }))
+}
+
+#[tactic(auto, using(crate::proofs::LineWords::seven), unfolding(crate::specs::CommandLines::draft_of))]
+fn draft_of(alloc: Global, words: &[Word<'_>]) -> Result<Draft, LineError>
+    ensures { Gives result (draft_of words.now) }
 {
     let [permission, who, from, operation, resource, pattern, name] = words else {
         return Err(LineError::Fault(FaultKind::BadLine));
     };
-    let draft = Draft {
+    Ok(Draft {
         permission: known(permission_named(permission.decoded()))?,
         operation: known(operation_named(operation.decoded()))?,
         resource: known(resource_named(resource.decoded()))?,
@@ -341,36 +448,38 @@ fn create_acl(alloc: Global, words: &[Word<'_>]) -> Result<Request, LineError>
         },
         principal: named_principal(alloc, who)?,
         host: named_host(alloc, from)?,
-    };
-    let drafts = Items::from_vec(vec![in alloc; draft]?);
-    Ok(Request::CreateAcls(CreateAcls { drafts }))
+    })
 }
 
-#[tactic(auto, using(crate::proofs::LineWords::seven), unfolding(crate::specs::CommandLines::request_of))]
+#[tactic(auto, using(crate::proofs::LineWords::seven), unfolding(crate::specs::CommandLines::filter_of))]
 fn filter_of(alloc: Global, words: &[Word<'_>]) -> Result<BindingFilter, LineError>
-    ensures describe { IfOk result (λ filter. request_of commands.DescribeAcls words.now
-        ≡ requests.DescribeAcls (record { filter = filter })) }
-    ensures delete { IfOk result (λ filter. request_of commands.DeleteAcls words.now
-        ≡ requests.DeleteAcls (record { filter = filter })) }
+    ensures { Gives result (filter_of words.now) }
 {
     let [resource, name, pattern, who, from, operation, permission] = words else {
         return Err(LineError::Fault(FaultKind::BadLine));
     };
     Ok(BindingFilter {
-        resource: unless_dash(resource, known(resource_named(resource.decoded())))?,
+        resource: unless_dash(resource, named(resource_named(resource.decoded())))?,
         pattern: filter_pattern_of(pattern)?,
-        operation: unless_dash(operation, known(operation_named(operation.decoded())))?,
-        permission: unless_dash(permission, known(permission_named(permission.decoded())))?,
+        operation: unless_dash(operation, named(operation_named(operation.decoded())))?,
+        permission: unless_dash(permission, named(permission_named(permission.decoded())))?,
         name: unless_dash(name, text_of(alloc, name))?,
         principal: unless_dash(who, named_principal(alloc, who))?,
         host: unless_dash(from, named_host(alloc, from))?,
     })
 }
 
+// What a table has for a word, as part of a line.
+fn named<T: Copy>(found: Option<T>) -> Result<T, LineError>
+    ensures { Gives result (ok_or found kind.BadWord) }
+{
+    Ok(known(found)?)
+}
+
 // What was read of a word, or nothing if it is `-`.
 fn unless_dash<T: Drop>(word: &Word<'_>, read: Result<T, LineError>) -> Result<Option<T>, LineError>
     ensures { (told : Result T kinds.FaultKind) → Gives read told
-        → IfOk result (λ part. part ≡ unless_dash told word.now) }
+        → Gives result (unless_dash told word.now) }
 {
     if word.is_dash() {
         return Ok(None);

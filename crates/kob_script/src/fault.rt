@@ -1,6 +1,6 @@
 //! Why a script is refused.
 
-ghost use Rattle.std.specs.Prelude.{◌≡◌};
+ghost use Rattle.std.specs.Prelude.{◌≡◌, alloc_error};
 ghost use Rattle.kob_script.specs.declared.fault.LineError.TheVariants as line_error;
 ghost use Rattle.kob_script.specs.declared.fault.ScriptError.TheVariants as script_error;
 
@@ -53,7 +53,7 @@ pub struct Fault {
 #[derive(Clone, Copy, Debug, PartialEq, Eq, Error)]
 pub enum ScriptError {
     #[error("out of memory")]
-    Memory,
+    Memory(AllocError),
     #[error("{0}")]
     Fault(Fault),
 }
@@ -62,31 +62,39 @@ pub enum ScriptError {
 #[derive(Clone, Copy, Debug, PartialEq, Eq, Error)]
 pub enum LineError {
     #[error("out of memory")]
-    Memory,
+    Memory(AllocError),
     #[error("{0}")]
     Fault(FaultKind),
 }
 
-impl From<AllocError> for LineError {
-    ghost from_gives = { λ _ error. error ≡ line_error.Memory };
+impl From<FaultKind> for LineError {
+    ghost from_gives = { λ kind error. error ≡ line_error.Fault kind };
 
-    fn from(_error: AllocError) -> LineError {
-        LineError::Memory
+    fn from(kind: FaultKind) -> LineError {
+        LineError::Fault(kind)
+    }
+}
+
+impl From<AllocError> for LineError {
+    ghost from_gives = { λ _ error. error ≡ line_error.Memory alloc_error };
+
+    fn from(error: AllocError) -> LineError {
+        LineError::Memory(error)
     }
 }
 
 impl<T: Drop> From<AllocFailed<T>> for LineError {
-    ghost from_gives = { λ _ error. error ≡ line_error.Memory };
+    ghost from_gives = { λ _ error. error ≡ line_error.Memory alloc_error };
 
-    fn from(_error: AllocFailed<T>) -> LineError {
-        LineError::Memory
+    fn from(failed: AllocFailed<T>) -> LineError {
+        LineError::Memory(AllocError::from(failed))
     }
 }
 
 impl From<AllocError> for ScriptError {
-    ghost from_gives = { λ _ error. error ≡ script_error.Memory };
+    ghost from_gives = { λ _ error. error ≡ script_error.Memory alloc_error };
 
-    fn from(_error: AllocError) -> ScriptError {
-        ScriptError::Memory
+    fn from(error: AllocError) -> ScriptError {
+        ScriptError::Memory(error)
     }
 }

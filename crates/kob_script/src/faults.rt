@@ -1,7 +1,7 @@
 //! The fault of a line's words: the first kind, in the order of the kinds, that some word has; and
 //! who asks. The principal and the host of the line before are not parsed again.
 
-ghost use Rattle.std.specs.Prelude.{◌≡◌, Ok, OnOk, IsTrue, Option, MatchOption};
+ghost use Rattle.std.specs.Prelude.{◌≡◌, Err, Ok, OnOk, IsTrue, Option, MatchOption};
 ghost use Rattle.std.specs.Result.{result_err};
 ghost use Rattle.kob_script.specs.CommandLines.{line_fault, faults_in, slot_fault};
 ghost use Rattle.kob_script.specs.Words.{Finds, earlier, first_kind, named_host, named_principal};
@@ -10,8 +10,8 @@ ghost use Rattle.kob_script.specs.declared.fault.FaultKind as kinds;
 use crate::command::{Place, Slot, row_named};
 use crate::fault::{FaultKind, LineError};
 use crate::values::{
-    before_of, filter_pattern_of, idem_of, known, lent_text_of, named_host, named_principal,
-    number_of, texts_of, which_of,
+    before_of, check_texts, filter_pattern_of, idem_of, known, lent_text_of, named_host,
+    named_principal, number_of, which_of,
 };
 use crate::words::Word;
 use kob_names::{Host, Principal};
@@ -19,7 +19,8 @@ use kob_rights::{Event, Request};
 use kob_words::{operation_named, pattern_named, permission_named, resource_named};
 use std::alloc::Global;
 
-/// Checks the words of a line. `last` is an event by the principal and the host that were read last.
+/// Checks the words of a line. Out of memory hides no fault. `last` is an event by the principal
+/// and the host that were read last.
 pub fn check_line(
     alloc: Global,
     last: &mut Option<Event>,
@@ -30,7 +31,7 @@ pub fn check_line(
     let [principal, host, command, arguments @ ..] = words else {
         return Err(LineError::Fault(FaultKind::BadLine));
     };
-    let places = row_named(command.decoded()).ok_or(LineError::Fault(FaultKind::BadLine))?;
+    let places = row_named(command.decoded()).ok_or(FaultKind::BadLine)?;
     let others = check_words(alloc, places, arguments);
     first_error(check_asker(alloc, last, principal, host), others)
 }
@@ -41,7 +42,7 @@ fn check_words(alloc: Global, places: &[Place], words: &[Word<'_>]) -> Result<()
 {
     match (places, words) {
         ([], []) | ([Place::OrNone(_)], []) | ([Place::Records, ..], _) => Ok(()),
-        ([Place::Texts, ..], _) => texts_of(alloc, words).and(Ok(())),
+        ([Place::Texts, ..], _) => only_fault(check_texts(words)),
         ([Place::OrDash(_), places @ ..], [word, words @ ..]) if word.is_dash() => {
             check_words(alloc, places, words)
         }
@@ -59,37 +60,56 @@ fn check_words(alloc: Global, places: &[Place], words: &[Word<'_>]) -> Result<()
     }
 }
 
-// The variants are in the order of the kinds.
 fn first_error(one: Result<(), LineError>, other: Result<(), LineError>) -> Result<(), LineError>
     ensures { (a b : Option kinds.FaultKind) → Finds one a → Finds other b
         → Finds result (earlier a b) }
 {
     match (one, other) {
-        (Err(LineError::Memory), _) | (_, Err(LineError::Memory)) => Err(LineError::Memory),
+        (Err(one), Err(other)) => Err(earlier(one, other)),
         (Ok(()), other) => other,
-        (Err(LineError::Fault(kind)), Err(LineError::Fault(other))) if (other as u8) < kind as u8 =>
-            { Err(LineError::Fault(other)) }
         (one, _) => one,
     }
 }
 
+// Out of memory comes after each fault. The variants are in the order of the kinds.
+fn earlier(one: LineError, other: LineError) -> LineError
+    ensures { (a b : Option kinds.FaultKind) → Finds (Err one) a → Finds (Err other) b
+        → Finds (Err result) (earlier a b) }
+{
+    match (one, other) {
+        (LineError::Memory(_), other) => other,
+        (LineError::Fault(kind), LineError::Fault(other)) if (other as u8) < kind as u8 => {
+            LineError::Fault(other)
+        }
+        (one, _) => one,
+    }
+}
+
+// What was read is dropped.
+pub(crate) fn only_fault<T: Drop>(read: Result<T, FaultKind>) -> Result<(), LineError>
+    ensures { Finds result (result_err read) }
+{
+    read?;
+    Ok(())
+}
+
 #[tactic(auto, using(crate::proofs::LineFaults::keeps_fault))]
-fn check_slot(alloc: Global, slot: Slot, word: &Word<'_>) -> Result<(), LineError>
+pub(crate) fn check_slot(alloc: Global, slot: Slot, word: &Word<'_>) -> Result<(), LineError>
     ensures { Finds result (slot_fault slot word.now) }
 {
     match slot {
-        Slot::Text => lent_text_of(word).and(Ok(())),
+        Slot::Text => only_fault(lent_text_of(word)),
         Slot::Principal => named_principal(alloc, word).and(Ok(())),
         Slot::Host => named_host(alloc, word).and(Ok(())),
-        Slot::Number => number_of(word).and(Ok(())),
-        Slot::StartOrEnd => which_of(word).and(Ok(())),
-        Slot::OffsetOrEnd => before_of(word).and(Ok(())),
-        Slot::Producer => idem_of(alloc, word).and(Ok(())),
-        Slot::Permission => known(permission_named(word.decoded())).and(Ok(())),
-        Slot::Operation => known(operation_named(word.decoded())).and(Ok(())),
-        Slot::Resource => known(resource_named(word.decoded())).and(Ok(())),
-        Slot::Pattern => known(pattern_named(word.decoded())).and(Ok(())),
-        Slot::FilterPattern => filter_pattern_of(word).and(Ok(())),
+        Slot::Number => only_fault(number_of(word)),
+        Slot::StartOrEnd => only_fault(which_of(word)),
+        Slot::OffsetOrEnd => only_fault(before_of(word)),
+        Slot::Producer => only_fault(idem_of(word)),
+        Slot::Permission => only_fault(known(permission_named(word.decoded()))),
+        Slot::Operation => only_fault(known(operation_named(word.decoded()))),
+        Slot::Resource => only_fault(known(resource_named(word.decoded()))),
+        Slot::Pattern => only_fault(known(pattern_named(word.decoded()))),
+        Slot::FilterPattern => only_fault(filter_pattern_of(word)),
     }
 }
 
@@ -114,10 +134,9 @@ pub fn check_asker(
                 set_asker(last, principal, host);
                 Ok(())
             }
-            // One of them has a fault.
-            (one, other) => {
-                first_error(one.and(Ok(())), other.and(Ok(()))).and(Err(LineError::Memory))
-            }
+            (Err(one), Err(other)) => Err(earlier(one, other)),
+            (Err(one), Ok(_)) => Err(one),
+            (Ok(_), Err(other)) => Err(other),
         },
     }
 }

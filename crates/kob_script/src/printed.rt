@@ -1,7 +1,8 @@
 //! How replies and faults are printed.
-#![tactic(auto, using(kob_words::proofs::Appending::appending))]
+#![tactic(auto, using(kob_words::proofs::Appending::kept))]
 
-ghost use Rattle.std.specs.Prelude.{◌≡◌, ◌++◌, ℕ, List, OnOk, decimal, flat_map};
+ghost use Rattle.std.specs.Prelude.{◌≡◌, ◌++◌, ℕ, List, OnErr, OnOk, decimal, flat_map};
+ghost use Rattle.kob_words.specs.Words.{IsKept};
 ghost use Rattle.kob_script.specs.Printed.{binding_item, body_text, code_text, fault_text};
 ghost use Rattle.kob_script.specs.Printed.{group_item, kind_text, outcome_text, record_item};
 ghost use Rattle.kob_script.specs.Printed.{reply_text, serial_item, topic_item, verdict_item};
@@ -10,23 +11,42 @@ ghost use Rattle.kob_script.specs.Printed.{verdict_text, verdicts_text};
 use crate::fault::{Fault, FaultKind};
 use kob_names::{Binding, Record, Text, Verdict};
 use kob_rights::{Body, Code, Reply};
-use kob_words::{print_binding, push_bytes, push_number};
+use kob_words::{print_binding, push_bytes, push_number, whole_or_nothing};
 use std::alloc::AllocError;
 
-/// Prints the number of a reply, the reply and a line feed. The error is out of memory; `out` then
-/// ends with a part of them.
+/// Prints the number of a reply, the reply and a line feed. On an error `out` is as it was.
 pub fn print_reply(out: &mut Vec<u8>, number: u64, reply: &Reply) -> Result<(), AllocError>
-    ensures { OnOk result (out.new.items ≡ out.old.items ++ reply_text number reply.now) }
+    ensures text { OnOk result (out.new.items ≡ out.old.items ++ reply_text number reply.now) }
+    ensures same { OnErr result (out.new.items ≡ out.old.items) }
+{
+    let start = out.len();
+    let printed = push_reply(out, number, reply);
+    whole_or_nothing(out, start, printed)
+}
+
+fn push_reply(out: &mut Vec<u8>, number: u64, reply: &Reply) -> Result<(), AllocError>
+    ensures text { OnOk result (out.new.items ≡ out.old.items ++ reply_text number reply.now) }
+    ensures kept { OnErr result (IsKept out.old.items out.new.items) }
 {
     push_number(out, number)?;
-    push_outcome(out, reply)?;
+    push_parts(out, reply)?;
     out.extend_from_slice(b"\n")
 }
 
-/// Prints a reply without a number or a line feed: `ok ..`, `denied ..` or `refused ..`. The error is
-/// out of memory; `out` then ends with a part of it.
+/// Prints a reply without a number or a line feed: `ok ..`, `denied ..` or `refused ..`. On an error
+/// `out` is as it was.
 pub fn push_outcome(out: &mut Vec<u8>, reply: &Reply) -> Result<(), AllocError>
-    ensures { OnOk result (out.new.items ≡ out.old.items ++ outcome_text reply.now) }
+    ensures text { OnOk result (out.new.items ≡ out.old.items ++ outcome_text reply.now) }
+    ensures same { OnErr result (out.new.items ≡ out.old.items) }
+{
+    let start = out.len();
+    let printed = push_parts(out, reply);
+    whole_or_nothing(out, start, printed)
+}
+
+fn push_parts(out: &mut Vec<u8>, reply: &Reply) -> Result<(), AllocError>
+    ensures text { OnOk result (out.new.items ≡ out.old.items ++ outcome_text reply.now) }
+    ensures kept { OnErr result (IsKept out.old.items out.new.items) }
 {
     match reply {
         Reply::Done(body) => {
@@ -49,16 +69,18 @@ pub fn push_outcome(out: &mut Vec<u8>, reply: &Reply) -> Result<(), AllocError>
 }
 
 fn push_code(out: &mut Vec<u8>, code: Code) -> Result<(), AllocError>
-    ensures { OnOk result (out.new.items ≡ out.old.items ++ code_text code) }
+    ensures text { OnOk result (out.new.items ≡ out.old.items ++ code_text code) }
+    ensures kept { OnErr result (IsKept out.old.items out.new.items) }
 {
     push_number(out, code.number())?;
     out.extend_from_slice(b" ")?;
     out.extend_from_slice(code.name().as_bytes())
 }
 
-#[tactic(auto, using(kob_words::proofs::Appending::appending), unfolding(crate::specs::Printed::verdicts_text))]
+#[tactic(auto, using(kob_words::proofs::Appending::kept), unfolding(crate::specs::Printed::verdicts_text))]
 fn push_verdicts(out: &mut Vec<u8>, verdicts: &[Verdict]) -> Result<(), AllocError>
-    ensures { OnOk result (out.new.items ≡ out.old.items ++ verdicts_text verdicts.now) }
+    ensures text { OnOk result (out.new.items ≡ out.old.items ++ verdicts_text verdicts.now) }
+    ensures kept { OnErr result (IsKept out.old.items out.new.items) }
 {
     let Some((first, others)) = verdicts.split_first() else {
         return Ok(());
@@ -68,7 +90,8 @@ fn push_verdicts(out: &mut Vec<u8>, verdicts: &[Verdict]) -> Result<(), AllocErr
 }
 
 fn push_verdict(out: &mut Vec<u8>, verdict: Verdict) -> Result<(), AllocError>
-    ensures { OnOk result (out.new.items ≡ out.old.items ++ verdict_text verdict) }
+    ensures text { OnOk result (out.new.items ≡ out.old.items ++ verdict_text verdict) }
+    ensures kept { OnErr result (IsKept out.old.items out.new.items) }
 {
     match verdict {
         Verdict::DeniedBy(serial) => push_labelled(out, b"deny:", serial),
@@ -79,9 +102,9 @@ fn push_verdict(out: &mut Vec<u8>, verdict: Verdict) -> Result<(), AllocError>
     }
 }
 
-/// Prints the body of a reply.
-pub fn push_body(out: &mut Vec<u8>, body: &Body) -> Result<(), AllocError>
-    ensures { OnOk result (out.new.items ≡ out.old.items ++ body_text body.now) }
+fn push_body(out: &mut Vec<u8>, body: &Body) -> Result<(), AllocError>
+    ensures text { OnOk result (out.new.items ≡ out.old.items ++ body_text body.now) }
+    ensures kept { OnErr result (IsKept out.old.items out.new.items) }
 {
     match body {
         Body::Created => out.extend_from_slice(b"created"),
@@ -107,15 +130,17 @@ pub fn push_body(out: &mut Vec<u8>, body: &Body) -> Result<(), AllocError>
 }
 
 fn push_labelled(out: &mut Vec<u8>, label: &[u8], number: u64) -> Result<(), AllocError>
-    ensures { OnOk result (out.new.items ≡ out.old.items ++ label.now ++ decimal number) }
+    ensures text { OnOk result (out.new.items ≡ out.old.items ++ label.now ++ decimal number) }
+    ensures kept { OnErr result (IsKept out.old.items out.new.items) }
 {
     out.extend_from_slice(label)?;
     push_number(out, number)
 }
 
 fn push_list<T: Item>(out: &mut Vec<u8>, word: &[u8], items: &[T]) -> Result<(), AllocError>
-    ensures { OnOk result
+    ensures text { OnOk result
         (out.new.items ≡ out.old.items ++ word.now ++ flat_map T.text items.now) }
+    ensures kept { OnErr result (IsKept out.old.items out.new.items) }
 {
     out.extend_from_slice(word)?;
     for item in items {
@@ -129,7 +154,8 @@ trait Item {
     ghost text: { Self → List ℕ };
 
     fn push(&self, out: &mut Vec<u8>) -> Result<(), AllocError>
-        ensures { OnOk result (out.new.items ≡ out.old.items ++ text self.now) };
+        ensures text { OnOk result (out.new.items ≡ out.old.items ++ text self.now) }
+        ensures kept { OnErr result (IsKept out.old.items out.new.items) };
 }
 
 impl Item for Verdict {
@@ -190,10 +216,19 @@ impl Item for Text {
     }
 }
 
-/// Prints the line `fault line LINE KIND` with its line feed. The error is out of memory; `out` then
-/// ends with a part of it.
+/// Prints the line `fault line LINE KIND` with its line feed. On an error `out` is as it was.
 pub fn print_fault(out: &mut Vec<u8>, fault: Fault) -> Result<(), AllocError>
-    ensures { OnOk result (out.new.items ≡ out.old.items ++ fault_text fault) }
+    ensures text { OnOk result (out.new.items ≡ out.old.items ++ fault_text fault) }
+    ensures same { OnErr result (out.new.items ≡ out.old.items) }
+{
+    let start = out.len();
+    let printed = push_fault(out, fault);
+    whole_or_nothing(out, start, printed)
+}
+
+fn push_fault(out: &mut Vec<u8>, fault: Fault) -> Result<(), AllocError>
+    ensures text { OnOk result (out.new.items ≡ out.old.items ++ fault_text fault) }
+    ensures kept { OnErr result (IsKept out.old.items out.new.items) }
 {
     push_labelled(out, b"fault line ", fault.line)?;
     out.extend_from_slice(b" ")?;

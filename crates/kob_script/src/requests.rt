@@ -1,9 +1,11 @@
 //! The requests of a checked script. Each is read when it is needed.
 
 ghost use Rattle.std.specs.Prelude.{◌≡◌, ◌≤◌, ◌<◌, ◌+◌, ◌++◌, ◌∷◌, [], drop, length, None};
-ghost use Rattle.std.specs.Prelude.{IfOk, OnOk, OnErr, MatchOption, slice_index_or};
+ghost use Rattle.std.specs.Prelude.{IfOk, IsOk, Ok, OnOk, OnErr, MatchOption, slice_index_or};
+ghost use Rattle.std.specs.Result.{result_unwrap_or};
 
 use crate::command_lines::{asks_clap, read_event};
+use crate::fault::LineError;
 use crate::script::is_setting;
 use crate::words::{Word, words_of};
 use bstr::ByteSlice;
@@ -38,19 +40,21 @@ impl Model for Requests {
 }
 
 impl Requests {
-    ghost use Rattle.kob_script.specs.Script.{AreRead, answers_after, line_words, lines_in_blocks};
-    ghost use Rattle.kob_script.specs.Script.{lines_left, requests_in, requests_of, steps_left};
+    ghost use Rattle.kob_script.specs.Script.{AreRead, answers_after, line_words, lines_ask};
+    ghost use Rattle.kob_script.specs.Script.{lines_in_blocks, requests_in, requests_of};
+    ghost use Rattle.kob_script.specs.Script.{requests_on, steps_left};
+    ghost use Rattle.kob_script.specs.Words.{counted};
 
     /// What the lines of blocks ask for, by the answers to those of `acl`, and the number of these
     /// requests. Does not allocate.
-    pub fn new(
+    pub(crate) fn new(
         alloc: Global,
         blocks: Vec<Bytes>,
         answers: Vec<Option<CliArgs>>,
         count: u64,
     ) -> Requests
-        requires { count ≡ length (requests_in (lines_in_blocks blocks.items) answers.items) }
-        ensures { result ≡ requests_in (lines_in_blocks blocks.items) answers.items }
+        requires { counted (requests_in (lines_in_blocks blocks.items) answers.items) ≡ Ok count }
+        ensures { requests_in (lines_in_blocks blocks.items) answers.items ≡ Ok result }
     {
         Requests {
             blocks: Blocks::new(alloc, blocks),
@@ -69,7 +73,8 @@ impl Requests {
 
     /// Reads the next request, of which there has to be one: `next` is its event then. The principal
     /// and the host of the event that it was before are not parsed again. A block is freed when a
-    /// request after it is read. The error is out of memory; the same requests are then left.
+    /// request after it is read. The error is out of memory; the same requests are then left, and
+    /// `next` is no event of the script, though it may have the next one's principal and host.
     pub fn next_event(&mut self, alloc: Global, next: &mut Option<Event>) -> Result<(), AllocError>
         requires { 0 < length self.old }
         ensures next { OnOk result
@@ -105,13 +110,15 @@ impl Requests {
     ) -> Result<bool, AllocError>
         requires some { 0 < steps_left blocks.old }
         requires none { asked.old.items ≡ [] }
-        ensures read { IfOk result (λ read. AreRead read next.new
-            (asked.new.items ++ requests_in (lines_left blocks.new) answers.new.items)
-            (requests_in (lines_left blocks.old) answers.old.items)) }
+        requires checked { IsOk (lines_ask blocks.old answers.old.items) }
+        ensures read { IfOk result (λ read. AreRead read next.new (asked.new.items
+            ++ result_unwrap_or (lines_ask blocks.new answers.new.items) [])
+            (result_unwrap_or (lines_ask blocks.old answers.old.items) [])) }
+        ensures checked { IsOk (lines_ask blocks.new answers.new.items) }
         ensures nearer { OnOk result (steps_left blocks.new < steps_left blocks.old) }
-        ensures same { OnErr result (asked.new.items
-            ++ requests_in (lines_left blocks.new) answers.new.items
-            ≡ requests_in (lines_left blocks.old) answers.old.items) }
+        ensures none { OnErr result (asked.new.items ≡ []) }
+        ensures same { OnErr result (lines_ask blocks.new answers.new.items
+            ≡ lines_ask blocks.old answers.old.items) }
     {
         let Some((line, size)) = Blocks::first_line(blocks.rest()) else {
             blocks.enter_next();
@@ -131,15 +138,21 @@ impl Requests {
         answers: &mut VecDeque<Option<CliArgs>>,
         asked: &mut VecDeque<Event>,
     ) -> Result<bool, AllocError>
-        requires { asked.old.items ≡ [] }
-        ensures asked { IfOk result (λ read. AreRead read next.new asked.new.items
-            (requests_of (slice_index_or answers.old.items 0 None) (line_words line.now))) }
+        requires none { asked.old.items ≡ [] }
+        requires checked { IsOk (requests_on (slice_index_or answers.old.items 0 None) line.now) }
+        ensures asked { IfOk result (λ read. IfOk
+            (requests_on (slice_index_or answers.old.items 0 None) line.now)
+            (AreRead read next.new asked.new.items)) }
         ensures used { OnOk result (answers.new.items
             ≡ answers_after (line_words line.now) answers.old.items) }
         ensures same { OnErr result ((asked.new.items ≡ [])
             × (answers.new.items ≡ answers.old.items)) }
     {
-        let words = words_of(alloc, line).or(Err(AllocError))?;
+        let words = match words_of(alloc, line) {
+            Ok(words) => words,
+            Err(LineError::Memory(error)) => return Err(error),
+            Err(LineError::Fault(_)) => unreachable!(),
+        };
         if !asks_clap(&words) {
             return Requests::read_words(alloc, next, &words, answers, asked);
         }
@@ -157,9 +170,11 @@ impl Requests {
         answers: &VecDeque<Option<CliArgs>>,
         asked: &mut VecDeque<Event>,
     ) -> Result<bool, AllocError>
-        requires { asked.old.items ≡ [] }
-        ensures asked { IfOk result (λ read. AreRead read next.new asked.new.items
-            (requests_of (slice_index_or answers.now.items 0 None) words.now)) }
+        requires none { asked.old.items ≡ [] }
+        requires checked { IsOk (requests_of (slice_index_or answers.now.items 0 None) words.now) }
+        ensures asked { IfOk result (λ read. IfOk
+            (requests_of (slice_index_or answers.now.items 0 None) words.now)
+            (AreRead read next.new asked.new.items)) }
         ensures same { OnErr result (asked.new.items ≡ []) }
     {
         match words {
@@ -170,7 +185,11 @@ impl Requests {
                     Some(answer) => answer.as_ref(),
                     None => None,
                 };
-                read_event(alloc, next, words, answer, asked).or(Err(AllocError))
+                match read_event(alloc, next, words, answer, asked) {
+                    Ok(read) => Ok(read),
+                    Err(LineError::Memory(error)) => Err(error),
+                    Err(LineError::Fault(_)) => unreachable!(),
+                }
             }
         }
     }

@@ -5,11 +5,13 @@ ghost use Rattle.std.specs.List.{concat};
 ghost use Rattle.std.specs.Prelude.{◌≡◌, ◌<◌, ◌^◌, ℕ, List, Ok, length, true, IfOk, option_copied};
 ghost use Rattle.kob_rights.specs.declared.event.Event as event;
 ghost use Rattle.kob_script.specs.Checks.{ChecksLine, ChecksNext, as_read, fault_at, script_so_far};
-ghost use Rattle.kob_script.specs.Words.{Gives, words_of};
+ghost use Rattle.std.specs.Result.{result_err};
+ghost use Rattle.kob_script.specs.Words.{Gives, HidesNoFault, words_of};
 ghost use Rattle.kob_script.specs.Script.{AreWholeLines, HasNoAclLine, IfRead, ReadsAs, asks_clap};
 ghost use Rattle.kob_script.specs.Script.{everyone_of, is_setting, is_super, script_of, super_of};
 ghost use Rattle.kob_script.specs.Script.{with_events, with_words};
 
+use crate::checked::CheckedScript;
 use crate::command_lines::{answer_to, asks_clap, count_of};
 use crate::fault::{Fault, FaultKind, LineError, ScriptError};
 use crate::requests::Requests;
@@ -17,7 +19,7 @@ use crate::values::named_principal;
 use crate::words::{Word, words_of};
 use bstr::ByteSlice;
 use kob_acl_cli::CliArgs;
-use kob_names::{Bytes, Items, Principal, Settings};
+use kob_names::{Bytes, Items, Principal, Settings, sum_of};
 use kob_rights::Event;
 use std::alloc::{AllocError, Global};
 
@@ -28,13 +30,6 @@ pub struct Script {
     pub events: Items<Event>,
 }
 
-/// A script without a fault: its settings, which open no bindings, and its requests, in order.
-#[derive(Debug, Drop)]
-pub struct CheckedScript {
-    pub settings: Settings,
-    pub requests: Requests,
-}
-
 /// Reads a script, of which it makes a copy, in time linear in its size. A line ends with a line
 /// feed, or with a carriage return and a line feed; the last line may have no end. The error is the
 /// first line with a fault, or `Memory`. `clap` tells what the words of an `acl` line mean, and for
@@ -43,7 +38,8 @@ pub fn read_script(alloc: Global, text: &[u8]) -> Result<Script, ScriptError>
     ensures any { IfRead result (ReadsAs text.now) }
     ensures plain { HasNoAclLine text.now → IfRead result (λ read. script_of text.now ≡ read) }
 {
-    let blocks = vec![in alloc; Bytes::copied(alloc, text)?].or(Err(ScriptError::Memory))?;
+    let copy = Bytes::copied(alloc, text)?;
+    let blocks = vec![in alloc; copy].map_err(AllocError::from)?;
     let CheckedScript { settings, requests } = check_script(alloc, blocks)?;
     let events = Items::from_vec(all_events(alloc, requests)?);
     Ok(Script { settings, events })
@@ -69,7 +65,7 @@ fn all_events(alloc: Global, mut requests: Requests) -> Result<Vec<Event>, Alloc
 struct Checking {
     supers: Vec<Principal>,
     everyone: bool,
-    requests: u64,
+    requests: usize,
     /// An event by the principal and the host that were read last.
     last: Option<Event>,
 }
@@ -110,7 +106,7 @@ pub fn check_script(alloc: Global, blocks: Vec<Bytes>) -> Result<CheckedScript, 
             opening: Items::from_vec(Vec::new(alloc)),
             everyone: checking.everyone,
         },
-        requests: Requests::new(alloc, blocks, answers, checking.requests),
+        requests: Requests::new(alloc, blocks, answers, checking.requests as u64),
     })
 }
 
@@ -118,7 +114,7 @@ fn fault_at(error: LineError, line: u64) -> ScriptError
     ensures { result ≡ fault_at line error }
 {
     match error {
-        LineError::Memory => ScriptError::Memory,
+        LineError::Memory(error) => ScriptError::Memory(error),
         LineError::Fault(kind) => ScriptError::Fault(Fault { line, kind }),
     }
 }
@@ -187,8 +183,7 @@ fn check_words(
         }
         _ => {
             let asked = count_of(alloc, &mut checking.last, words, answer)?;
-            let requests = checking.requests.checked_add(asked);
-            checking.requests = requests.ok_or(LineError::Memory)?;
+            checking.requests = sum_of(checking.requests, asked)?;
             Ok(())
         }
     }
@@ -210,7 +205,8 @@ pub fn is_super(first: &Word<'_>) -> bool
 
 /// The super user whom the words after `super` name.
 pub fn super_of(alloc: Global, arguments: &[Word<'_>]) -> Result<Principal, LineError>
-    ensures { Gives result (super_of arguments.now) }
+    ensures gives { Gives result (super_of arguments.now) }
+    ensures memory { HidesNoFault result (result_err (super_of arguments.now)) }
 {
     match arguments {
         [name] => named_principal(alloc, name),
@@ -219,12 +215,12 @@ pub fn super_of(alloc: Global, arguments: &[Word<'_>]) -> Result<Principal, Line
 }
 
 /// Whether a resource that no binding matches is open to everyone, by the words after `everyone`.
-pub fn everyone_of(arguments: &[Word<'_>]) -> Result<bool, LineError>
-    ensures { Gives result (everyone_of arguments.now) }
+pub fn everyone_of(arguments: &[Word<'_>]) -> Result<bool, FaultKind>
+    ensures { result ≡ everyone_of arguments.now }
 {
     match arguments {
         [word] if word.decoded() == b"on".as_slice() => Ok(true),
         [word] if word.decoded() == b"off".as_slice() => Ok(false),
-        _ => Err(LineError::Fault(FaultKind::BadLine)),
+        _ => Err(FaultKind::BadLine),
     }
 }

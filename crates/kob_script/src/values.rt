@@ -3,7 +3,8 @@
 
 ghost use Rattle.std.specs.Prelude.{◌≡◌, IfOk, map, ok_or};
 ghost use Rattle.kob_script.specs.CommandLines.{filter_pattern_of};
-ghost use Rattle.kob_script.specs.Words.{Gives, GivesSeen, each};
+ghost use Rattle.std.specs.Result.{result_err};
+ghost use Rattle.kob_script.specs.Words.{Gives, GivesSeen, HidesNoFault, each, seen};
 ghost use Rattle.kob_words.specs.Words.{bytes_of};
 ghost use Rattle.kob_script.specs.Words.{before_of, host_of, idem_of, named_host};
 ghost use Rattle.kob_script.specs.Words.{named_principal, number_in, number_of, principal_of};
@@ -17,35 +18,53 @@ use kob_names::{
     Bytes, FilterPattern, Host, HostFault, Idem, Items, Principal, PrincipalFault, Record, Text,
 };
 use kob_rights::{Before, Which};
-use kob_words::{bytes_of, decimal_in, filter_pattern_named, may_have_escapes};
+use kob_words::{bytes_of, decimal_in, escaped_decimal_in, filter_pattern_named};
 use std::alloc::{AllocError, Global};
 
 /// The text of a word, borrowed from it. Does not allocate.
-pub fn lent_text_of<'w>(word: &'w Word<'_>) -> Result<&'w str, LineError>
-    ensures { GivesSeen (λ text. text.now) result (text_of word.entry.now) }
+pub fn lent_text_of<'w>(word: &'w Word<'_>) -> Result<&'w str, FaultKind>
+    ensures { seen (λ text. text.now) result ≡ text_of word.entry.now }
 {
     match word.decoded().to_str() {
         Ok(text) => Ok(text),
-        Err(_) => Err(LineError::Fault(FaultKind::BadText)),
+        Err(_) => Err(FaultKind::BadText),
     }
 }
 
 /// A copy of the text of a word.
 pub fn text_of(alloc: Global, word: &Word<'_>) -> Result<Text, LineError>
-    ensures { Gives result (text_of word.now) }
+    ensures gives { Gives result (text_of word.now) }
+    ensures memory { HidesNoFault result (result_err (text_of word.now)) }
 {
     Ok(Text::copied(alloc, lent_text_of(word)?)?)
 }
 
+/// Whether all words are texts.
+pub fn check_texts(words: &[Word<'_>]) -> Result<(), FaultKind>
+    ensures { result_err result ≡ result_err (each text_of words.now) }
+{
+    for word in words {
+        match lent_text_of(word) {
+            Ok(_) => {}
+            Err(kind) => return Err(kind),
+        }
+    }
+    Ok(())
+}
+
 /// The texts of the words, in order, borrowed from them.
 pub fn texts_of<'w>(alloc: Global, words: &'w [Word<'_>]) -> Result<Vec<&'w str>, LineError>
-    ensures { GivesSeen (λ texts. map (λ text. text.now) texts.items) result
+    ensures gives { GivesSeen (λ texts. map (λ text. text.now) texts.items) result
         (each text_of words.entry.now) }
+    ensures memory { HidesNoFault result (result_err (each text_of words.entry.now)) }
 {
+    check_texts(words)?;
     let mut texts = Vec::with_capacity(alloc, words.len())?;
     for word in words {
-        let text = lent_text_of(word)?;
-        texts.push(text)?;
+        match lent_text_of(word) {
+            Ok(text) => texts.push(text)?,
+            Err(kind) => return Err(LineError::Fault(kind)),
+        }
     }
     Ok(texts)
 }
@@ -53,11 +72,12 @@ pub fn texts_of<'w>(alloc: Global, words: &'w [Word<'_>]) -> Result<Vec<&'w str>
 /// The principal that a text writes.
 #[tactic(auto, unfolding(crate::specs::Words::principal_of))]
 pub fn principal_of(alloc: Global, text: &str) -> Result<Principal, LineError>
-    ensures { Gives result (principal_of text.now) }
+    ensures gives { Gives result (principal_of text.now) }
+    ensures memory { HidesNoFault result (result_err (principal_of text.now)) }
 {
     match Principal::parse(alloc, text) {
         Ok(principal) => Ok(principal),
-        Err(PrincipalFault::Memory) => Err(LineError::Memory),
+        Err(PrincipalFault::Memory(error)) => Err(LineError::Memory(error)),
         Err(_) => Err(LineError::Fault(FaultKind::BadPrincipal)),
     }
 }
@@ -65,56 +85,53 @@ pub fn principal_of(alloc: Global, text: &str) -> Result<Principal, LineError>
 /// The host that a text writes.
 #[tactic(auto, unfolding(crate::specs::Words::host_of))]
 pub fn host_of(alloc: Global, text: &str) -> Result<Host, LineError>
-    ensures { Gives result (host_of text.now) }
+    ensures gives { Gives result (host_of text.now) }
+    ensures memory { HidesNoFault result (result_err (host_of text.now)) }
 {
     match Host::parse(alloc, text) {
         Ok(host) => Ok(host),
-        Err(HostFault::Memory) => Err(LineError::Memory),
+        Err(HostFault::Memory(error)) => Err(LineError::Memory(error)),
         Err(_) => Err(LineError::Fault(FaultKind::BadHost)),
     }
 }
 
 /// The principal that a word names.
 pub fn named_principal(alloc: Global, word: &Word<'_>) -> Result<Principal, LineError>
-    ensures { Gives result (named_principal word.now) }
+    ensures gives { Gives result (named_principal word.now) }
+    ensures memory { HidesNoFault result (result_err (named_principal word.now)) }
 {
     principal_of(alloc, lent_text_of(word)?)
 }
 
 /// The host that a word names.
 pub fn named_host(alloc: Global, word: &Word<'_>) -> Result<Host, LineError>
-    ensures { Gives result (named_host word.now) }
+    ensures gives { Gives result (named_host word.now) }
+    ensures memory { HidesNoFault result (result_err (named_host word.now)) }
 {
     host_of(alloc, lent_text_of(word)?)
 }
 
 /// The number that a word writes: decimal digits without a sign, of at most 64 bits.
-pub fn number_of(word: &Word<'_>) -> Result<u64, LineError>
-    ensures { Gives result (number_of word.now) }
+pub fn number_of(word: &Word<'_>) -> Result<u64, FaultKind>
+    ensures { result ≡ number_of word.now }
 {
-    number_in(word.decoded())
-}
-
-fn number_in(digits: &[u8]) -> Result<u64, LineError>
-    ensures { Gives result (number_in digits.now) }
-{
-    decimal_in(digits).ok_or(LineError::Fault(FaultKind::BadNumber))
+    decimal_in(word.decoded()).ok_or(FaultKind::BadNumber)
 }
 
 /// The start for `-2`, the end for `-1`. The fault is `BadLine`.
-pub fn which_of(word: &Word<'_>) -> Result<Which, LineError>
-    ensures { Gives result (which_of word.now) }
+pub fn which_of(word: &Word<'_>) -> Result<Which, FaultKind>
+    ensures { result ≡ which_of word.now }
 {
     match word.decoded() {
         b"-2" => Ok(Which::Start),
         b"-1" => Ok(Which::End),
-        _ => Err(LineError::Fault(FaultKind::BadLine)),
+        _ => Err(FaultKind::BadLine),
     }
 }
 
 /// The offset to delete up to, the end for `-1`.
-pub fn before_of(word: &Word<'_>) -> Result<Before, LineError>
-    ensures { Gives result (before_of word.now) }
+pub fn before_of(word: &Word<'_>) -> Result<Before, FaultKind>
+    ensures { result ≡ before_of word.now }
 {
     if word.decoded() == b"-1".as_slice() {
         return Ok(Before::End);
@@ -123,15 +140,15 @@ pub fn before_of(word: &Word<'_>) -> Result<Before, LineError>
 }
 
 /// What a table has for a word. The fault is `BadWord`.
-pub fn known<T: Copy>(found: Option<T>) -> Result<T, LineError>
-    ensures { Gives result (ok_or found BadWord) }
+pub fn known<T: Copy>(found: Option<T>) -> Result<T, FaultKind>
+    ensures { result ≡ ok_or found BadWord }
 {
-    found.ok_or(LineError::Fault(FaultKind::BadWord))
+    found.ok_or(FaultKind::BadWord)
 }
 
 /// The pattern of a filter; `-` is the same as `any`.
-pub fn filter_pattern_of(word: &Word<'_>) -> Result<FilterPattern, LineError>
-    ensures { Gives result (filter_pattern_of word.now) }
+pub fn filter_pattern_of(word: &Word<'_>) -> Result<FilterPattern, FaultKind>
+    ensures { result ≡ filter_pattern_of word.now }
 {
     if word.is_dash() {
         return Ok(FilterPattern::Any);
@@ -142,32 +159,28 @@ pub fn filter_pattern_of(word: &Word<'_>) -> Result<FilterPattern, LineError>
 /// Who produced a batch: nobody for `-`, or `ID:EPOCH:BASE`. The fault is `BadLine` for other
 /// numbers of parts.
 #[tactic(auto, unfolding(crate::specs::Words::idem_of))]
-pub fn idem_of(alloc: Global, word: &Word<'_>) -> Result<Option<Idem>, LineError>
-    ensures { Gives result (idem_of word.now) }
+pub fn idem_of(word: &Word<'_>) -> Result<Option<Idem>, FaultKind>
+    ensures { result ≡ idem_of word.now }
 {
     if word.is_dash() {
         return Ok(None);
     }
-    let (id, others) = cut_at(b':', word.raw()).ok_or(LineError::Fault(FaultKind::BadLine))?;
-    let (epoch, base) = cut_at(b':', others).ok_or(LineError::Fault(FaultKind::BadLine))?;
+    let (id, others) = cut_at(b':', word.raw()).ok_or(FaultKind::BadLine)?;
+    let (epoch, base) = cut_at(b':', others).ok_or(FaultKind::BadLine)?;
     if cut_at(b':', base).is_some() {
-        return Err(LineError::Fault(FaultKind::BadLine));
+        return Err(FaultKind::BadLine);
     }
-    let id = number_at(alloc, id)?;
-    let epoch = number_at(alloc, epoch)?;
-    let base = number_at(alloc, base)?;
+    let id = number_at(id)?;
+    let epoch = number_at(epoch)?;
+    let base = number_at(base)?;
     Ok(Some(Idem { id, epoch, base }))
 }
 
-// The number that a part of a word writes, after its escapes are replaced.
-#[tactic(auto, using(crate::proofs::Numbers::digits_stand, kob_words::proofs::Escapes::plain_stands))]
-fn number_at(alloc: Global, part: &[u8]) -> Result<u64, LineError>
-    ensures { Gives result (number_in (bytes_of part.now)) }
+// The number that a part of a word writes, in which escapes stand for digits too.
+fn number_at(part: &[u8]) -> Result<u64, FaultKind>
+    ensures { result ≡ number_in (bytes_of part.now) }
 {
-    match number_in(part) {
-        Err(_) if may_have_escapes(part) => number_in(bytes_of(alloc, part)?.as_slice()),
-        read => read,
-    }
+    escaped_decimal_in(part).ok_or(FaultKind::BadNumber)
 }
 
 /// A record of a key and a value around the first `=`, or of a value alone.

@@ -3,13 +3,14 @@
 ghost use Rattle.std.specs.Prelude.{◌≡◌, ◌<◌, ◌≤◌, ◌∷◌, [], false, find, not, IfSome, MatchOption};
 ghost use Rattle.std.specs.Prelude.{bytes_eq, codes, length, option_map, slice_get};
 ghost use Rattle.std.specs.List.{position_or_len};
+ghost use Rattle.std.specs.Result.{result_err};
 ghost use Rattle.kob_words.specs.Words.{has_percent};
-ghost use Rattle.kob_script.specs.Words.{Gives, GivesSeen, cut_at, is_blank, raw_words, word_of};
-ghost use Rattle.kob_script.specs.Words.{words_of};
+ghost use Rattle.kob_script.specs.Words.{Gives, GivesSeen, HidesNoFault, cut_at, each, is_blank};
+ghost use Rattle.kob_script.specs.Words.{raw_words, word_of, words_of};
 
 use crate::fault::{FaultKind, LineError};
 use kob_names::Bytes;
-use kob_words::{may_have_escapes, unescaped};
+use kob_words::{has_whole_escapes, may_have_escapes, unescaped};
 use memchr::memchr;
 use std::alloc::Global;
 use std::marker::Model;
@@ -38,7 +39,8 @@ impl<'a> Word<'a> {
     /// The word that these bytes of a line are. The fault is `BadEscape`. Does not allocate for a
     /// word without a percent sign.
     pub fn read(alloc: Global, raw: &'a [u8]) -> Result<Word<'a>, LineError>
-        ensures { Gives result (word_of raw.now) }
+        ensures gives { Gives result (word_of raw.now) }
+        ensures memory { HidesNoFault result (result_err (word_of raw.now)) }
     {
         Word::read_part(alloc, may_have_escapes(raw), raw)
     }
@@ -47,11 +49,12 @@ impl<'a> Word<'a> {
     #[tactic(auto, using(kob_words::proofs::Escapes::plain_stands))]
     fn read_part(alloc: Global, escaped: bool, raw: &'a [u8]) -> Result<Word<'a>, LineError>
         requires { escaped ≡ false → has_percent raw.now ≡ false }
-        ensures { Gives result (word_of raw.now) }
+        ensures gives { Gives result (word_of raw.now) }
+        ensures memory { HidesNoFault result (result_err (word_of raw.now)) }
     {
         let mut replaced = None;
         if escaped {
-            let bytes = unescaped(alloc, raw)?.ok_or(LineError::Fault(FaultKind::BadEscape))?;
+            let bytes = unescaped(alloc, raw)?.ok_or(FaultKind::BadEscape)?;
             replaced = Some(Box::new(alloc, bytes)?);
         }
         Ok(Word { raw, replaced })
@@ -83,23 +86,53 @@ impl<'a> Word<'a> {
 }
 
 /// The words of a line. None if the line is skipped: if it has no word, or its first one begins with
-/// `#`. The fault is `BadEscape`, the first of the kinds. Does not allocate for a skipped line.
+/// `#`. The fault is `BadEscape`, the first of the kinds; out of memory hides none. Does not
+/// allocate for a skipped line.
 pub fn words_of(alloc: Global, line: &[u8]) -> Result<Vec<Word<'_>>, LineError>
-    ensures { GivesSeen (λ words. words.items) result (words_of line.now) }
+    ensures gives { GivesSeen (λ words. words.items) result (words_of line.now) }
+    ensures memory { HidesNoFault result (result_err (words_of line.now)) }
 {
-    let mut rest = behind_blanks(line);
-    if rest.first().copied().unwrap_or(b'#') == b'#' {
+    if behind_blanks(line).first().copied().unwrap_or(b'#') == b'#' {
         return Ok(Vec::new(alloc));
     }
+    match read_words(alloc, line) {
+        Err(LineError::Memory(error)) => {
+            check_escapes(line)?;
+            Err(LineError::Memory(error))
+        }
+        read => read,
+    }
+}
+
+// The words between blanks.
+#[inline(always)]
+fn read_words(alloc: Global, line: &[u8]) -> Result<Vec<Word<'_>>, LineError>
+    ensures { GivesSeen (λ words. words.items) result (each word_of (raw_words line.now)) }
+{
     let escaped = may_have_escapes(line);
     // Most lines have no more words.
     let mut words = Vec::with_capacity(alloc, 8)?;
+    let mut rest = line;
     while let Some((raw, others)) = first_word(rest) {
         let word = Word::read_part(alloc, escaped, raw)?;
         words.push(word)?;
         rest = others;
     }
     Ok(words)
+}
+
+// Finds an escape that is not whole.
+fn check_escapes(line: &[u8]) -> Result<(), FaultKind>
+    ensures { result_err result ≡ result_err (each word_of (raw_words line.now)) }
+{
+    let mut rest = line;
+    while let Some((raw, others)) = first_word(rest) {
+        if !has_whole_escapes(raw) {
+            return Err(FaultKind::BadEscape);
+        }
+        rest = others;
+    }
+    Ok(())
 }
 
 // The word at the front of a line, and what is behind it.

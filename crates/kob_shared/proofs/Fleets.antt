@@ -1,6 +1,9 @@
 -- The results of threads that were joined.
 use Rattle.kob_shared.proofs.Words.{AllByRecursion, AllZip, BeginsWith, CallFault, Difference, Done, EachIsAnswered, Entry, Err, Event, FleetStop, Follows, IfOk, IfSome, IsAnswered, IsAsNoted, IsDifference, IsFirstDifference, IsFirstFault, IsFleet, IsFullOnlyPast, IsKept, IsLegal, IsNamedWithin, IsTaken, IsTear, IsTornAt, List, NamesFirstFault, NamesOneOf, Noted, Ok, Receipt, Record, Result, Retained, Script, Settings, Some, State, [], all_zipped_more, ap, arith, asked_of_all, claims, claims_of, entries_asked, entry, event_by, events_in, events_of_script, get_or, get_or-map, get_or_from_slice_get, if◌then◌else◌, length, length-append, length-map, map, map-append, mine, mine_from, nat_lt, nat_tests, notes_of, opened_by, refl, slice_get, slice_get-get_or, slice_get-map, slice_get_within, subst, suc, suc-eq-add-one, sum_by, sym, take, told_in, vec_len, zero, ℕ, ◌++◌, ◌+◌, ◌<◌, ◌∙◌, ◌∷◌, ◌≡◌, ◌≤◌}
 use Rattle.std.specs.PromisedHandle.{KeepsEach}
+use Rattle.std.specs.List.{enumerate_from}
+use Rattle.std.proofs.Common.{add_comm, get_or, subst, sym, ◌∙◌, ◌<◌}
+use Rattle.std.proofs.lemmas.List.FromFn.{get_or-enumerate_from}
 use Rattle.std.specs.declared.thread.PromisedHandle.{PromisedHandle}
 use Rattle.std.proofs.Math.Seq.{take-append_seam, get_or-append_seam}
 use Rattle.kob_shared.proofs.Claims.{mine_from_stands, length_claims, all_zip_at}
@@ -26,6 +29,28 @@ all_zip_joined {S} {T} {P} g Q R fits (s ∷ ss) (h ∷ hs) (r ∷ rs) len all n
     (λ i d below. let at = (kept (suc i) d (omega arith)).1 in
     (refl, record { handle = at.handle; handle_is = at.handle_is; kept = at.kept })) in
     (fits s h r all.0 (rw same at first.kept), rest)
+
+-- a numbered work, and what a thread was started for
+abbrev pub IsOf : {W : Type 0} → ℕ × W → W × ℕ → Type 0
+IsOf w started = (started.0 ≡ w.1) × (started.1 ≡ w.0)
+
+pub kept_of : {W : Type 0} (K : W → ℕ → Type 0) (w : ℕ × W) (started : W × ℕ) → IsOf w started
+    → K started.0 started.1 → K w.1 w.0
+kept_of K w started is kept = subst (λ n. K w.1 n) is.1 (subst (λ v. K v started.1) is.0 kept)
+
+-- the work at a place has the number after it
+pub numbered_at : {W : Type 0} (works : List W) (i : ℕ) (work : W) → i < length works → work ≡ get_or works i work
+    → (i + 1, work) ≡ get_or (enumerate_from 1 works) i (i + 1, work)
+numbered_at works i work within is =
+    (λ k. (add_comm i 1 k, is k)) ∙ sym (get_or-enumerate_from 1 works i (i + 1, work) within)
+
+-- what holds of each numbered work, whatever its number, holds of each work
+pub unnumbered : {W D : Type 0} (R : W → D → Type 0) (n : ℕ) (works : List W) (done : List D)
+    → AllZip (λ w d. R w.1 d) (enumerate_from n works) done → AllZip R works done
+unnumbered R n [] [] each = tt
+unnumbered R n [] (d ∷ ds) each = absurd each
+unnumbered R n (w ∷ ws) [] each = absurd each
+unnumbered R n (w ∷ ws) (d ∷ ds) each = (each.0, unnumbered R (n + 1) ws ds each.1)
 
 -- The worker that a fault of a fleet names.
 

@@ -4,3 +4,4 @@ pub mod Crossing
 pub mod Claims
 pub mod Differences
 pub mod Fleets
+pub mod Seats

@@ -1,3 +1,4 @@
 pub mod Journals
+pub mod Sessions
 pub mod Fleets
 pub mod Runs

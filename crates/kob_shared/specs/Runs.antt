@@ -1,5 +1,6 @@
 -- What the workers of a fleet left, and how it may fail.
-use Rattle.std.specs.Prelude.{◌≡◌, ℕ, ◌+◌, ◌<◌, ◌≤◌, List, ◌∷◌, length, map, Some, slice_get, take, Result, Ok, Err}
+use Rattle.std.specs.Prelude.{◌≡◌, ℕ, ◌+◌, ◌<◌, ◌≤◌, List, ◌∷◌, length, map, Some, slice_get, take, Result, Ok, Err, IfOk}
+use Rattle.std.specs.List.{AllZip, enumerate_from}
 use Rattle.kob_shared.specs.Journals.{Record, entry_limit, Noted, Event, Receipt, Settings, CallFault}
 use Rattle.kob_shared.specs.declared.compare.Difference.{Difference}
 use Rattle.kob_shared.specs.declared.fleet_stop.FleetStop.{FleetStop}
@@ -33,9 +34,20 @@ IsTear opening notes found d =
 abbrev pub IsTaken : Noted → List Receipt → Type 0
 IsTaken noted told = (told ≡ noted.told) × IsAnswered (length noted.events) told
 
+-- what each worker leaves, unless it fails, is as its kind of work says. Workers count from 1
+abbrev pub EachResultKeeps : {W E : Type 0} → (W → ℕ → Noted → E → Type 0) → List W
+    → List (Result (Done E) CallFault) → Type 0
+EachResultKeeps {W} {E} keeps works results =
+    AllZip (λ (w : ℕ × W) r. IfOk r (λ (d : Done E). keeps w.1 w.0 d.notes d.end))
+    (enumerate_from 1 works) results
+
+abbrev pub EachKeeps : {W E : Type 0} → (W → ℕ → Noted → E → Type 0) → List W → List (Done E) → Type 0
+EachKeeps {W} {E} keeps works done =
+    AllZip (λ (w : ℕ × W) (d : Done E). keeps w.1 w.0 d.notes d.end) (enumerate_from 1 works) done
+
 -- what a worker's fault is for its fleet
 abbrev pub as_of_worker : ℕ → CallFault → FleetStop
-as_of_worker worker calls.Memory = Memory
+as_of_worker worker (calls.Memory refused) = Memory refused
 as_of_worker worker (calls.Stale length) = Stale worker length
 as_of_worker worker calls.JournalFull = Full worker
 

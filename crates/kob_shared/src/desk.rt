@@ -79,14 +79,17 @@ impl<'a> Desk<'a> {
         ensures err { OnErr result (self.new ≡ self.old) }
         ensures stale { IfErr result (IsStaleOnlyBelow self.old.seat.seen) }
     {
-        if make_room(&mut self.events, &mut self.receipts).is_err() {
+        if let Err(refused) = make_room(&mut self.events, &mut self.receipts) {
             drop(request);
-            return Err(CallFault::Memory);
+            return Err(CallFault::Memory(refused));
         }
         let event = self.session.event(alloc, request)?;
-        let Ok(noted) = event.copy(alloc) else {
-            drop(event);
-            return Err(CallFault::Memory);
+        let noted = match event.copy(alloc) {
+            Ok(noted) => noted,
+            Err(refused) => {
+                drop(event);
+                return Err(CallFault::Memory(refused));
+            }
         };
         let receipt = match self.session.send(rt, alloc, event) {
             Ok(receipt) => receipt,

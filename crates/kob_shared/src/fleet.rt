@@ -2,12 +2,11 @@
 
 ghost use Rattle.std.specs.Prelude.{◌≡◌, ◌≤◌, [], length, map, vec_capacity, vec_len, IfOk, IfErr};
 ghost use Rattle.std.specs.Prelude.{MatchOption, Ok};
-ghost use Rattle.std.specs.List.{AllZip};
 ghost use Rattle.kob_broker.specs.Step.{state_of};
 ghost use Rattle.kob_broker.specs.State.{settings_of};
 ghost use Rattle.kob_shared.specs.Journals.{entry_limit, worker_limit, IsFresh, IsSound};
 ghost use Rattle.kob_shared.specs.Fleets.{Follows, entries_told};
-ghost use Rattle.kob_shared.specs.Runs.{HasBegun, IsAsNoted};
+ghost use Rattle.kob_shared.specs.Runs.{EachKeeps, EachResultKeeps, HasBegun, IsAsNoted};
 ghost use Rattle.kob_shared.specs.Runs.{IsFullOnlyPast, IsNamedWithin, IsTear, NamesFirstFault};
 ghost use Rattle.kob_shared.specs.Runs.{NamesOneOf, as_of_worker, notes_of};
 
@@ -28,14 +27,15 @@ use std::sync::Wait;
 use std::thread;
 use std::thread::{Promise, Threads};
 
-/// The postcondition of a worker's thread: what it leaves is as its kind of work says.
+/// The postcondition of a worker's thread: what it leaves is as its kind of work says, as a worker
+/// of its number.
 #[derive(Drop)]
-struct Keeps<W: Work>(Snapshot<W>);
+struct Keeps<W: Work>(Snapshot<W>, usize);
 
 impl<W: Work> Promise<Result<Done<W::End>, CallFault>> for Keeps<W> {
     ghost use Rattle.std.specs.Prelude.{IfOk};
 
-    ghost kept_by = { λ p r. IfOk r (λ d. W.keeps p.0.value d.notes d.end) };
+    ghost kept_by = { λ p r. IfOk r (λ d. W.keeps p.0.value p.1 d.notes d.end) };
 }
 
 /// Runs each worker in a thread of its own, numbered from 1, and waits for all.
@@ -51,7 +51,7 @@ where
     W::End: Send + Drop,
     requires { length works.now ≤ worker_limit }
     ensures each { IfOk result
-        (λ v. AllZip (λ w r. IfOk r (λ d. W.keeps w d.notes d.end)) works.now v.items) }
+        (λ v. EachResultKeeps W.keeps works.now v.items) }
     ensures named { IfErr result (NamesOneOf 0) }
 {
     thread::scope(
@@ -60,14 +60,13 @@ where
         |scope| -> Result<Vec<Result<Done<W::End>, CallFault>>, FleetStop>
             requires { length works.now ≤ worker_limit }
             ensures each { IfOk result
-                (λ v. AllZip (λ w r. IfOk r (λ d. W.keeps w d.notes d.end)) works.entry.now
-                v.items) }
+                (λ v. EachResultKeeps W.keeps works.entry.now v.items) }
             ensures named { IfErr result (NamesOneOf 0) }
         {
             let mut handles = Vec::with_capacity(alloc, works.len())?;
             for (i, work) in works.iter().enumerate() {
-                let promise = Keeps(Snapshot::of(work));
                 let worker = i + 1;
+                let promise = Keeps(Snapshot::of(work), worker);
                 let begun = scope.spawn_with(promise, move || {
                     work.work(rt, alloc, worker, shared, gate)
                 });
@@ -116,10 +115,7 @@ fn open_journal(alloc: Global, broker: Broker) -> Result<Recorded, AllocError>
 {
     match Recorded::open(alloc, broker, ENTRY_LIMIT) {
         Ok(recorded) => Ok(recorded),
-        Err(refused) => {
-            drop(refused);
-            Err(AllocError)
-        }
+        Err(refused) => Err(AllocError::from(refused)),
     }
 }
 
@@ -157,9 +153,12 @@ fn begin(alloc: Global, broker: Broker, first: Vec<Event>) -> Result<(Recorded, 
     ensures named { IfErr result (IsNamedWithin 0) }
     ensures full { IfErr result (IsFullOnlyPast entry_limit (vec_len first)) }
 {
-    let Ok(mut recorded) = open_journal(alloc, broker) else {
-        drop(first);
-        return Err(FleetStop::Memory);
+    let mut recorded = match open_journal(alloc, broker) {
+        Ok(recorded) => recorded,
+        Err(refused) => {
+            drop(first);
+            return Err(FleetStop::Memory(refused));
+        }
     };
     match serve_and_note(alloc, &mut recorded, first) {
         Ok(noted) => Ok((recorded, noted)),
@@ -175,7 +174,7 @@ fn stop_of(worker: usize, fault: CallFault) -> FleetStop
     ensures { result ≡ as_of_worker worker fault }
 {
     match fault {
-        CallFault::Memory => FleetStop::Memory,
+        CallFault::Memory(refused) => FleetStop::Memory(refused),
         CallFault::Stale { length } => FleetStop::Stale { worker, length },
         CallFault::JournalFull => FleetStop::Full { worker },
     }
@@ -229,14 +228,17 @@ where
     ensures first { IfOk result
         (λ ran. (ran.first.events ≡ first.items) × Follows 0 ran.first.told) }
     ensures each { IfOk result
-        (λ ran. AllZip (λ w d. W.keeps w d.notes d.end) works.now ran.done.items) }
+        (λ ran. EachKeeps W.keeps works.now ran.done.items) }
     ensures named { IfErr result (IsNamedWithin (length works.now)) }
     ensures full { IfErr result (IsFullOnlyPast entry_limit (vec_len first)) }
 {
-    let Ok(room) = Vec::with_capacity(alloc, works.len()) else {
-        drop(broker);
-        drop(first);
-        return Err(FleetStop::Memory);
+    let room = match Vec::with_capacity(alloc, works.len()) {
+        Ok(room) => room,
+        Err(refused) => {
+            drop(broker);
+            drop(first);
+            return Err(FleetStop::Memory(refused));
+        }
     };
     match begin(alloc, broker, first) {
         Ok((recorded, noted)) => run_begun(rt, alloc, recorded, noted, works, room, gate),
@@ -266,7 +268,7 @@ where
     ensures sound { IfOk result (λ ran. IsSound ran.found) }
     ensures first { IfOk result (λ ran. ran.first ≡ noted) }
     ensures each { IfOk result
-        (λ ran. AllZip (λ w d. W.keeps w d.notes d.end) works.now ran.done.items) }
+        (λ ran. EachKeeps W.keeps works.now ran.done.items) }
     ensures named { IfErr result (NamesOneOf (length works.now)) }
 {
     let shared = SharedBroker::open(recorded);
@@ -301,7 +303,7 @@ where
     requires empty { room.items ≡ [] }
     requires room { length works.now ≤ vec_capacity room }
     ensures each { IfOk result
-        (λ done. AllZip (λ w d. W.keeps w d.notes d.end) works.now done.items) }
+        (λ done. EachKeeps W.keeps works.now done.items) }
     ensures named { IfErr result (NamesOneOf (length works.now)) }
 {
     match run_workers(rt, alloc, shared, works, gate) {

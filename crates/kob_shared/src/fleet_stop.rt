@@ -7,7 +7,7 @@ use std::alloc::{AllocError, AllocFailed};
 pub enum FleetStop {
     /// A thread could not be started.
     NotBegun,
-    Memory,
+    Memory(AllocError),
     Stale { worker: usize, length: usize },
     /// A session found the journal full.
     Full { worker: usize },
@@ -17,20 +17,20 @@ impl From<AllocError> for FleetStop {
     ghost use Rattle.std.specs.Prelude.{◌≡◌};
     ghost use Rattle.kob_shared.specs.declared.fleet_stop.FleetStop.TheVariants.{Memory};
 
-    ghost from_gives = { λ _ fault. fault ≡ Memory };
+    ghost from_gives = { λ refused fault. fault ≡ Memory refused };
 
-    fn from(_refused: AllocError) -> FleetStop {
-        FleetStop::Memory
+    fn from(refused: AllocError) -> FleetStop {
+        FleetStop::Memory(refused)
     }
 }
 
 impl<T: Drop> From<AllocFailed<T>> for FleetStop {
-    ghost use Rattle.std.specs.Prelude.{◌≡◌};
+    ghost use Rattle.std.specs.Prelude.{◌≡◌, alloc_error};
     ghost use Rattle.kob_shared.specs.declared.fleet_stop.FleetStop.TheVariants.{Memory};
 
-    ghost from_gives = { λ _ fault. fault ≡ Memory };
+    ghost from_gives = { λ _ fault. fault ≡ Memory alloc_error };
 
-    fn from(_refused: AllocFailed<T>) -> FleetStop {
-        FleetStop::Memory
+    fn from(refused: AllocFailed<T>) -> FleetStop {
+        FleetStop::Memory(AllocError::from(refused))
     }
 }

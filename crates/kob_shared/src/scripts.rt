@@ -96,9 +96,12 @@ fn end_of(
         first: noted,
         done,
     } = ran;
-    let Ok(transcripts) = transcripts_of(alloc, noted, done) else {
-        drop(found);
-        return Err(FleetFault::Stopped(FleetStop::Memory));
+    let transcripts = match transcripts_of(alloc, noted, done) {
+        Ok(transcripts) => transcripts,
+        Err(refused) => {
+            drop(found);
+            return Err(FleetFault::Stopped(FleetStop::Memory(refused)));
+        }
     };
     if let Some(difference) = difference {
         return Err(torn(difference, found, transcripts));
@@ -201,11 +204,14 @@ fn run_fitting<R: Threads + Wait + Sync, G: Gate + Sync>(
     ensures later { IfErr result IsLater }
     ensures named { IfErr result (NamesWorkerWithin (vec_len scripts)) }
 {
-    let Ok(opening) = broker.opening(alloc) else {
-        drop(broker);
-        drop(first);
-        drop(scripts);
-        return Err(FleetFault::Stopped(FleetStop::Memory));
+    let opening = match broker.opening(alloc) {
+        Ok(opening) => opening,
+        Err(refused) => {
+            drop(broker);
+            drop(first);
+            drop(scripts);
+            return Err(FleetFault::Stopped(FleetStop::Memory(refused)));
+        }
     };
     let end = run_from(rt, alloc, &opening, broker, first, scripts.as_slice(), gate);
     drop(opening);

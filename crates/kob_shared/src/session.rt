@@ -3,7 +3,7 @@
 ghost use Rattle.std.specs.Prelude.{◌≡◌, ◌+◌, ◌<◌, ◌≤◌, IfOk, IfErr, OnErr};
 ghost use Rattle.kob_rights.specs.Requests.{OffsetsWithin, Fits};
 ghost use Rattle.kob_shared.specs.Journals.{IsContinued, IsPast, IsSound, entry_limit, place_limit};
-ghost use Rattle.kob_shared.specs.Journals.{Seat, event_by, IsServed, IsStaleOnlyBelow};
+ghost use Rattle.kob_shared.specs.Journals.{event_by, new_seat, IsServed, IsStaleOnlyBelow};
 
 use crate::continued::Continued;
 use crate::faults::{CallFault, PlacesUsedUp};
@@ -32,8 +32,7 @@ impl SharedBroker {
     /// A session of a worker, for one principal at one host, that has seen no entries yet. Does not
     /// allocate.
     pub fn session(&self, worker: usize, principal: Principal, host: Host) -> Session<'_>
-        ensures { result
-            ≡ record { worker = worker; principal = principal; host = host; seen = 0 } }
+        ensures { result ≡ new_seat worker principal host entry_limit }
     {
         Session {
             shared: Shared::Whole(self),
@@ -91,8 +90,7 @@ impl RotatingBroker {
     /// A session of a worker, for one principal at one host, that has seen no entries yet. It goes
     /// on when the journal is handed out. Does not allocate.
     pub fn session(&self, worker: usize, principal: Principal, host: Host) -> Session<'_>
-        ensures { result
-            ≡ record { worker = worker; principal = principal; host = host; seen = 0 } }
+        ensures { result ≡ new_seat worker principal host place_limit }
     {
         Session {
             shared: Shared::Rotating(self),
@@ -149,7 +147,10 @@ enum Shared<'a> {
 }
 
 impl<'a> Shared<'a> {
+    ghost use Rattle.kob_shared.specs.Sessions.{places_of};
+
     /// Serves an event under the broker's lock, for a worker who has seen `seen` entries.
+    #[tactic(auto, using(crate::proofs::Seats::within_places))]
     fn serve<R: Wait>(
         &self,
         rt: &R,
@@ -158,7 +159,8 @@ impl<'a> Shared<'a> {
         event: Event,
         seen: usize,
     ) -> Result<Receipt, CallFault>
-        ensures place { IfOk result (λ r. (seen ≤ r.place) × (r.place < place_limit)) }
+        ensures place { IfOk result
+            (λ r. (seen ≤ r.place) × (r.place < places_of self.now)) }
         ensures served { IfOk result (λ r. IsServed event r) }
         ensures fits { IfOk result (λ r. Fits event.request r.reply) }
         ensures offsets { IfOk result (λ r. OffsetsWithin r.reply) }
@@ -184,6 +186,7 @@ pub struct Session<'a> {
 
 impl<'a> Model for Session<'a> {
     ghost use Rattle.kob_shared.specs.Journals.{Seat};
+    ghost use Rattle.kob_shared.specs.Sessions.{places_of};
 
     ghost Value = { Seat };
 
@@ -192,6 +195,7 @@ impl<'a> Model for Session<'a> {
       principal = s.principal;
       host = s.host;
       seen = s.seen;
+      places = places_of s.shared;
     } };
 }
 
@@ -214,6 +218,7 @@ impl<'a> Session<'a> {
     ) -> Result<Receipt, CallFault>
         ensures ok { IfOk result (λ r. (self.old.seen ≤ r.place)
             × (self.new ≡ record self.old { seen = r.place + 1 })) }
+        ensures below { IfOk result (λ r. r.place < self.old.places) }
         ensures err { OnErr result (self.new ≡ self.old) }
         ensures served { IfOk result
             (λ r. IsServed (event_by self.old.principal self.old.host request) r) }
@@ -234,6 +239,7 @@ impl<'a> Session<'a> {
     ) -> Result<Receipt, CallFault>
         ensures ok { IfOk result (λ r. (self.old.seen ≤ r.place)
             × (self.new ≡ record self.old { seen = r.place + 1 })) }
+        ensures below { IfOk result (λ r. r.place < self.old.places) }
         ensures err { OnErr result (self.new ≡ self.old) }
         ensures served { IfOk result (λ r. IsServed event r) }
         ensures fits { IfOk result (λ r. Fits event.request r.reply) }
@@ -250,15 +256,17 @@ impl<'a> Session<'a> {
         ensures { IfOk result
             (λ event. event ≡ event_by self.now.principal self.now.host request) }
     {
-        let Ok((principal, host)) = self.asker(alloc) else {
-            drop(request);
-            return Err(AllocError);
-        };
-        Ok(Event {
-            principal,
-            host,
-            request,
-        })
+        match self.asker(alloc) {
+            Ok((principal, host)) => Ok(Event {
+                principal,
+                host,
+                request,
+            }),
+            Err(refused) => {
+                drop(request);
+                Err(refused)
+            }
+        }
     }
 
     /// Copies of the principal and the host that ask.

@@ -1,6 +1,6 @@
 //! What the workers of a fleet do.
 
-ghost use Rattle.std.specs.Prelude.{IfOk};
+ghost use Rattle.std.specs.Prelude.{IfOk, ℕ};
 
 use crate::faults::CallFault;
 use crate::notes::Notes;
@@ -30,8 +30,8 @@ pub trait Work {
     /// What it leaves besides its notes, including a fault of its own.
     type End;
 
-    // its notes and what it leaves are as it says
-    ghost keeps: { Self → Noted → Self.End → Type 0 };
+    // as a worker of this number, its notes and what it leaves are as it says
+    ghost keeps: { Self → ℕ → Noted → Self.End → Type 0 };
 
     /// Does the work as this worker, over what all workers share. It asks the gate before each
     /// request.
@@ -43,5 +43,5 @@ pub trait Work {
         shared: &Self::Shared,
         gate: &G,
     ) -> Result<Done<Self::End>, CallFault>
-        ensures { IfOk result (λ d. keeps self.now d.notes d.end) };
+        ensures { IfOk result (λ d. keeps self.now worker d.notes d.end) };
 }

@@ -17,7 +17,7 @@ impl Work for Script {
 
     type End = ();
 
-    ghost keeps = { λ script noted _. noted.events ≡ events_of_script script };
+    ghost keeps = { λ script _ noted _. noted.events ≡ events_of_script script };
 
     /// Sends the requests, one after another.
     fn work<R: Wait, G: Gate>(

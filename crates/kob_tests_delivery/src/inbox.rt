@@ -101,9 +101,7 @@ fn take(
     value: &[u8],
     headers: &[(&str, &[u8])],
 ) -> Result<TakeIn, InboxFault> {
-    let Ok(message) = record(alloc, value, headers) else {
-        return Err(InboxFault::Memory);
-    };
+    let message = record(alloc, value, headers).map_err(InboxFault::Memory)?;
     let taken = inbox.take_in(topic, partition, GREATEST, &message);
     drop(message);
     taken
@@ -165,7 +163,7 @@ fn count_of(inbox: &mut Inbox) -> Result<usize, InboxFault> {
 fn takes(alloc: Global, inbox: &mut Inbox, id: &[u8], before: usize) -> Result<TakeIn, InboxFault> {
     let place = ("orders", 0);
     let taken = take(alloc, inbox, place, VALUE, &[("id", id)]);
-    if taken == Err(InboxFault::Memory) && count_of(inbox) == Ok(before) {
+    if matches!(taken, Err(InboxFault::Memory(_))) && count_of(inbox) == Ok(before) {
         take(alloc, inbox, place, VALUE, &[("id", id)])
     } else {
         taken

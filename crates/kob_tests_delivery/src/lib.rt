@@ -1,7 +1,7 @@
 //! Tests of outboxes and inboxes, of routes and lines, of sessions, fleets and pipelines in
 //! threads, of journals that are handed out, of routers and consumers that run out of memory, and
 //! of calls that do not allocate. The results of steps over a broker are shown by the scenes of
-//! `kob_scene`.
+//! `kob play`.
 //!
 //! They are few functions, since each costs seconds of a check. Brokers, outboxes, journals, ends
 //! of fleets and events are lent, or dropped by `drop`. If such a value is dropped at the end of a

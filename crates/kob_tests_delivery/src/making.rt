@@ -201,12 +201,10 @@ pub(crate) fn record(
     id: u128,
     state: &str,
 ) -> Result<u64, RecordFault> {
-    let Ok(change) = Change::of(alloc, "orders", "42", state) else {
-        return Err(RecordFault::Memory);
-    };
-    let Ok(event) = OutboxEvent::of(alloc, Uuid::from_u128(id), &change, "{}") else {
-        return Err(RecordFault::Memory);
-    };
+    let change = Change::of(alloc, "orders", "42", state).map_err(RecordFault::Memory)?;
+    let event = OutboxEvent::of(alloc, Uuid::from_u128(id), &change, "{}").map_err(
+        RecordFault::Memory,
+    )?;
     outbox.record(&change, &event)
 }
 

@@ -65,7 +65,7 @@ fn records(
     before: (u64, usize),
 ) -> Result<u64, RecordFault> {
     let recorded = record(alloc, outbox, event_id, state);
-    if recorded == Err(RecordFault::Memory) && left(outbox) == Ok(before) {
+    if matches!(recorded, Err(RecordFault::Memory(_))) && left(outbox) == Ok(before) {
         record(alloc, outbox, event_id, state)
     } else {
         recorded

@@ -43,7 +43,7 @@ pub(crate) fn router_tick<L: Line>(
     let came = match &tick {
         kob_router::Tick::Idle => Came::Idle,
         kob_router::Tick::Moved(_) | kob_router::Tick::Repeat => Came::On,
-        kob_router::Tick::Stopped(kob_router::StopReason::Memory) => Came::On,
+        kob_router::Tick::Stopped(kob_router::StopReason::Memory(_)) => Came::On,
         kob_router::Tick::Stopped(_) => Came::Stopped,
     };
     drop(tick);
@@ -75,7 +75,7 @@ pub(crate) fn consumer_tick<L: Line>(
     let tick = consumer.tick(alloc, inbox, line);
     let came = match &tick {
         kob_inbox::Tick::Idle => Came::Idle,
-        kob_inbox::Tick::Stopped(kob_inbox::StopReason::Memory) => Came::On,
+        kob_inbox::Tick::Stopped(kob_inbox::StopReason::Memory(_)) => Came::On,
         kob_inbox::Tick::Stopped(_) => Came::Stopped,
         _ => Came::On,
     };

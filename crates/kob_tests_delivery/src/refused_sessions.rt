@@ -17,17 +17,18 @@ use std::sync::Wait;
 use std::test::Fail;
 use std::thread::Threads;
 
-/// Whether a write gets this offset, with an entry at this place.
+/// Whether a write gets this offset, with an entry at this place. The error is the fault of the
+/// call, or none if there is no memory for its request.
 fn write<R: Wait>(
     rt: &R,
     alloc: Global,
     session: &mut Session<'_>,
     (offset, place): (u64, usize),
-) -> Result<bool, CallFault> {
+) -> Result<bool, Option<CallFault>> {
     let Some(request) = request_of(alloc, WRITE) else {
-        return Err(CallFault::Memory);
+        return Err(None);
     };
-    let receipt = session.call(rt, alloc, request)?;
+    let receipt = session.call(rt, alloc, request).map_err(Some)?;
     let is_due = offset_of(&receipt.reply) == Some(offset) && receipt.place == place;
     drop(receipt);
     Ok(is_due)
@@ -39,10 +40,11 @@ fn writes<R: Wait>(
     alloc: Global,
     session: &mut Session<'_>,
     due: (u64, usize),
-) -> Result<bool, CallFault> {
+) -> Result<bool, Option<CallFault>> {
     let seen = session.seen();
     let written = write(rt, alloc, session, due);
-    if written == Err(CallFault::Memory) && session.seen() == seen {
+    let is_refused = matches!(written, Err(None | Some(CallFault::Memory(_))));
+    if is_refused && session.seen() == seen {
         return write(rt, alloc, session, due);
     }
     written
@@ -80,7 +82,7 @@ fn serves_two<R: Threads + Wait + Sync>(rt: &R, alloc: Global) -> Option<bool> {
     let ended = ended(rt, Vec::new(alloc), Vec::new(alloc), scripts, &gate, alloc)?;
     let told = match &ended {
         Ok(end) => Some(tells_two_each(end, 2)),
-        Err(FleetFault::Stopped(FleetStop::Memory | FleetStop::NotBegun)) => None,
+        Err(FleetFault::Stopped(FleetStop::Memory(_) | FleetStop::NotBegun)) => None,
         Err(_) => Some(false),
     };
     drop(ended);
@@ -111,7 +113,7 @@ fn delivers_two<R: Threads + Wait + Sync>(rt: &R, alloc: Global) -> Option<bool>
     drop(plan);
     let delivered = match &mut ran {
         Some(Ok(end)) => Some(is_whole(alloc, end)),
-        Some(Err(PipelineFault::Stopped(FleetStop::Memory | FleetStop::NotBegun))) => None,
+        Some(Err(PipelineFault::Stopped(FleetStop::Memory(_) | FleetStop::NotBegun))) => None,
         _ => Some(false),
     };
     drop(ran);

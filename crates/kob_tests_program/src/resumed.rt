@@ -16,7 +16,7 @@ fn print(text: &mut Vec<u8>, first: u64, replies: &[Reply]) -> Option<()> {
 
 /// Prints the replies to all events: if a run is out of memory, a second one goes on from there.
 fn plays(alloc: Global, broker: &mut Broker, events: &[Event], text: &mut Vec<u8>) -> Option<()> {
-    let Stopped { done, replies } = match broker.run(alloc, events) {
+    let Stopped { done, replies, .. } = match broker.run(alloc, events) {
         Ok(replies) => return print(text, 1, &replies),
         Err(stopped) => stopped,
     };

@@ -282,3 +282,25 @@ fn is_written_in_pieces(alloc: Global) -> Option<bool> {
 fn long_output_is_written_in_pieces(rt: HostRuntime) {
     assert!(rt; is_written_in_pieces(rt.alloc()) == Some(true));
 }
+
+/// Interrupts each call, and counts them.
+#[derive(Drop)]
+struct Interrupting(u32);
+
+impl Write for Interrupting {
+    fn write(&mut self, _buf: &[u8]) -> io::Result<usize> {
+        self.0 = self.0.saturating_add(1);
+        Err(Error::from(ErrorKind::Interrupted))
+    }
+
+    fn flush(&mut self) -> io::Result<()> {
+        Ok(())
+    }
+}
+
+#[test]
+fn calls_of_a_writer_have_a_limit(rt: HostRuntime) {
+    let mut writer = Interrupting(0);
+    let ended = run_text(rt.alloc(), &mut SCRIPT.as_bytes(), &mut writer);
+    assert!(rt; (ended, writer.0) == (Err(RunFault::WriteFailed), 1_000_000));
+}

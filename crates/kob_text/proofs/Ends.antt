@@ -13,7 +13,7 @@ pub not_read : (fault : InputFault) (input old : Option (List ℕ))
     → IsEnd input old old (Err (unread fault))
 not_read (input_fault.ReadFailed failed) input old long = keeps_itself old
 not_read input_fault.TooLong input old long = (long refl, keeps_itself old)
-not_read input_fault.Memory input old long = keeps_itself old
+not_read (input_fault.Memory e) input old long = keeps_itself old
 
 -- the output of the bytes that were read
 pub written : (ended : Ended) (bytes : List ℕ) (input old new : Option (List ℕ)) → IfSome input (λ all. bytes ≡ all)
@@ -26,4 +26,4 @@ pub not_written : (fault : OutputFault) (bytes : List ℕ) (input old new : Opti
     → IsEnd input old new (Err (unwritten fault))
 not_written (output_fault.WriteFailed failed) bytes None old new read short is = tt
 not_written (output_fault.WriteFailed failed) bytes (Some all) old new read short is = grind (arith, nat_tests)
-not_written output_fault.Memory bytes input old new read short is = is
+not_written (output_fault.Memory e) bytes input old new read short is = is

@@ -42,12 +42,12 @@ block_size = 65536
 abbrev pub unread : InputFault → RunFault
 unread (input.ReadFailed failed) = run.ReadFailed
 unread input.TooLong = run.TooLong
-unread input.Memory = run.Memory
+unread (input.Memory e) = run.Memory e
 
 -- the fault of a run whose output was not written
 abbrev pub unwritten : OutputFault → RunFault
 unwritten (output.WriteFailed failed) = run.WriteFailed
-unwritten output.Memory = run.Memory
+unwritten (output.Memory e) = run.Memory e
 
 -- the bytes so far
 abbrev pub bytes_in : Input → List ℕ
@@ -120,12 +120,12 @@ abbrev pub IsWritten : Result Script fault.Fault → Option (List ℕ) → Optio
     → Result Ended OutputFault → Type 0
 IsWritten read old new (Ok ended) = Writes read ended old new
 IsWritten read old new (Err (output.WriteFailed failed)) = HasOutput read (AppendsPart old new)
-IsWritten read old new (Err output.Memory) = Keeps old new
+IsWritten read old new (Err (output.Memory e)) = Keeps old new
 
 -- the same for what bytes may be read as
 abbrev pub IsWrittenOf : List ℕ → Option (List ℕ) → Option (List ℕ) → Result Ended OutputFault
     → Type 0
-IsWrittenOf bytes old new (Err output.Memory) = Keeps old new
+IsWrittenOf bytes old new (Err (output.Memory e)) = Keeps old new
 IsWrittenOf bytes old new result = HasReading bytes (λ read. IsWritten read old new result)
 
 -- How a run ended on the bytes that its reader had left, as far as they are known, and what was
@@ -141,4 +141,4 @@ IsEnd input old new (Err run.WriteFailed) =
 IsEnd input old new (Err run.TooLong) =
     IfSome input (λ bytes. script_limit < length bytes) × Keeps old new
 IsEnd input old new (Err run.ReadFailed) = Keeps old new
-IsEnd input old new (Err run.Memory) = Keeps old new
+IsEnd input old new (Err (run.Memory e)) = Keeps old new

@@ -2,7 +2,7 @@
 
 use crate::source::ReadFailed;
 use crate::writing::WriteFailed;
-use std::alloc::{AllocError, AllocFailed};
+use std::alloc::AllocError;
 use thiserror::Error;
 
 /// Why a run did not write its whole output.
@@ -15,7 +15,7 @@ pub enum RunFault {
     #[error("the script is too long")]
     TooLong,
     #[error("out of memory")]
-    Memory,
+    Memory(AllocError),
 }
 
 /// Why a script was not read.
@@ -23,14 +23,14 @@ pub enum RunFault {
 pub enum InputFault {
     ReadFailed(ReadFailed),
     TooLong,
-    Memory,
+    Memory(AllocError),
 }
 
 /// Why the output of a script that was read was not written.
 #[derive(Clone, Copy, Debug, PartialEq, Eq)]
 pub enum OutputFault {
     WriteFailed(WriteFailed),
-    Memory,
+    Memory(AllocError),
 }
 
 impl From<InputFault> for RunFault {
@@ -43,7 +43,7 @@ impl From<InputFault> for RunFault {
         match fault {
             InputFault::ReadFailed(_) => RunFault::ReadFailed,
             InputFault::TooLong => RunFault::TooLong,
-            InputFault::Memory => RunFault::Memory,
+            InputFault::Memory(error) => RunFault::Memory(error),
         }
     }
 }
@@ -57,30 +57,19 @@ impl From<OutputFault> for RunFault {
     fn from(fault: OutputFault) -> RunFault {
         match fault {
             OutputFault::WriteFailed(_) => RunFault::WriteFailed,
-            OutputFault::Memory => RunFault::Memory,
+            OutputFault::Memory(error) => RunFault::Memory(error),
         }
     }
 }
 
 impl From<AllocError> for InputFault {
-    ghost use Rattle.std.specs.Prelude.{◌≡◌};
+    ghost use Rattle.std.specs.Prelude.{◌≡◌, alloc_error};
     ghost use Rattle.kob_text.specs.declared.fault.InputFault.TheVariants.{Memory};
 
-    ghost from_gives = { λ _ fault. fault ≡ Memory };
+    ghost from_gives = { λ _ fault. fault ≡ Memory alloc_error };
 
-    fn from(_error: AllocError) -> InputFault {
-        InputFault::Memory
-    }
-}
-
-impl<T: Drop> From<AllocFailed<T>> for InputFault {
-    ghost use Rattle.std.specs.Prelude.{◌≡◌};
-    ghost use Rattle.kob_text.specs.declared.fault.InputFault.TheVariants.{Memory};
-
-    ghost from_gives = { λ _ fault. fault ≡ Memory };
-
-    fn from(_error: AllocFailed<T>) -> InputFault {
-        InputFault::Memory
+    fn from(error: AllocError) -> InputFault {
+        InputFault::Memory(error)
     }
 }
 

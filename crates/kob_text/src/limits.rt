@@ -11,6 +11,12 @@ pub const READ_LIMIT: u32 = 20_000_000;
 
 const _: () = prove!(READ_LIMIT == 20_000_000);
 
+/// The maximum number of calls of a writer for the bytes at the front of a text. A writer that is
+/// interrupted at all of them counts as failed.
+pub const WRITE_LIMIT: u32 = 1_000_000;
+
+const _: () = prove!(WRITE_LIMIT == 1_000_000);
+
 /// The maximum number of bytes of printed replies that are held before they are written.
 pub const PIECE_LIMIT: usize = 65_536;
 

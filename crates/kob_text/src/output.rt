@@ -38,7 +38,7 @@ pub fn write_output<W: Write>(
 {
     match check_script(alloc, blocks) {
         Ok(script) => write_run(alloc, writer, script),
-        Err(ScriptError::Memory) => Err(OutputFault::Memory),
+        Err(ScriptError::Memory(error)) => Err(OutputFault::Memory(error)),
         Err(ScriptError::Fault(fault)) => write_fault(alloc, writer, fault),
     }
 }
@@ -47,8 +47,8 @@ fn write_fault<W: Write>(alloc: Global, writer: &mut W, fault: Fault) -> Result<
     ensures { IsWritten (Err fault) (W.contents writer.old) (W.contents writer.new) result }
 {
     let mut text = Vec::new(alloc);
-    if print_fault(&mut text, fault).is_err() {
-        return Err(OutputFault::Memory);
+    if let Err(error) = print_fault(&mut text, fault) {
+        return Err(OutputFault::Memory(error));
     }
     match write_all(writer, &text) {
         Ok(()) => Ok(Ended::Fault),

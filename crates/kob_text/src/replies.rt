@@ -27,12 +27,14 @@ use std::io::Write;
 
 // A script opens no bindings, so that out of memory is the only error.
 fn broker_by(alloc: Global, settings: Settings) -> Result<Broker, AllocError>
+    requires { settings.opening ≡ [] }
     ensures { IfOk result (λ broker. (events : List event.Event)
         → replies_of retained_meaning events (state_of broker) ≡ replies_to settings events) }
 {
     match Broker::open(alloc, settings) {
         Ok(broker) => Ok(broker),
-        Err(OpenFault::Memory | OpenFault::TooMany) => Err(AllocError),
+        Err(OpenFault::Memory(error)) => Err(error),
+        Err(OpenFault::TooMany) => unreachable!(),
     }
 }
 
@@ -72,9 +74,7 @@ fn print_next(
         ≡ (step retained_meaning (state_of broker.old) event).state)) }
 {
     requests.next_event(alloc, next)?;
-    let Some(event) = next else {
-        return Err(AllocError);
-    };
+    let Some(event) = next else { unreachable!() };
     print_reply_to(alloc, broker, event, number, out)
 }
 
@@ -122,9 +122,12 @@ fn write_served<W: Write>(
     ensures { IsWritten (Ok (checked script)) (W.contents writer.old) (W.contents writer.new) result }
 {
     let CheckedScript { settings, requests } = script;
-    let Ok(mut broker) = broker_by(alloc, settings) else {
-        drop(requests);
-        return Err(OutputFault::Memory);
+    let mut broker = match broker_by(alloc, settings) {
+        Ok(broker) => broker,
+        Err(error) => {
+            drop(requests);
+            return Err(OutputFault::Memory(error));
+        }
     };
     let mut next = None;
     let written = write_replies(alloc, writer, held, &mut broker, requests, &mut next);
@@ -144,10 +147,14 @@ pub fn write_run<W: Write>(
 ) -> Result<Ended, OutputFault>
     ensures { IsWritten (Ok (checked script)) (W.contents writer.old) (W.contents writer.new) result }
 {
-    let Ok(held) = Vec::with_capacity(alloc, PIECE_LIMIT) else {
-        drop(script);
-        return Err(OutputFault::Memory);
-    };
-    let mut held = held;
-    write_served(alloc, writer, &mut held, script)
+    match Vec::with_capacity(alloc, PIECE_LIMIT) {
+        Ok(held) => {
+            let mut held = held;
+            write_served(alloc, writer, &mut held, script)
+        }
+        Err(error) => {
+            drop(script);
+            Err(OutputFault::Memory(error))
+        }
+    }
 }

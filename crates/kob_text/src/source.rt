@@ -1,6 +1,8 @@
 //! A reader with a limit on its calls.
 
-ghost use Rattle.std.specs.Prelude.{◌≡◌, ◌-◌, ◌<◌, ◌≤◌, length, take, OnOk, IfOk};
+ghost use Rattle.std.specs.Prelude.{◌≡◌, ◌-◌, ◌<◌, ◌≤◌, length, take, OnOk, IfErr, IfOk};
+ghost use Rattle.std.specs.declared.io.ErrorKind.TheVariants as kind;
+ghost use Rattle.kob_text.specs.declared.source.Cause.TheVariants as cause;
 ghost use Rattle.std.specs.Io.KnownBytes.{Consumes, IsAtEnd};
 ghost use Rattle.kob_text.specs.Output.{read_limit};
 
@@ -14,9 +16,17 @@ pub struct Source<'a, R> {
     calls_left: u32,
 }
 
-/// A call of the reader failed, or none was left. Only this module makes one.
+/// Why nothing was read. Only this module makes one.
 #[derive(Clone, Copy, Debug, PartialEq, Eq)]
-pub struct ReadFailed(());
+pub struct ReadFailed(Cause);
+
+#[derive(Clone, Copy, Debug, PartialEq, Eq)]
+enum Cause {
+    /// No call of the reader was left.
+    Spent,
+    /// A call of the reader failed, for another cause than an interruption.
+    Failed(ErrorKind),
+}
 
 impl<'a, R: Read> Source<'a, R> {
     /// A reader of which all calls are left.
@@ -31,10 +41,14 @@ impl<'a, R: Read> Source<'a, R> {
     }
 
     /// The next bytes, put at the front of the piece; their number is 0 at the end of the reader.
-    /// An interrupted call is made again, while calls are left.
+    /// An interrupted call is made again, while calls are left; after another failure there is no
+    /// call.
     pub fn read(&mut self, piece: &mut [u8]) -> Result<usize, ReadFailed>
         ensures calls { self.new.calls_left ≤ self.old.calls_left - 1 }
         ensures left { OnOk result (0 < self.old.calls_left) }
+        ensures spent { IfErr result (λ failed. failed.0 ≡ cause.Spent
+            → self.new.calls_left ≡ 0) }
+        ensures failed { IfErr result (λ failed. failed.0 ≡ cause.Failed kind.Interrupted → ⊥) }
         ensures bound { IfOk result (λ count. count ≤ length piece.new) }
         ensures length { length piece.new ≡ length piece.old }
         ensures bytes { IfOk result (λ count. Consumes (R.remaining self.old.reader.now)
@@ -46,10 +60,12 @@ impl<'a, R: Read> Source<'a, R> {
             self.calls_left -= 1;
             match self.reader.read(piece) {
                 Ok(count) => return Ok(count),
-                Err(error) if error.kind() == ErrorKind::Interrupted => {}
-                Err(_) => break,
+                Err(error) => match error.kind() {
+                    ErrorKind::Interrupted => {}
+                    kind => return Err(ReadFailed(Cause::Failed(kind))),
+                },
             }
         }
-        Err(ReadFailed(()))
+        Err(ReadFailed(Cause::Spent))
     }
 }

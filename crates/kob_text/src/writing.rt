@@ -3,13 +3,16 @@
 ghost use Rattle.std.specs.Prelude.{◌<◌, ◌≤◌, length, take, OnErr, OnOk, IfOk};
 ghost use Rattle.std.specs.Io.KnownBytes.{Appends, Keeps};
 
+use crate::limits::WRITE_LIMIT;
 use std::io::{ErrorKind, Write};
 
-/// A call of the writer failed, or wrote nothing. Only this module makes one.
+/// A call of the writer failed, wrote nothing, or was interrupted 1,000,000 times. Only this module
+/// makes one.
 #[derive(Clone, Copy, Debug, PartialEq, Eq)]
 pub struct WriteFailed(());
 
-/// Writes some of the text, and returns the number of bytes. An interrupted call is made again.
+/// Writes some of the text, and returns the number of bytes. An interrupted call is made again, up to
+/// 1,000,000 calls; after another failure there is no call.
 /// For an empty text the writer is not called.
 pub fn write_some<W: Write>(writer: &mut W, text: &[u8]) -> Result<usize, WriteFailed>
     ensures bound { IfOk result (λ count. count ≤ length text.now) }
@@ -22,7 +25,7 @@ pub fn write_some<W: Write>(writer: &mut W, text: &[u8]) -> Result<usize, WriteF
     if text.is_empty() {
         return Ok(0);
     }
-    for _ in 0..u64::MAX {
+    for _ in 0..WRITE_LIMIT {
         match writer.write(text) {
             Ok(count) if count > 0 => return Ok(count),
             Err(error) if error.kind() == ErrorKind::Interrupted => {}

@@ -10,11 +10,11 @@ abbrev pub byte_at : ℕ → List ℕ → Option (ℕ × List ℕ)
 byte_at first others = if first == 37 then option_map (λ byte. (byte, drop 2 others)) (escaped others) else Some (first, others)
 
 -- the byte at the front, and then what the rest stands for
-abbrev then_rest : Option (ℕ × List ℕ) → Option (List ℕ)
+abbrev pub then_rest : Option (ℕ × List ℕ) → Option (List ℕ)
 then_rest None = None
 then_rest (Some found) = before (Some found.0) (unescaped found.1)
 
-step : (byte : ℕ) (rest : List ℕ) → unescaped (byte ∷ rest) ≡ then_rest (byte_at byte rest)
+pub step : (byte : ℕ) (rest : List ℕ) → unescaped (byte ∷ rest) ≡ then_rest (byte_at byte rest)
 unfolding unescaped_from
 step byte rest = grind (arith, nat_tests)
 
@@ -49,6 +49,18 @@ pub all_read : (bytes rest : List ℕ) (all : Option (List ℕ)) → with_rest b
     → Some bytes ≡ all
 unfolding unescaped_from
 all_read bytes rest all kept none = ap Some (sym (append-nil bytes)) ∙ (rw none at kept)
+
+-- whether the rest is whole tells whether all is
+module _ (rest others : List ℕ) (first : ℕ) (all : Bool) (kept : is_some (unescaped rest) ≡ all) (split : rest ≡ first ∷ others) where
+  pub whole_after : (found : ℕ × List ℕ) → Some found ≡ byte_at first others → is_some (unescaped found.1) ≡ all
+  whole_after found is = grind (arith, nat_tests, step first others)
+
+  pub not_whole : None ≡ byte_at first others → false ≡ all
+  not_whole is = grind (arith, nat_tests, step first others)
+
+pub all_whole : (rest : List ℕ) (all : Bool) → is_some (unescaped rest) ≡ all → rest ≡ [] → true ≡ all
+unfolding unescaped_from
+all_whole rest all kept none = rw none at kept
 
 chosen_false : {A : Type 0} (b : Bool) (x y : A) → b ≡ false → (if b then x else y) ≡ y
 chosen_false b x y e = rw e refl

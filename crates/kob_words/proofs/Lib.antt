@@ -4,3 +4,4 @@ pub mod Choices
 pub mod Escapes
 pub mod Numbers
 pub mod PlainRuns
+pub mod ReadBack

@@ -1,5 +1,5 @@
 -- The words for resources, patterns, operations and permissions; printed texts and bindings; escapes.
-use Rattle.std.specs.Prelude.{ℕ, List, [], ◌∷◌, Option, codes, Some, if◌then◌else◌, ◌/◌, ◌%◌, ◌==◌, ◌&&◌, not, Bool, nat_le, flat_map, ◌++◌, ◌≡◌, true, nat_lt, ◌+◌, ◌*◌, zero, suc, is_some, option_map, unwrap_or, None, length, decimal, ◌^◌}
+use Rattle.std.specs.Prelude.{ℕ, List, [], ◌∷◌, Option, codes, Some, if◌then◌else◌, ◌/◌, ◌%◌, ◌==◌, ◌&&◌, not, Bool, nat_le, flat_map, ◌++◌, ◌≡◌, true, nat_lt, ◌+◌, ◌*◌, zero, suc, is_some, option_map, unwrap_or, None, length, decimal, ◌^◌, take}
 use Rattle.std.specs.List.{find, list_any, prefix_len}
 use Rattle.std.specs.Str.{all_ascii_digits, str_eq_ignore_ascii_case}
 use Rattle.std.specs.Str.Parse.{digits_value}
@@ -100,6 +100,10 @@ bytes_text bytes = flat_map byte_text bytes
 -- how many bytes at the front stand for themselves
 abbrev pub plain_length : List ℕ → ℕ
 plain_length bytes = prefix_len is_plain bytes
+
+-- What there was still stands at the front.
+abbrev pub IsKept : List ℕ → List ℕ → Type 0
+IsKept old new = take (length old) new ≡ old
 
 -- How bindings are printed.
 

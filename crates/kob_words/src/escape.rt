@@ -1,9 +1,11 @@
 //! How an escape is read: `%` and two hexadecimal digits stand for one byte.
 
-ghost use Rattle.std.specs.Prelude.{◌≡◌, ◌≤◌, ◌==◌, ℕ, List, Some, IfOk, IfSome, drop};
-ghost use Rattle.std.specs.Prelude.{if◌then◌else◌, length, option_map};
-ghost use Rattle.kob_words.specs.Words.{bytes_of, escaped, has_percent, hexadecimal, unescaped};
+ghost use Rattle.std.specs.Prelude.{◌≡◌, ◌≤◌, ◌==◌, ℕ, List, None, Some, IfOk, IfSome, Ok, drop};
+ghost use Rattle.std.specs.Prelude.{if◌then◌else◌, is_some, length, option_map};
+ghost use Rattle.kob_words.specs.Words.{bytes_of, decimal_in, escaped, has_percent, hexadecimal};
+ghost use Rattle.kob_words.specs.Words.{unescaped};
 
+use crate::number::with_digit;
 use kob_names::Bytes;
 use std::alloc::{AllocError, Global};
 
@@ -14,10 +16,29 @@ pub fn may_have_escapes(bytes: &[u8]) -> bool
     bytes.contains(&b'%')
 }
 
-/// The bytes that a word stands for, unless a percent sign in it begins no escape.
-pub fn unescaped(alloc: Global, word: &[u8]) -> Result<Option<Bytes>, AllocError>
-    ensures { IfOk result (λ read. read ≡ unescaped word.now) }
+/// Whether each percent sign of a word begins an escape.
+pub fn has_whole_escapes(word: &[u8]) -> bool
+    ensures { result ≡ is_some (unescaped word.now) }
 {
+    let mut rest = word;
+    while let Some((first, others)) = rest.split_first() {
+        match byte_at(*first, others) {
+            Some((_, after)) => rest = after,
+            None => return false,
+        }
+    }
+    true
+}
+
+/// The bytes that a word stands for, unless a percent sign in it begins no escape. Such a sign is
+/// found before memory is asked for.
+pub fn unescaped(alloc: Global, word: &[u8]) -> Result<Option<Bytes>, AllocError>
+    ensures read { IfOk result (λ read. read ≡ unescaped word.now) }
+    ensures bad { unescaped word.now ≡ None → result ≡ Ok None }
+{
+    if !has_whole_escapes(word) {
+        return Ok(None);
+    }
     let mut bytes = Vec::new(alloc);
     let mut rest = word;
     while let Some((first, others)) = rest.split_first() {
@@ -44,6 +65,28 @@ pub fn bytes_of(alloc: Global, part: &[u8]) -> Result<Bytes, AllocError>
         Some(bytes) => Ok(bytes),
         None => Bytes::copied(alloc, part),
     }
+}
+
+/// The number that a part of a word writes, in which escapes stand for digits too.
+pub fn escaped_decimal_in(part: &[u8]) -> Option<u64>
+    ensures { result ≡ decimal_in (bytes_of part.now) }
+{
+    if part.is_empty() {
+        return None;
+    }
+    let mut number = 0;
+    let mut rest = part;
+    while let Some((first, others)) = rest.split_first() {
+        let Some((byte, after)) = byte_at(*first, others) else {
+            return None;
+        };
+        let Some(longer) = with_digit(number, byte) else {
+            return None;
+        };
+        number = longer;
+        rest = after;
+    }
+    Some(number)
 }
 
 /// The byte at the front of a word, and what comes after it. `None` if a percent sign there begins

@@ -22,8 +22,8 @@ pub fn decimal_in(digits: &[u8]) -> Option<u64>
     Some(number)
 }
 
-// A number with a decimal digit more, if it is of 64 bits.
-fn with_digit(number: u64, digit: u8) -> Option<u64>
+/// A number with a decimal digit more, if it is of 64 bits.
+pub fn with_digit(number: u64, digit: u8) -> Option<u64>
     ensures { MatchOption result
         (is_ascii_digit digit ≡ true → 2 ^ 64 ≤ number * 10 + digit_value digit) (λ longer.
         (is_ascii_digit digit ≡ true) × (longer ≡ number * 10 + digit_value digit)) }

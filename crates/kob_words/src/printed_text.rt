@@ -1,20 +1,47 @@
 //! How bytes and numbers are printed.
 
-ghost use Rattle.std.specs.Prelude.{◌≡◌, ◌<◌, ◌≤◌, ◌++◌, length, OnOk};
+ghost use Rattle.std.specs.Prelude.{◌≡◌, ◌<◌, ◌≤◌, ◌++◌, length, take, OnErr, OnOk};
 ghost use Rattle.std.specs.Char.{digit_char};
 ghost use Rattle.std.specs.Fmt.{decimal};
 ghost use Rattle.std.specs.Str.{IsAscii};
-ghost use Rattle.kob_words.specs.Words.{is_plain, byte_text, bytes_text, plain_length};
+ghost use Rattle.kob_words.specs.Words.{IsKept, is_plain, byte_text, bytes_text, plain_length};
 
 use itoa::Buffer;
 use std::alloc::AllocError;
 
+/// Takes away what a printer that failed put behind the first `start` bytes.
+pub fn whole_or_nothing(
+    out: &mut Vec<u8>,
+    start: usize,
+    printed: Result<(), AllocError>,
+) -> Result<(), AllocError>
+    ensures result { result ≡ printed }
+    ensures whole { OnOk printed (out.new.items ≡ out.old.items) }
+    ensures nothing { OnErr printed (out.new.items ≡ take start out.old.items) }
+{
+    if printed.is_err() {
+        out.truncate(start);
+    }
+    printed
+}
+
 /// Prints bytes. Each byte outside 0x21 to 0x7e, and each `%` and `=`, is printed as `%` and two
-/// lower-case hexadecimal digits.
-#[tactic(auto, using(crate::proofs::Appending::appending))]
+/// lower-case hexadecimal digits. On an error `out` is as it was.
 pub fn push_bytes(out: &mut Vec<u8>, bytes: &[u8]) -> Result<(), AllocError>
     ensures text { OnOk result (out.new.items ≡ out.old.items ++ bytes_text bytes.now) }
     ensures ascii { OnOk result (IsAscii (bytes_text bytes.now)) }
+    ensures same { OnErr result (out.new.items ≡ out.old.items) }
+{
+    let start = out.len();
+    let printed = push_each(out, bytes);
+    whole_or_nothing(out, start, printed)
+}
+
+#[tactic(auto, using(crate::proofs::Appending::kept))]
+fn push_each(out: &mut Vec<u8>, bytes: &[u8]) -> Result<(), AllocError>
+    ensures text { OnOk result (out.new.items ≡ out.old.items ++ bytes_text bytes.now) }
+    ensures ascii { OnOk result (IsAscii (bytes_text bytes.now)) }
+    ensures kept { OnErr result (IsKept out.old.items out.new.items) }
 {
     let mut rest = bytes;
     loop {
@@ -36,10 +63,11 @@ fn plain_length(bytes: &[u8]) -> usize
     bytes.iter().take_while(|byte| is_plain(**byte)).count()
 }
 
-#[tactic(auto, using(crate::proofs::Appending::appending))]
+#[tactic(auto, using(crate::proofs::Appending::kept))]
 fn push_byte(out: &mut Vec<u8>, byte: u8) -> Result<(), AllocError>
     ensures text { OnOk result (out.new.items ≡ out.old.items ++ byte_text byte) }
     ensures ascii { OnOk result (IsAscii (byte_text byte)) }
+    ensures kept { OnErr result (IsKept out.old.items out.new.items) }
 {
     if is_plain(byte) {
         out.push(byte)?;
@@ -68,11 +96,11 @@ fn hex_digit(digit: u8) -> u8
     }
 }
 
-/// Prints a number in decimal digits.
-#[tactic(auto, using(crate::proofs::Appending::appending))]
+/// Prints a number in decimal digits. On an error `out` is as it was.
 pub fn push_number(out: &mut Vec<u8>, number: u64) -> Result<(), AllocError>
     ensures text { OnOk result (out.new.items ≡ out.old.items ++ decimal number) }
     ensures ascii { OnOk result (IsAscii (decimal number)) }
+    ensures same { OnErr result (out.new.items ≡ out.old.items) }
 {
     let mut digits = Buffer::new();
     out.extend_from_slice(digits.format(number).as_bytes())

@@ -1,4 +1,7 @@
-use Rattle.kob_pipeline.proofs.Words.{IfOk-weaker, IsEnd, IsPipeline, ap, arith, entry_limit, err_from_is_err_and, length, map, opened_by, planned_as, vec_len, workers_planned, ◌∙◌, ◌≤◌}
+use Rattle.kob_pipeline.proofs.Words.{IfOk-weaker, IsEnd, IsPipeline, ap, arith, entry_limit, err_from_is_err_and, length, map, opened_by, planned_as, subst, sym, vec_len, workers_planned, ◌∙◌, ◌≤◌}
+use Rattle.std.specs.List.{AllZip}
+use Rattle.kob_shared.proofs.Fleets.{unnumbered}
+use Rattle.kob_pipeline.specs.Steps.{IsLeft}
 use Rattle.kob_pipeline.proofs.Ended.{as_planned, workers_counted, named_fleet}
 use Rattle.kob_pipeline.proofs.pipelines.run_plan.Goals as goal
 
@@ -26,3 +29,15 @@ returns-clause-ok g c =
     (c.in_ok-ran.ensures.first.0 ∙ c.in_ok-broker.ensures.first)
     (ap (map planned_as) c.deref-2.ensures.value ∙ c.in_ok-workers.ensures) is)
     c.end_of.ensures.ok
+
+pub end_of-requires : goal.end_of-requires
+end_of-requires g c =
+    record {
+      sound = c.in_ok-ran.ensures.sound;
+      first = c.in_ok-ran.ensures.first.1;
+      each =
+          subst (λ ws. AllZip (λ w d. IsLeft (planned_as w) d.notes d.end) ws c.in_ok-ran.ran.done.items)
+          (c.deref.ensures.value ∙ sym c.deref-2.ensures.value)
+          (unnumbered (λ w d. IsLeft (planned_as w) d.notes d.end) 1 c.deref.result.now c.in_ok-ran.ran.done.items
+          c.in_ok-ran.ensures.each);
+    }

@@ -4,4 +4,4 @@ use Rattle.kob_scene_export.proofs.server.push_each.Given as goal
 
 abbrev pub invariant-loop-principal : goal.invariant-loop-principal
 invariant-loop-principal l =
-    l.out.items ≡ l.initial.out.items ++ flat_map super_text (take l.principal-index l.supers)
+    l.out.items ≡ l.initial.out.items ++ flat_map (super_text l.written) (take l.principal-index l.supers)

@@ -4,8 +4,8 @@ use Rattle.kob_scene_text.proofs.reading.read_scene.Goals as goal
 
 pub loop-line-preserved : goal.loop-line-preserved
 loop-line-preserved c =
-    let up : c.loop-line.number + 1 ≡ c.in-Some-checked_add.next = omega (arith, c.in-Some-checked_add.ensures.1) in
-    line_keeps c.args.text.now (so_far c.loop-line.reading) c.in-Some-checked_add.next c.loop-line.line-iterator
+    let up : c.loop-line.number + 1 ≡ c.in_ok-number.number = grind (arith, c.in_ok-number.was, c.in_ok-number.ensures, c.sum_of.ensures) in
+    line_keeps c.args.text.now (so_far c.loop-line.reading) c.in_ok-number.number c.loop-line.line-iterator
     c.in-Some.line.now c.next.new.self
     (subst (λ (number : ℕ).
     Leads c.args.text.now (so_far c.loop-line.reading) number c.loop-line.line-iterator) up c.loop-line.invariant)
@@ -13,9 +13,9 @@ loop-line-preserved c =
 
 pub returns-in-Err : goal.returns-in-Err
 returns-in-Err c =
-    let up : c.loop-line.number + 1 ≡ c.in-Some-checked_add.next = omega (arith, c.in-Some-checked_add.ensures.1) in
+    let up : c.loop-line.number + 1 ≡ c.in_ok-number.number = grind (arith, c.in_ok-number.was, c.in_ok-number.ensures, c.sum_of.ensures) in
     rw c.fault_at.ensures
-    (line_stops c.args.text.now (so_far c.loop-line.reading) c.in-Some-checked_add.next c.loop-line.line-iterator
+    (line_stops c.args.text.now (so_far c.loop-line.reading) c.in_ok-number.number c.loop-line.line-iterator
     c.in-Some.line.now c.next.new.self
     (subst (λ (number : ℕ).
     Leads c.args.text.now (so_far c.loop-line.reading) number c.loop-line.line-iterator) up c.loop-line.invariant)

@@ -65,7 +65,7 @@ pub returns-clause-any : goal.returns-clause-any
 returns-clause-any c =
     all_read c.args.blocks.items c.loop-block.checking c.loop-block.answers.items c.loop-block.number _
     c.loop-block.invariant (no_blocks c.args.blocks.items _ _ c.as_slice-block-items.ensures.value (omega arith)) _
-    (rw (c.from_vec.ensures, c.from_vec-2.ensures, c.new-2.ensures.items, c.new-3.ensures) refl)
+    _ c.new-3.ensures (rw (c.from_vec.ensures, c.from_vec-2.ensures, c.new-2.ensures.items) refl)
 
 pub returns-clause-plain : goal.returns-clause-plain
 returns-clause-plain c = λ plain. sym (one_reading (concat c.args.blocks.items) _ plain (returns-clause-any c))

@@ -1,4 +1,4 @@
-use Rattle.kob_script.proofs.Imports.{FaultKind, List, Ok, Result, ap, arith, length-append, option_copied, result_ok, rules, script_so_far, ◌++◌, ◌>>=◌, ◌∙◌}
+use Rattle.kob_script.proofs.Imports.{FaultKind, List, Ok, Result, ap, arith, length-append, option_copied, rules, script_so_far, ◌++◌, ◌>>=◌, ◌∙◌}
 use Rattle.kob_rights.specs.declared.event.Event.{Event}
 use Rattle.kob_script.proofs.CheckedLines.{no_setting}
 use Rattle.kob_script.proofs.LineFaults.{were_counted}
@@ -6,8 +6,8 @@ use Rattle.kob_script.proofs.script.check_words.Goals as goal
 
 pub returns-in_ok-checking-in_default : goal.returns-in_ok-checking-in_default
 returns-in_ok-checking-in_default c = λ events counts.
-    let (asked, is, count) = were_counted _ c.in_ok-asked-in_default.asked c.in_ok-asked-in_default.ensures in
-    let sum = rw (c.ok_or.ensures.ok_part ∙ ap result_ok c.in_ok-checking-in_default.was) at c.checked_add-requests.ensures in (
+    let (asked, is, count) = were_counted _ c.in_ok-asked-in_default.asked c.in_ok-asked-in_default.ensures.gives in
+    let sum = c.in_ok-checking-in_default.ensures in (
       events ++ asked,
       omega (arith, length-append events asked, sum.1, count, counts),
       no_setting (option_copied c.args.answer) _ c.args.words.now c.first-item.result (search rules) c.first-item.is (search rules)

@@ -1,5 +1,5 @@
-use Rattle.kob_shared.proofs.Words.{Follows, IfErr-weaker, IfOk-weaker, IsFullOnlyPast, IsNamedWithin, NamesOneOf, arith, entry_limit, length, subst, sym, vec_len, ◌≡◌}
-use Rattle.kob_shared.proofs.Fleets.{full_within, named_more, named_within}
+use Rattle.kob_shared.proofs.Words.{Follows, IfErr-weaker, IfOk-weaker, IsFullOnlyPast, IsNamedWithin, NamesOneOf, entry_limit, length, subst, sym, vec_len, ◌≡◌}
+use Rattle.kob_shared.proofs.Fleets.{full_within, named_within}
 use Rattle.kob_shared.proofs.fleet.run_fleet.Goals as goal
 
 pub returns-in-Ok-begin-clause-first : goal.returns-in-Ok-begin-clause-first
@@ -21,6 +21,3 @@ returns-in-Ok-begin-clause-full g c =
     let events = vec_len c.args.first in
     IfErr-weaker c.run_begun.result (NamesOneOf count) (IsFullOnlyPast entry_limit events)
     (full_within entry_limit events count) c.run_begun.ensures.named
-
-pub returns-in-Err-clause-named : goal.returns-in-Err-clause-named
-returns-in-Err-clause-named g c = named_more 0 _ _ (omega arith) c.in-Err.ensures.named

@@ -11,10 +11,10 @@ loop-first-preserved c =
     (byte_read _ _ _ _ _ c.loop-first.invariant c.in-Some.ensures.cases.0 (c.in-Some-byte_at.byte, c.in-Some-byte_at.after.now)
     c.in-Some-byte_at.ensures.read)
 
-pub returns-in-None : goal.returns-in-None
-returns-in-None c = none_read _ _ _ _ _ c.loop-first.invariant c.in-Some.ensures.cases.0 c.in-None.ensures.read
+pub returns-in-None-clause-read : goal.returns-in-None-clause-read
+returns-in-None-clause-read c = none_read _ _ _ _ _ c.loop-first.invariant c.in-Some.ensures.cases.0 c.in-None.ensures.read
 
-pub returns : goal.returns
-returns c =
+pub returns-clause-read : goal.returns-clause-read
+returns-clause-read c =
     let empty : c.loop-first.rest.now ≡ [] = drop_of_length-le c.loop-first.rest.now {i = 0} (search rules) in
     rw c.from_vec.ensures (all_read _ _ _ c.loop-first.invariant empty)

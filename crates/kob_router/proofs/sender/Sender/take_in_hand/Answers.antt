@@ -18,5 +18,5 @@ returns-clause-done c =
       nothing_before = grind (arith, common_steps);
       first_waits = sym c.in-Ok-Some.ensures.row ∙ ap (option_map stored_row) c.in-Ok-Some.field-0-is;
       goes = c.in-Ok.ensures;
-      taken = rw c.in-Ok-prepare.ensures.ok refl;
+      taken = rw c.in_default.ensures.ok refl;
     })

@@ -1,9 +1,10 @@
 -- What is left is what was left. No request was read.
-use Rattle.kob_script.proofs.Imports.{length, requests_left, steps_left, ◌≡◌}
+use Rattle.kob_script.proofs.Imports.{IsOk, length, lines_ask, requests_left, steps_left, ◌≡◌}
 use Rattle.kob_script.proofs.requests.Requests.next_event.Given as goal
 
 abbrev pub invariant-loop-event : goal.invariant-loop-event
 invariant-loop-event l = record {
+  checked : IsOk (lines_ask l.self-inside.blocks l.self-inside.answers.items);
   count : l.self-inside.left ≡ length (requests_left l.self-inside);
   same : requests_left l.self-inside ≡ l.fn.self;
 }

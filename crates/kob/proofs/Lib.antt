@@ -1,0 +1,3 @@
+pub mod Exported
+pub mod First
+pub mod Reading

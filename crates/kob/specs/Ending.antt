@@ -1,0 +1,47 @@
+-- The exit status: 0 where all was done, 1 for a fault, 2 out of memory, 3 where answers differ.
+use Rattle.std.specs.Prelude.{ℕ, List, [], ◌∷◌, Result, Ok, Err}
+use Rattle.kob.specs.declared.ending.Ending.{Ending}
+use Rattle.kob.specs.declared.ending.Ending.TheVariants.{Whole, Differs, Failed, OutOfMemory}
+use Rattle.kob_scene_play.specs.declared.fault.PlayFault.{PlayFault}
+use Rattle.kob_scene_play.specs.declared.fault.PlayFault.TheVariants as play
+use Rattle.kob_scene_play.specs.declared.text.Ended.{Ended}
+use Rattle.kob_scene_play.specs.declared.text.Ended.TheVariants as ended
+
+abbrev pub status_of : Ending → ℕ
+status_of Whole = 0
+status_of Failed = 1
+status_of OutOfMemory = 2
+status_of Differs = 3
+
+-- of two ends the worse: out of memory, then a fault, then answers that differ
+abbrev pub worse : Ending → Ending → Ending
+worse Whole other = other
+worse Differs Whole = Differs
+worse Differs Differs = Differs
+worse Differs Failed = Failed
+worse Differs OutOfMemory = OutOfMemory
+worse Failed Whole = Failed
+worse Failed Differs = Failed
+worse Failed Failed = Failed
+worse Failed OutOfMemory = OutOfMemory
+worse OutOfMemory other = OutOfMemory
+
+abbrev pub ending_of_fault : PlayFault → Ending
+ending_of_fault (play.Memory e) = OutOfMemory
+ending_of_fault play.JournalFull = Failed
+ending_of_fault play.Store = Failed
+ending_of_fault play.NoWorker = Failed
+ending_of_fault play.TooMany = Failed
+ending_of_fault play.NotLost = Failed
+ending_of_fault play.WriteFailed = Failed
+
+abbrev pub ending_of_play : Result Ended PlayFault → Ending
+ending_of_play (Ok ended.Clean) = Whole
+ending_of_play (Ok (ended.Fault fault)) = Failed
+ending_of_play (Ok (ended.Stopped fault)) = ending_of_fault fault
+ending_of_play (Err fault) = ending_of_fault fault
+
+-- a difference of two lists that says nothing is none
+abbrev pub ending_of_changes : List ℕ → Ending
+ending_of_changes [] = Whole
+ending_of_changes (first ∷ rest) = Differs

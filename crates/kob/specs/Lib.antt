@@ -1,0 +1,4 @@
+pub mod Ending
+pub mod Export
+pub mod Input
+pub mod Standing

@@ -1,0 +1,113 @@
+//! The pages of help.
+
+/// The general page.
+pub static HELP: &str = "\
+Kafka's access rules and the transactional outbox, tried with a proved broker.
+
+usage: kob play [FILE]...              plays scenes and scripts; - or none: standard input
+       kob export [FILE]...            prints the final state of scenes for Kafka and Debezium
+       kob policy [OPTION]... [QUESTION]...
+                                       answers questions about access rules
+       kob help [SUBJECT]              prints a page: play, export, policy or scene
+       kob --version                   prints the version, the commit, and whether it is proved
+
+Status: 0 all was done, 1 a fault, or something could not be read or written, 2 out of memory,
+3 an answer is not the one that was expected.
+";
+
+/// The page on `kob play`.
+pub static HELP_PLAY: &str = "\
+Plays scenes: scripts with services, consumers and their steps.
+
+usage: kob play [FILE]...
+
+  FILE              plays FILE; - or none: standard input. With several, == FILE comes before each
+  -h, --help        prints this page; kob help scene prints the language of scenes
+
+Each answer has its number. A text with a fault prints only fault line LINE KIND; standard error has
+the line and the word. Status: 0 all was played, 1 a fault, or a read or a write failed, 2 out of
+memory.
+";
+
+/// The page on `kob export`.
+pub static HELP_EXPORT: &str = "\
+Prints the final state of scenes: the settings, topics and bindings that the requests leave, as
+server.properties, kafka-topics and kafka-acls, and the route of each service for Debezium.
+
+usage: kob export [FILE]...
+
+  FILE              exports FILE; - or none: standard input. With several, == FILE comes before each
+  -h, --help        prints this page
+
+Status: 0 all was exported, 1 a fault, or a read or a write failed, 2 out of memory.
+";
+
+/// The page on `kob policy`.
+pub static HELP_POLICY: &str = "\
+Answers questions about access rules: who may do what, and by which binding.
+
+usage: kob policy [FILE]... [--skip] [QUESTION]...
+       kob policy --before FILE --after FILE [FILE]... [QUESTION]...
+
+  FILE              a list: a word without a blank that is no question
+  --policy FILE     the same, whatever its name is: bindings and settings, in order; - or none: standard input
+  --questions FILE  questions, one on a line; repeated
+  --topics FILE     names of topics, one on a line; repeated
+  --before FILE     prints what changes from these bindings ..
+  --after FILE      .. to these; questions are answered by these; --policy counts for both
+  --skip            continues after bindings that are left out
+  --next            begins another list with its questions; == FILE comes before each
+  -h, --help        prints this page
+
+A list has lines of kafka-acls --list (1.x, 2.x and 3.x), kafka-acls --add .., lines
+create-acl and acl of scripts, super USER, everyone on or off, super.users=.., and
+allow.everyone.if.no.acl.found=.. . Lines that begin with # are skipped.
+
+Questions, each one word of the command line or one line:
+  may PRINCIPAL HOST OPERATION RESOURCE NAME
+  may PRINCIPAL HOST produce TOPIC [idempotent]
+  may PRINCIPAL HOST consume TOPIC GROUP
+  may PRINCIPAL HOST REQUEST ..         a request as in a script
+  who OPERATION RESOURCE NAME [HOST]    each principal that a binding names
+  sees PRINCIPAL HOST                   the topics that it may describe
+  topic NAME                            a topic for sees and shadowed
+  unused                                bindings that no answer needs, and why
+  shadowed                              allows that a deny always beats
+
+Status: 0 all read, 1 a fault, 2 out of memory, 3 an answer changes. docs/POLICY.md has an example.
+";
+
+/// The page on the language of scenes and scripts.
+pub static HELP_SCENE: &str = "\
+A scene has settings first, and then requests, declarations and steps, one on a line. % and two
+hexadecimal digits stand for a byte. A line that begins with # is a comment.
+  super PRINCIPAL       everyone on|off
+  PRINCIPAL HOST REQUEST ..     where REQUEST is one of
+    create-topic TOPIC PARTITIONS           delete-topic TOPIC      metadata [TOPIC]
+    produce TOPIC PARTITION ID:EPOCH:BASE|- [KEY=]VALUE ..          init-producer
+    fetch TOPIC PARTITION OFFSET MAX        list-offsets TOPIC PARTITION -1|-2
+    delete-records TOPIC PARTITION OFFSET|-1                        delete-group GROUP
+    commit GROUP TOPIC PARTITION OFFSET     committed GROUP TOPIC PARTITION         groups
+    create-acl PERMISSION PRINCIPAL HOST OPERATION RESOURCE PATTERN NAME
+    describe-acls or delete-acls RESOURCE NAME PATTERN PRINCIPAL HOST OPERATION PERMISSION
+    acl OPTION ..                           with the options of kafka-acls
+  service NAME PRINCIPAL HOST partitions N [by COLUMN] [replacement TEXT] [placement TEXT]
+    NAME record ID AGGREGATETYPE AGGREGATEID TYPE PAYLOAD KIND KEY STATE    NAME business KIND KEY
+    NAME tick [lose-request|lose-reply]     NAME run    NAME restart    NAME sweep    NAME outbox
+  consumer NAME PRINCIPAL HOST group GROUP max N reads TOPIC:PARTITION ..
+    NAME tick [lose-request|lose-reply]     NAME run    NAME restart    NAME inbox
+  journal               every request that was served, with its reply
+  law SERVICE CONSUMER  whether the laws of delivery apply to the two
+";
+
+/// The page on a subject, the general one for none.
+pub fn help_on(subject: &str) -> Option<&'static str> {
+    match subject {
+        "" => Some(HELP),
+        "play" => Some(HELP_PLAY),
+        "export" => Some(HELP_EXPORT),
+        "policy" => Some(HELP_POLICY),
+        "scene" => Some(HELP_SCENE),
+        _ => None,
+    }
+}

@@ -1,0 +1,96 @@
+//! The words of the command line, read by `clap`.
+
+use crate::help::{HELP, HELP_EXPORT, HELP_PLAY};
+use crate::policy_options::command as policy_command;
+use clap::{Arg, ArgAction, ArgMatches, Command, Error};
+use std::alloc::{AllocError, Global};
+
+/// What the program is to do.
+#[derive(Drop)]
+pub enum Task {
+    /// Plays scenes and scripts; without a file, standard input.
+    Play(Vec<String>),
+    /// Exports the final state of scenes.
+    Export(Vec<String>),
+    /// Answers questions about lists of bindings, by the words after `policy`.
+    Policy,
+    /// Prints a page of help, the general one without a subject.
+    Help(Option<String>),
+    Version,
+}
+
+/// The task that the words name, the first of which is the program's name. The error is what is
+/// wrong with the words, or a page of help that they ask for.
+pub fn task_of(alloc: Global, words: &[String]) -> Result<Task, Error> {
+    if words.get(1).is_some_and(|word| word.as_str() == "policy") {
+        return Ok(Task::Policy);
+    }
+    match command(alloc)?.try_get_matches_from(words) {
+        Ok(matches) => Ok(task_in(alloc, &matches)?),
+        Err(error) => Err(error),
+    }
+}
+
+/// All options, for `clap` and for the completions of shells.
+fn command<'a>(alloc: Global) -> Result<Command<'a>, AllocError> {
+    let made = Command::new(alloc, "kob")
+        .override_help(HELP)
+        .disable_help_subcommand(true);
+    let made = made.arg(flag(alloc, "version").short('V'))?;
+    let made = made.subcommand(files_command(alloc, "play", HELP_PLAY)?)?;
+    let made = made.subcommand(files_command(alloc, "export", HELP_EXPORT)?)?;
+    let made = made.subcommand(policy_command(alloc)?)?;
+    let subject = Arg::new(alloc, "SUBJECT").action(ArgAction::Set);
+    made.subcommand(
+        Command::new(alloc, "help")
+            .override_help(HELP)
+            .arg(subject)?,
+    )
+}
+
+fn flag<'a>(alloc: Global, name: &'a str) -> Arg<'a> {
+    Arg::new(alloc, name).long(name).action(ArgAction::SetTrue)
+}
+
+/// A command that takes files.
+fn files_command<'a>(
+    alloc: Global,
+    name: &'a str,
+    help: &'a str,
+) -> Result<Command<'a>, AllocError> {
+    let made = Command::new(alloc, name).override_help(help);
+    made.arg(
+        Arg::new(alloc, "FILE")
+            .num_args(0..)
+            .action(ArgAction::Append),
+    )
+}
+
+fn task_in(alloc: Global, matches: &ArgMatches<'_>) -> Result<Task, AllocError> {
+    match matches.subcommand() {
+        Some(("play", used)) => Ok(Task::Play(values_of(alloc, used, "FILE")?)),
+        Some(("export", used)) => Ok(Task::Export(values_of(alloc, used, "FILE")?)),
+        Some(("policy", _)) => Ok(Task::Policy),
+        Some((_, used)) => match used.get_str("SUBJECT") {
+            Some(subject) => Ok(Task::Help(Some(String::from_str(alloc, subject)?))),
+            None => Ok(Task::Help(None)),
+        },
+        None if matches.get_flag("version") => Ok(Task::Version),
+        None => Ok(Task::Help(None)),
+    }
+}
+
+/// The values of an argument, in the order given.
+pub fn values_of(
+    alloc: Global,
+    matches: &ArgMatches<'_>,
+    name: &str,
+) -> Result<Vec<String>, AllocError> {
+    let mut values = Vec::new(alloc);
+    if let Some(texts) = matches.get_strs(name) {
+        for text in texts {
+            values.push(String::from_str(alloc, text)?)?;
+        }
+    }
+    Ok(values)
+}

@@ -1,0 +1,128 @@
+//! Texts that are played or exported.
+
+use crate::ending::{Ending, ending_of_play};
+use crate::export::export_scene;
+use crate::input::{Kind, text_of};
+use crate::report;
+use kob_broker::OpenFault;
+use kob_mistakes::mistake_in;
+use kob_scene_play::{Ended, PlayFault, play_text};
+use kob_scene_text::{Scene, SceneError, SceneFault, print_scene_fault, read_scene};
+use std::io::{self, Write};
+use std::rt::Files;
+
+/// What is done with a text.
+#[derive(Clone, Copy)]
+pub enum Work {
+    Play,
+    Export,
+}
+
+/// Does the work on each file, or on standard input if none is named. Returns the worst end.
+pub fn do_files<R: AllocGlobal + Files + Input + Print + Eprint>(
+    rt: &R,
+    work: Work,
+    files: &[String],
+) -> Ending {
+    if files.is_empty() {
+        return do_file(rt, work, "-");
+    }
+    let mut ending = Ending::Whole;
+    for file in files {
+        ending = ending.worse(do_headed(rt, work, file.as_str(), files.len() > 1));
+    }
+    ending
+}
+
+/// Plays or exports one of the files, after a line with its name if there are several.
+fn do_headed<R: AllocGlobal + Files + Input + Print + Eprint>(
+    rt: &R,
+    work: Work,
+    file: &str,
+    headed: bool,
+) -> Ending {
+    if headed && println!(rt; "== {file}").is_err() {
+        report::stopped(rt, file, PlayFault::WriteFailed);
+        return Ending::Failed;
+    }
+    do_file(rt, work, file)
+}
+
+fn do_file<R: AllocGlobal + Files + Input + Print + Eprint>(
+    rt: &R,
+    work: Work,
+    file: &str,
+) -> Ending {
+    match text_of(rt, Kind::Scene, file) {
+        Ok(text) => do_text(rt, work, file, &text),
+        Err(fault) => report::unread(rt, file, &fault),
+    }
+}
+
+fn do_text<R: AllocGlobal + Print + Eprint>(rt: &R, work: Work, name: &str, text: &[u8]) -> Ending {
+    match work {
+        Work::Play => play(rt, name, text),
+        Work::Export => export(rt, name, text),
+    }
+}
+
+fn play<R: AllocGlobal + Print + Eprint>(rt: &R, name: &str, text: &[u8]) -> Ending {
+    let played = play_text(rt.alloc(), text, &mut io::writer(rt));
+    match played {
+        Ok(Ended::Clean) => {}
+        Ok(Ended::Fault(fault)) => say_fault(rt, name, text, fault),
+        Ok(Ended::Stopped(fault)) | Err(fault) => report::stopped(rt, name, fault),
+    }
+    ending_of_play(played)
+}
+
+/// Says which line has a fault, which word of it is wrong, and what was expected.
+fn say_fault<R: AllocGlobal + Eprint>(rt: &R, name: &str, text: &[u8], fault: SceneFault) {
+    let _ = eprintln!(rt; "kob: {name}: {fault}");
+    if let Ok(mistake) = mistake_in(rt.alloc(), text, fault) {
+        let _ = report::mistake(rt, &mistake);
+    }
+}
+
+fn export<R: AllocGlobal + Print + Eprint>(rt: &R, name: &str, text: &[u8]) -> Ending {
+    match read_scene(rt.alloc(), text) {
+        Ok(scene) => export_read(rt, name, &scene),
+        Err(SceneError::Fault(fault)) => export_fault(rt, name, text, fault),
+        Err(SceneError::Memory(_)) => report::out_of_memory(rt, name),
+    }
+}
+
+fn export_read<R: AllocGlobal + Print + Eprint>(rt: &R, name: &str, scene: &Scene) -> Ending {
+    let mut out = Vec::new(rt.alloc());
+    match export_scene(rt.alloc(), &mut out, scene) {
+        Ok(()) => write(rt, name, &out),
+        Err(OpenFault::Memory(_)) => report::out_of_memory(rt, name),
+        Err(OpenFault::TooMany) => report::too_many(rt),
+    }
+}
+
+/// Prints the fault of a scene in the same form as playing.
+fn export_fault<R: AllocGlobal + Print + Eprint>(
+    rt: &R,
+    name: &str,
+    text: &[u8],
+    fault: SceneFault,
+) -> Ending {
+    let mut out = Vec::new(rt.alloc());
+    if print_scene_fault(&mut out, fault).is_err() {
+        return report::out_of_memory(rt, name);
+    }
+    say_fault(rt, name, text, fault);
+    write(rt, name, &out).worse(Ending::Failed)
+}
+
+/// Writes a whole output.
+fn write<R: Print + Eprint>(rt: &R, name: &str, out: &[u8]) -> Ending {
+    match io::writer(rt).write_all(out) {
+        Ok(()) => Ending::Whole,
+        Err(_) => {
+            report::stopped(rt, name, PlayFault::WriteFailed);
+            Ending::Failed
+        }
+    }
+}

@@ -1,0 +1,92 @@
+//! The options of `kob policy`, read by `clap`.
+
+use crate::help::HELP_POLICY;
+use crate::options::values_of;
+use clap::{Arg, ArgAction, ArgMatches, Command, Error};
+use std::alloc::{AllocError, Global};
+
+/// The values of each option, in the order given.
+#[derive(Drop)]
+pub struct Options {
+    pub policy: Vec<String>,
+    pub questions: Vec<String>,
+    pub topics: Vec<String>,
+    pub before: Vec<String>,
+    pub after: Vec<String>,
+    /// The questions among the other words.
+    pub words: Vec<String>,
+    pub skip: bool,
+}
+
+/// The options of `policy`.
+pub fn command<'a>(alloc: Global) -> Result<Command<'a>, AllocError> {
+    let mut made = Command::new(alloc, "policy").override_help(HELP_POLICY);
+    for name in ["policy", "questions", "topics"] {
+        made = made.arg(files(alloc, name))?;
+    }
+    made = made.arg(files(alloc, "before").requires_arg("after")?)?;
+    made = made.arg(files(alloc, "after").requires_arg("before")?)?;
+    made = made.arg(
+        Arg::new(alloc, "skip")
+            .long("skip")
+            .action(ArgAction::SetTrue),
+    )?;
+    made.arg(
+        Arg::new(alloc, "QUESTION")
+            .num_args(0..)
+            .action(ArgAction::Append),
+    )
+}
+
+/// An option that is given any number of times, each with the name of a file.
+fn files<'a>(alloc: Global, name: &'a str) -> Arg<'a> {
+    Arg::new(alloc, name)
+        .long(name)
+        .value_name("FILE")
+        .action(ArgAction::Append)
+}
+
+/// The options of each part of the words; `--next` stands between two parts.
+pub fn parts_of(alloc: Global, words: &[String]) -> Result<Vec<Options>, Error> {
+    let mut parts = Vec::new(alloc);
+    for part in words.split(|word| word.as_str() == "--next") {
+        let options = options_of(alloc, part)?;
+        parts.push(options).map_err(AllocError::from)?;
+    }
+    Ok(parts)
+}
+
+/// The options that words give. The error is what is wrong with the words, or the page of help.
+fn options_of(alloc: Global, words: &[String]) -> Result<Options, Error> {
+    let command = command(alloc)?.no_binary_name(true).bin_name("kob policy")?;
+    match command.try_get_matches_from(words) {
+        Ok(matches) => Ok(options_in(alloc, &matches)?),
+        Err(error) => Err(error),
+    }
+}
+
+fn options_in(alloc: Global, matches: &ArgMatches<'_>) -> Result<Options, AllocError> {
+    let mut options = Options {
+        policy: values_of(alloc, matches, "policy")?,
+        questions: values_of(alloc, matches, "questions")?,
+        topics: values_of(alloc, matches, "topics")?,
+        before: values_of(alloc, matches, "before")?,
+        after: values_of(alloc, matches, "after")?,
+        words: Vec::new(alloc),
+        skip: matches.get_flag("skip"),
+    };
+    for word in values_of(alloc, matches, "QUESTION")? {
+        if is_question(word.as_str()) {
+            options.words.push(word)?;
+        } else {
+            options.policy.push(word)?;
+        }
+    }
+    Ok(options)
+}
+
+/// Whether a word of the command line is a question: it has a blank, or is a question of one word.
+/// Any other word names a list.
+fn is_question(word: &str) -> bool {
+    word.contains(' ') || matches!(word, "unused" | "shadowed" | "removable" | "summary")
+}

@@ -1,0 +1,106 @@
+//! What is reported on standard error: `kob: NAME: WHAT`, one function a kind of report.
+
+use crate::ending::Ending;
+use crate::input::InputFault;
+use bstr::ByteSlice;
+use kob_mistakes::Mistake;
+use kob_scene_play::PlayFault;
+use kob_words::push_bytes;
+use std::alloc::{AllocError, Global};
+use std::io::{self, ErrorKind, Write};
+
+/// A text that was not read.
+pub fn unread(rt: &impl Eprint, name: &str, fault: &InputFault) -> Ending {
+    let _ = eprintln!(rt; "kob: {name}: {fault}");
+    match fault {
+        InputFault::Failed(error) => ending_of(error),
+        _ => Ending::Failed,
+    }
+}
+
+/// Something that the system refused.
+pub fn refused(rt: &impl Eprint, name: &str, error: &io::Error) -> Ending {
+    let _ = eprintln!(rt; "kob: {name}: {error}");
+    ending_of(error)
+}
+
+fn ending_of(error: &io::Error) -> Ending {
+    if error.kind() == ErrorKind::OutOfMemory {
+        Ending::OutOfMemory
+    } else {
+        Ending::Failed
+    }
+}
+
+/// A scene that stopped.
+pub fn stopped(rt: &impl Eprint, name: &str, fault: PlayFault) {
+    let _ = eprintln!(rt; "kob: {name}: {fault}");
+}
+
+/// More bindings than can be in force.
+pub fn too_many(rt: &impl Eprint) -> Ending {
+    let _ = eprintln!(rt; "kob: more than 100,000 different bindings");
+    Ending::Failed
+}
+
+/// Out of memory while something was done for a text.
+pub fn out_of_memory(rt: &impl Eprint, name: &str) -> Ending {
+    let _ = eprintln!(rt; "kob: {name}: out of memory");
+    Ending::OutOfMemory
+}
+
+/// The most bytes of a word that are shown.
+const SHOWN: usize = 200;
+
+/// The line of a mistake with a mark below the word that is wrong, and what was expected there.
+pub fn mistake<R: AllocGlobal + Eprint>(rt: &R, mistake: &Mistake<'_>) -> io::Result<()> {
+    let mut out = Vec::new(rt.alloc());
+    push_mistake(rt.alloc(), &mut out, mistake)?;
+    if let Ok(text) = str::from_utf8(&out) {
+        eprint!(rt; "{text}")?;
+    }
+    Ok(())
+}
+
+fn push_mistake(alloc: Global, out: &mut Vec<u8>, mistake: &Mistake<'_>) -> Result<(), AllocError> {
+    push_line(alloc, out, mistake)?;
+    push_note(out, "expected", mistake.form)?;
+    if let Some(name) = &mistake.nearest {
+        push_note(out, "nearest", name.as_str())?;
+    }
+    if let Some(hint) = mistake.hint {
+        push_note(out, "hint", hint)?;
+    }
+    Ok(())
+}
+
+fn push_note(out: &mut Vec<u8>, what: &str, text: &str) -> Result<(), AllocError> {
+    out.extend_from_slice(b"  ")?;
+    out.extend_from_slice(what.as_bytes())?;
+    out.extend_from_slice(b": ")?;
+    out.extend_from_slice(text.as_bytes())?;
+    out.extend_from_slice(b"\n")
+}
+
+/// The words of the line up to the one that is wrong and the next few, and carets below that one.
+fn push_line(alloc: Global, out: &mut Vec<u8>, mistake: &Mistake<'_>) -> Result<(), AllocError> {
+    let mut below = Vec::new(alloc);
+    out.extend_from_slice(b" ")?;
+    below.extend_from_slice(b" ")?;
+    for (place, word) in mistake.words.iter().enumerate() {
+        out.extend_from_slice(b" ")?;
+        below.extend_from_slice(b" ")?;
+        let before = out.len();
+        push_bytes(out, word.get(..SHOWN).unwrap_or(word))?;
+        let mark = if place == mistake.place { b'^' } else { b' ' };
+        for _ in before..out.len() {
+            below.push(mark)?;
+        }
+    }
+    if mistake.place >= mistake.words.len() {
+        below.extend_from_slice(b" ^")?;
+    }
+    out.extend_from_slice(b"\n")?;
+    out.extend_from_slice(below.as_slice().trim_end())?;
+    out.extend_from_slice(b"\n")
+}

@@ -1,0 +1,70 @@
+//! What the command line asks for, done.
+
+use crate::ending::Ending;
+use crate::help::help_on;
+use crate::options::{Task, task_of};
+use crate::play::{Work, do_files};
+use crate::policy::answer;
+use crate::report;
+use crate::version::VERSION;
+use clap::Error;
+use clap::error::ErrorKind;
+use std::alloc::AllocError;
+use std::io::{self, Write};
+use std::rt::{Env, Files};
+
+/// Does what the command line asks for.
+pub fn run<R: AllocGlobal + Env + Files + Input + Print + Eprint>(rt: &R) -> Ending {
+    match words_of(rt) {
+        Ok(words) => run_words(rt, &words),
+        Err(error) => report::refused(rt, "the command line", &error),
+    }
+}
+
+fn words_of<R: AllocGlobal + Env>(rt: &R) -> io::Result<Vec<String>> {
+    let mut words = Vec::new(rt.alloc());
+    for word in std::env::args(rt)? {
+        words.push(word)?;
+    }
+    Ok(words)
+}
+
+fn run_words<R: AllocGlobal + Files + Input + Print + Eprint>(rt: &R, words: &[String]) -> Ending {
+    match task_of(rt.alloc(), words) {
+        Ok(Task::Play(files)) => do_files(rt, Work::Play, &files),
+        Ok(Task::Export(files)) => do_files(rt, Work::Export, &files),
+        Ok(Task::Policy) => answer(rt, words.get(2..).unwrap_or(&[])),
+        Ok(Task::Help(subject)) => help(rt, subject.as_ref()),
+        Ok(Task::Version) => show(rt, VERSION),
+        Err(refused) => say(rt, &refused),
+    }
+}
+
+/// Prints a page of help.
+fn help<R: Print + Eprint>(rt: &R, subject: Option<&String>) -> Ending {
+    let subject = subject.map_or("", |subject| subject.as_str());
+    match help_on(subject) {
+        Some(text) => show(rt, text),
+        None => {
+            let _ = eprintln!(rt; "kob: no help on {subject}; kob help lists the subjects");
+            Ending::Failed
+        }
+    }
+}
+
+fn show<R: Print + Eprint>(rt: &R, text: &str) -> Ending {
+    match io::writer(rt).write_all(text.as_bytes()) {
+        Ok(()) => Ending::Whole,
+        Err(error) => report::refused(rt, "standard output", &error),
+    }
+}
+
+/// Prints the help, or what is wrong with the words.
+pub fn say<R: Print + Eprint>(rt: &R, refused: &Error) -> Ending {
+    let printed = refused.print(rt);
+    match refused.kind() {
+        ErrorKind::DisplayHelp if printed.is_ok() => Ending::Whole,
+        ErrorKind::OutOfMemory => Ending::OutOfMemory,
+        _ => Ending::Failed,
+    }
+}

@@ -1,0 +1,131 @@
+//! The broker after the requests of a scene, and the topics that exist then.
+
+ghost use Rattle.std.specs.Prelude.{◌≡◌, filter, IfOk, OnOk};
+ghost use Rattle.std.specs.List.{fold};
+ghost use Rattle.kob_broker.specs.Step.{state_of};
+ghost use Rattle.kob_broker.specs.State.{open_state};
+ghost use Rattle.kob.specs.Standing.{after_event, after_step, end_of, is_other, seen};
+ghost use Rattle.kob.specs.Standing.{topics_after, topics_done};
+ghost use Rattle.kob_rights.specs.declared.request.Request.TheVariants as requests;
+
+use kob_broker::{Broker, OpenFault};
+use kob_names::{PlainValue, Settings, Text};
+use kob_rights::{CreateTopics, Event, Reply, Request};
+use kob_scene_text::{Scene, Step};
+use std::alloc::{AllocError, Global};
+
+/// A topic, with its number of partitions.
+#[derive(Drop)]
+pub struct Topic {
+    pub name: Text,
+    pub partitions: u64,
+}
+
+/// A broker after requests, and the topics that exist then.
+#[derive(Drop)]
+pub struct End {
+    pub broker: Broker,
+    pub topics: Vec<Topic>,
+}
+
+/// Serves the requests of a scene, on a broker with the settings of the scene.
+pub fn end_of(alloc: Global, scene: &Scene) -> Result<End, OpenFault>
+    ensures { IfOk result (λ end. seen end ≡ end_of scene.now) }
+{
+    let mut end = End {
+        broker: broker_of(alloc, &scene.settings)?,
+        topics: Vec::new(alloc),
+    };
+    match take_steps(alloc, &mut end, &scene.steps) {
+        Ok(()) => Ok(end),
+        Err(refused) => {
+            drop(end);
+            Err(OpenFault::Memory(refused))
+        }
+    }
+}
+
+#[tactic(auto, using(std::proofs::lemmas::List::Sums::fold_more))]
+fn take_steps(alloc: Global, end: &mut End, steps: &[Step]) -> Result<(), AllocError>
+    ensures { OnOk result (seen end.new ≡ fold after_step (seen end.old) steps.now) }
+{
+    for step in steps {
+        take_step(alloc, end, step)?;
+    }
+    Ok(())
+}
+
+fn broker_of(alloc: Global, settings: &Settings) -> Result<Broker, OpenFault>
+    ensures { IfOk result (λ broker. state_of broker ≡ open_state settings.now) }
+{
+    let settings = settings.copy(alloc).map_err(OpenFault::Memory)?;
+    Broker::open(alloc, settings)
+}
+
+fn take_step(alloc: Global, end: &mut End, step: &Step) -> Result<(), AllocError>
+    ensures { OnOk result (seen end.new ≡ after_step (seen end.old) step.now) }
+{
+    match step {
+        Step::Request(event) => serve(alloc, end, event),
+        _ => Ok(()),
+    }
+}
+
+fn serve(alloc: Global, end: &mut End, event: &Event) -> Result<(), AllocError>
+    ensures { OnOk result (seen end.new ≡ after_event (seen end.old) event.now) }
+{
+    let reply = end.broker.serve(alloc, event)?;
+    note_topics(alloc, &mut end.topics, &event.request, &reply)
+}
+
+/// Notes what a request did to the topics that exist.
+fn note_topics(
+    alloc: Global,
+    topics: &mut Vec<Topic>,
+    request: &Request,
+    reply: &Reply,
+) -> Result<(), AllocError>
+    ensures { OnOk result (topics.new.items
+        ≡ topics_after request.now reply.now topics.old.items) }
+{
+    match reply {
+        Reply::Done(_) => note_done(alloc, topics, request),
+        Reply::Denied { .. } => Ok(()),
+        Reply::Refused { .. } => Ok(()),
+    }
+}
+
+fn note_done(alloc: Global, topics: &mut Vec<Topic>, request: &Request) -> Result<(), AllocError>
+    ensures { OnOk result (topics.new.items ≡ topics_done request.now topics.old.items) }
+{
+    match request {
+        Request::CreateTopics(asked) => push_topic(alloc, topics, asked),
+        Request::DeleteTopics(asked) => {
+            remove_topic(topics, &asked.name);
+            Ok(())
+        }
+        _ => Ok(()),
+    }
+}
+
+fn push_topic(
+    alloc: Global,
+    topics: &mut Vec<Topic>,
+    asked: &CreateTopics,
+) -> Result<(), AllocError>
+    ensures { OnOk result (topics.new.items
+        ≡ topics_done (requests.CreateTopics asked.now) topics.old.items) }
+{
+    let name = asked.name.copy(alloc)?;
+    topics.push(Topic {
+        name,
+        partitions: asked.partitions,
+    })?;
+    Ok(())
+}
+
+fn remove_topic(topics: &mut Vec<Topic>, name: &Text)
+    ensures { topics.new.items ≡ filter (is_other name.now) topics.old.items }
+{
+    topics.retain(|topic| topic.name != *name);
+}

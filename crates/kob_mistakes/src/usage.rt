@@ -1,0 +1,211 @@
+//! The forms of lines, as the pages show them, and the words that lines are made of.
+
+use std::alloc::{AllocError, Global};
+
+/// The names of commands, with what follows each.
+static REQUESTS: [(&str, &str); 16] = [
+    (
+        "create-topic",
+        "PRINCIPAL HOST create-topic TOPIC PARTITIONS",
+    ),
+    ("delete-topic", "PRINCIPAL HOST delete-topic TOPIC"),
+    ("metadata", "PRINCIPAL HOST metadata [TOPIC]"),
+    (
+        "produce",
+        "PRINCIPAL HOST produce TOPIC PARTITION -|ID:EPOCH:BASE [KEY=]VALUE ..",
+    ),
+    ("fetch", "PRINCIPAL HOST fetch TOPIC PARTITION OFFSET MAX"),
+    (
+        "list-offsets",
+        "PRINCIPAL HOST list-offsets TOPIC PARTITION -1|-2",
+    ),
+    (
+        "delete-records",
+        "PRINCIPAL HOST delete-records TOPIC PARTITION OFFSET|-1",
+    ),
+    ("init-producer", "PRINCIPAL HOST init-producer"),
+    (
+        "commit",
+        "PRINCIPAL HOST commit GROUP TOPIC PARTITION OFFSET",
+    ),
+    (
+        "committed",
+        "PRINCIPAL HOST committed GROUP TOPIC PARTITION",
+    ),
+    ("groups", "PRINCIPAL HOST groups"),
+    ("delete-group", "PRINCIPAL HOST delete-group GROUP"),
+    (
+        "create-acl",
+        "PRINCIPAL HOST create-acl allow|deny PRINCIPAL HOST OPERATION RESOURCE literal|prefixed NAME",
+    ),
+    (
+        "describe-acls",
+        "PRINCIPAL HOST describe-acls RESOURCE NAME PATTERN PRINCIPAL HOST OPERATION PERMISSION, each or -",
+    ),
+    (
+        "delete-acls",
+        "PRINCIPAL HOST delete-acls RESOURCE NAME PATTERN PRINCIPAL HOST OPERATION PERMISSION, each or -",
+    ),
+    ("acl", "PRINCIPAL HOST acl --add|--remove|--list OPTION .."),
+];
+
+/// The lines that begin with a word of their own.
+static LINES: [(&str, &str); 6] = [
+    ("super", "super PRINCIPAL"),
+    ("everyone", "everyone on|off"),
+    (
+        "service",
+        "service NAME PRINCIPAL HOST partitions N [by COLUMN] [replacement TEXT] [placement TEXT]",
+    ),
+    (
+        "consumer",
+        "consumer NAME PRINCIPAL HOST group GROUP max N reads TOPIC:PARTITION ..",
+    ),
+    ("journal", "journal"),
+    ("law", "law SERVICE CONSUMER"),
+];
+
+/// The steps of workers.
+static STEPS: [(&str, &str); 8] = [
+    (
+        "record",
+        "NAME record ID AGGREGATETYPE AGGREGATEID TYPE PAYLOAD KIND KEY STATE",
+    ),
+    ("business", "NAME business KIND KEY"),
+    ("tick", "NAME tick [lose-request|lose-reply]"),
+    ("run", "NAME run"),
+    ("restart", "NAME restart"),
+    ("sweep", "NAME sweep"),
+    ("outbox", "NAME outbox"),
+    ("inbox", "NAME inbox"),
+];
+
+/// The words of bindings and of options of `acl`.
+static WORDS: [&str; 50] = [
+    "allow",
+    "deny",
+    "literal",
+    "prefixed",
+    "any",
+    "match",
+    "Topic",
+    "Group",
+    "Cluster",
+    "TransactionalId",
+    "All",
+    "Read",
+    "Write",
+    "Create",
+    "Delete",
+    "Alter",
+    "Describe",
+    "ClusterAction",
+    "DescribeConfigs",
+    "AlterConfigs",
+    "IdempotentWrite",
+    "--add",
+    "--remove",
+    "--list",
+    "--allow-principal",
+    "--deny-principal",
+    "--allow-host",
+    "--deny-host",
+    "--principal",
+    "--operation",
+    "--topic",
+    "--group",
+    "--cluster",
+    "--transactional-id",
+    "--resource-pattern-type",
+    "--producer",
+    "--consumer",
+    "--idempotent",
+    "--force",
+    "--bootstrap-server",
+    "--command-config",
+    "create-topic",
+    "delete-topic",
+    "metadata",
+    "produce",
+    "fetch",
+    "commit",
+    "committed",
+    "groups",
+    "acl",
+];
+
+/// The words of declarations and steps behind their first two.
+static PARTS: [&str; 13] = [
+    "partitions",
+    "by",
+    "replacement",
+    "placement",
+    "group",
+    "max",
+    "reads",
+    "lose-request",
+    "lose-reply",
+    "aggregatetype",
+    "aggregateid",
+    "on",
+    "off",
+];
+
+/// The form of a line that has this word at its place, if there is one.
+fn form_in(forms: &'static [(&'static str, &'static str)], word: &[u8]) -> Option<&'static str> {
+    let (_, form) = forms.iter().find(|form| form.0.as_bytes() == word)?;
+    Some(form)
+}
+
+/// The form of a line, by the word that says what it is: the command of a request, the first word
+/// of a declaration or a setting, or the word after a worker's name. The general form if there is
+/// no such word.
+pub(crate) fn form_of(words: &[&[u8]]) -> &'static str {
+    match words {
+        [first, ..] if form_in(&LINES, first).is_some() => form_in(&LINES, first).unwrap_or(""),
+        [first, _, command, ..] if first.contains(&b':') => {
+            form_in(&REQUESTS, command).unwrap_or("PRINCIPAL HOST COMMAND ..")
+        }
+        [first, ..] if first.contains(&b':') => "PRINCIPAL HOST COMMAND ..",
+        [_, step, ..] => form_in(&STEPS, step).unwrap_or(
+            "PRINCIPAL HOST COMMAND .. or NAME STEP ..",
+        ),
+        _ => "PRINCIPAL HOST COMMAND .. or NAME STEP ..",
+    }
+}
+
+/// The words that may stand at a place of a line: those among which a misspelt word is looked for.
+pub(crate) fn names_at(
+    alloc: Global,
+    words: &[&[u8]],
+    place: usize,
+) -> Result<Vec<&'static str>, AllocError> {
+    let is_request = words.first().is_some_and(|first| first.contains(&b':'));
+    match (is_request, place) {
+        (true, 2) => names_of(alloc, &REQUESTS),
+        (true, _) => copied(alloc, &WORDS),
+        (false, 0) => names_of(alloc, &LINES),
+        (false, 1) => names_of(alloc, &STEPS),
+        (false, _) => copied(alloc, &PARTS),
+    }
+}
+
+/// The names of forms.
+fn names_of(
+    alloc: Global,
+    forms: &'static [(&'static str, &'static str)],
+) -> Result<Vec<&'static str>, AllocError> {
+    let mut names = Vec::new(alloc);
+    for (name, _) in forms {
+        names.push(*name)?;
+    }
+    Ok(names)
+}
+
+fn copied(alloc: Global, words: &'static [&'static str]) -> Result<Vec<&'static str>, AllocError> {
+    let mut names = Vec::new(alloc);
+    for word in words {
+        names.push(*word)?;
+    }
+    Ok(names)
+}

@@ -1,0 +1,12 @@
+pub mod Alone
+pub mod Answering
+pub mod Changing
+pub mod Deciders
+pub mod Deciding
+pub mod Listing
+pub mod Marks
+pub mod Naming
+pub mod Needing
+pub mod Shadowing
+pub mod Standing
+pub mod Texts

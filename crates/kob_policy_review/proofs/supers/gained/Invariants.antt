@@ -1,0 +1,7 @@
+use Rattle.std.proofs.Common.{take, ◌≡◌}
+use Rattle.std.specs.List.{filter}
+use Rattle.kob_policy_review.specs.Users.{is_gained}
+use Rattle.kob_policy_review.proofs.supers.gained.Given as goal
+
+abbrev pub invariant-loop-user : goal.invariant-loop-user
+invariant-loop-user l = l.found.items ≡ filter (is_gained l.before) (take l.user-index l.after)

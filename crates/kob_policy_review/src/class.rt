@@ -1,0 +1,90 @@
+//! Classes of questions that a set of rules answers alike.
+
+ghost use Rattle.std.specs.Prelude.{◌≡◌};
+ghost use Rattle.kob_policy_review.specs.Classes.{covers_party, is_for, is_met, is_on};
+ghost use Rattle.kob_policy_review.specs.Classes.{matches_below, matches_names};
+
+use kob_names::{Binding, Operation, Pattern, PatternKind, Permission, ResourceKind, Text};
+
+/// One name, or the names that begin with a text and that no longer prefixed pattern and no literal
+/// pattern takes. `Below` the empty text are the names that no pattern takes, but a literal `*`.
+#[derive(Debug, PartialEq, Eq, Drop)]
+pub enum Names {
+    Exactly(Text),
+    Below(Text),
+}
+
+/// Names of a kind of resource. The cluster has the one name `kafka-cluster`.
+#[derive(Debug, PartialEq, Eq, Drop)]
+pub struct Target {
+    pub resource: ResourceKind,
+    pub names: Names,
+}
+
+/// Questions that are answered alike. `None` as the principal is every principal that no binding
+/// names and that is no super user; `None` as the host is every host that no binding names.
+#[derive(Debug, PartialEq, Eq, Drop)]
+pub struct Class {
+    pub principal: Option<Text>,
+    pub host: Option<Text>,
+    pub operation: Operation,
+    pub target: Target,
+}
+
+fn matches_below(pattern: &Pattern, start: &Text) -> bool
+    ensures { result ≡ matches_below pattern.now.kind pattern.now.name start.now }
+{
+    let name = pattern.name.as_str();
+    match pattern.kind {
+        PatternKind::Literal => name == "*",
+        PatternKind::Prefixed => start.as_str().as_bytes().starts_with(name.as_bytes()),
+    }
+}
+
+fn matches_names(pattern: &Pattern, names: &Names) -> bool
+    ensures { result ≡ matches_names pattern.now names.now }
+{
+    match names {
+        Names::Exactly(name) => pattern.matches(name.as_str()),
+        Names::Below(start) => matches_below(pattern, start),
+    }
+}
+
+/// Whether the binding is for the kind of resource, and its pattern matches the names.
+pub(crate) fn is_on(target: &Target, entry: &(u64, Binding)) -> bool
+    ensures { result ≡ is_on target.now entry.now }
+{
+    let binding = entry.1.parts();
+    binding.resource == target.resource && matches_names(&binding.pattern, &target.names)
+}
+
+fn covers_party(all: &str, bound: &str, party: &Option<Text>) -> bool
+    ensures { result ≡ covers_party all.now bound.now party.now }
+{
+    match party {
+        Some(party) => bound == party.as_str() || bound == all,
+        None => bound == all,
+    }
+}
+
+/// Whether the binding covers the principal, whatever the host.
+pub(crate) fn is_for(principal: &Option<Text>, entry: &(u64, Binding)) -> bool
+    ensures { result ≡ is_for principal.now entry.now }
+{
+    covers_party("User:*", entry.1.parts().principal.as_str(), principal)
+}
+
+/// Whether the binding has this permission, covers the host and reaches the operation.
+pub(crate) fn is_met(
+    permission: Permission,
+    host: &Option<Text>,
+    operation: Operation,
+    entry: &(u64, Binding),
+) -> bool
+    ensures { result ≡ is_met permission host.now operation entry.now }
+{
+    let binding = entry.1.parts();
+    binding.permission == permission
+        && covers_party("*", binding.host.as_str(), host)
+        && permission.reaches(binding.operation, operation)
+}

@@ -1,0 +1,325 @@
+//! What becomes of the answers from one set of rules to another.
+
+ghost use Rattle.std.specs.Prelude.{◌≡◌, ◌++◌, IfOk, OnOk, flat_map};
+ghost use Rattle.kob_policy_review.specs.Classes.{operations};
+ghost use Rattle.kob_policy_review.specs.Difference.{ListsChanges, change_of, changes_by};
+ghost use Rattle.kob_policy_review.specs.Difference.{changes_from, changes_of, changes_on};
+ghost use Rattle.kob_policy_review.specs.Difference.{changes_to, is_listed, names_all};
+ghost use Rattle.kob_policy_review.specs.Difference.{same_outcome, targets_in};
+
+use crate::class::{Class, Names, Target};
+use crate::matching::{OPERATIONS, add_targets, targets_of};
+use crate::needed::is_super_party;
+use crate::sides::{Sides, sides_on};
+use kob_authorizer::Authorizer;
+use kob_names::{Operation, PlainValue, Principal, Text};
+use std::alloc::{AllocError, Global};
+
+/// What becomes of an answer.
+#[derive(Clone, Copy, Debug, PartialEq, Eq)]
+pub enum Outcome {
+    Same,
+    /// From no to yes.
+    Gained,
+    /// From yes to no.
+    Lost,
+}
+
+/// What becomes of the answers of a class. One with the outcome `Same` is only listed where a wider
+/// class has another: a principal that keeps its answer where all others gain.
+#[derive(Debug, Drop)]
+pub struct Change {
+    pub class: Class,
+    pub outcome: Outcome,
+}
+
+fn same_outcome(one: Outcome, other: Outcome) -> bool
+    ensures { result ≡ same_outcome one other }
+{
+    match (one, other) {
+        (Outcome::Same, Outcome::Same) => true,
+        (Outcome::Gained, Outcome::Gained) => true,
+        (Outcome::Lost, Outcome::Lost) => true,
+        _ => false,
+    }
+}
+
+fn is_listed(
+    principal: &Option<Text>,
+    host: &Option<Text>,
+    own: Outcome,
+    from_others: Outcome,
+    of_others: Outcome,
+    widest: Outcome,
+) -> bool
+    ensures { result ≡ is_listed principal.now host.now own from_others of_others widest }
+{
+    match (principal, host) {
+        (None, None) => !same_outcome(own, Outcome::Same),
+        (Some(_), None) | (None, Some(_)) => !same_outcome(own, widest),
+        (Some(_), Some(_)) => {
+            !same_outcome(own, from_others)
+                || same_outcome(from_others, widest) && !same_outcome(own, of_others)
+        }
+    }
+}
+
+/// Whether the party is the word for all, which asks as all others do.
+fn names_all(all: &str, party: &Option<Text>) -> bool
+    ensures { result ≡ names_all all.now party.now }
+{
+    match party {
+        Some(party) => party.as_str() == all,
+        None => false,
+    }
+}
+
+fn copied_names(alloc: Global, names: &Names) -> Result<Names, AllocError>
+    ensures { IfOk result (λ made. made ≡ names.now) }
+{
+    match names {
+        Names::Exactly(name) => Ok(Names::Exactly(name.copy(alloc)?)),
+        Names::Below(start) => Ok(Names::Below(start.copy(alloc)?)),
+    }
+}
+
+fn change_of(
+    alloc: Global,
+    target: &Target,
+    principal: &Option<Text>,
+    host: &Option<Text>,
+    operation: Operation,
+    outcome: Outcome,
+) -> Result<Change, AllocError>
+    ensures { IfOk result (λ made.
+        made ≡ change_of target.now principal.now host.now operation outcome) }
+{
+    let names = copied_names(alloc, &target.names)?;
+    let principal = principal.copy(alloc)?;
+    let host = host.copy(alloc)?;
+    let target = Target {
+        resource: target.resource,
+        names,
+    };
+    let class = Class {
+        principal,
+        host,
+        operation,
+        target,
+    };
+    Ok(Change { class, outcome })
+}
+
+#[tactic(auto, unfolding(crate::specs::Difference::changes_to))]
+fn push_to(
+    alloc: Global,
+    out: &mut Vec<Change>,
+    asked: &Sides,
+    others: &Sides,
+    target: &Target,
+    principal: &Option<Text>,
+    host: &Option<Text>,
+    operation: Operation,
+) -> Result<(), AllocError>
+    ensures { OnOk result (out.new.items ≡ out.old.items
+        ++ changes_to asked.now others.now target.now principal.now host.now operation) }
+{
+    let own = asked.outcome_to(host, operation);
+    let from_others = asked.outcome_to(&None, operation);
+    let of_others = others.outcome_to(host, operation);
+    let widest = others.outcome_to(&None, operation);
+    if is_listed(principal, host, own, from_others, of_others, widest) {
+        out.push(change_of(alloc, target, principal, host, operation, own)?)?;
+    }
+    Ok(())
+}
+
+fn push_operations(
+    alloc: Global,
+    out: &mut Vec<Change>,
+    asked: &Sides,
+    others: &Sides,
+    target: &Target,
+    principal: &Option<Text>,
+    host: &Option<Text>,
+) -> Result<(), AllocError>
+    ensures { OnOk result (out.new.items ≡ out.old.items
+        ++ flat_map (changes_to asked.now others.now target.now principal.now host.now)
+        operations) }
+{
+    for operation in OPERATIONS.as_slice() {
+        push_to(
+            alloc, out, asked, others, target, principal, host, *operation,
+        )?;
+    }
+    Ok(())
+}
+
+#[tactic(auto, unfolding(crate::specs::Difference::changes_from))]
+fn push_from(
+    alloc: Global,
+    out: &mut Vec<Change>,
+    asked: &Sides,
+    others: &Sides,
+    target: &Target,
+    principal: &Option<Text>,
+    host: &Option<Text>,
+) -> Result<(), AllocError>
+    ensures { OnOk result (out.new.items ≡ out.old.items
+        ++ changes_from asked.now others.now target.now principal.now host.now) }
+{
+    if names_all("*", host) {
+        return Ok(());
+    }
+    push_operations(alloc, out, asked, others, target, principal, host)
+}
+
+fn push_hosts(
+    alloc: Global,
+    out: &mut Vec<Change>,
+    asked: &Sides,
+    others: &Sides,
+    target: &Target,
+    principal: &Option<Text>,
+    hosts: &[Option<Text>],
+) -> Result<(), AllocError>
+    ensures { OnOk result (out.new.items ≡ out.old.items
+        ++ flat_map (changes_from asked.now others.now target.now principal.now) hosts.now) }
+{
+    for host in hosts {
+        push_from(alloc, out, asked, others, target, principal, host)?;
+    }
+    Ok(())
+}
+
+#[tactic(auto, unfolding(crate::specs::Difference::changes_by))]
+fn push_by(
+    alloc: Global,
+    out: &mut Vec<Change>,
+    supers_before: &[Principal],
+    supers_after: &[Principal],
+    sides: &Sides,
+    target: &Target,
+    principal: &Option<Text>,
+) -> Result<(), AllocError>
+    ensures { OnOk result (out.new.items ≡ out.old.items ++ changes_by supers_before.now
+        supers_after.now sides.now target.now principal.now) }
+{
+    if names_all("User:*", principal)
+        || is_super_party(supers_before, principal)
+        || is_super_party(supers_after, principal)
+    {
+        return Ok(());
+    }
+    let asked = sides.asked_by(alloc, principal)?;
+    let others = sides.asked_by(alloc, &None)?;
+    let hosts = asked.hosts(alloc)?;
+    push_hosts(
+        alloc,
+        out,
+        &asked,
+        &others,
+        target,
+        principal,
+        hosts.as_slice(),
+    )
+}
+
+fn push_principals(
+    alloc: Global,
+    out: &mut Vec<Change>,
+    supers_before: &[Principal],
+    supers_after: &[Principal],
+    sides: &Sides,
+    target: &Target,
+    principals: &[Option<Text>],
+) -> Result<(), AllocError>
+    ensures { OnOk result (out.new.items ≡ out.old.items
+        ++ flat_map (changes_by supers_before.now supers_after.now sides.now target.now)
+        principals.now) }
+{
+    for principal in principals {
+        push_by(
+            alloc,
+            out,
+            supers_before,
+            supers_after,
+            sides,
+            target,
+            principal,
+        )?;
+    }
+    Ok(())
+}
+
+#[tactic(auto, unfolding(crate::specs::Difference::changes_on))]
+fn push_on(
+    alloc: Global,
+    out: &mut Vec<Change>,
+    before: &Authorizer,
+    after: &Authorizer,
+    target: &Target,
+) -> Result<(), AllocError>
+    ensures { OnOk result (out.new.items ≡ out.old.items
+        ++ changes_on before.now.contents after.now.contents target.now) }
+{
+    let sides = sides_on(alloc, before, after, target)?;
+    let principals = sides.principals(alloc)?;
+    push_principals(
+        alloc,
+        out,
+        before.supers(),
+        after.supers(),
+        &sides,
+        target,
+        principals.as_slice(),
+    )
+}
+
+#[tactic(auto, unfolding(crate::specs::Difference::targets_in))]
+fn targets_in(
+    alloc: Global,
+    before: &Authorizer,
+    after: &Authorizer,
+) -> Result<Vec<Target>, AllocError>
+    ensures { IfOk result (λ made.
+        made.items ≡ targets_in before.now.contents after.now.contents) }
+{
+    let mut made = targets_of(alloc, before.entries())?;
+    add_targets(alloc, &mut made, after.entries())?;
+    Ok(made)
+}
+
+#[tactic(auto, unfolding(crate::specs::Difference::changes_of))]
+fn all_changes(
+    alloc: Global,
+    before: &Authorizer,
+    after: &Authorizer,
+) -> Result<Vec<Change>, AllocError>
+    ensures { IfOk result (λ made.
+        made.items ≡ changes_of before.now.contents after.now.contents) }
+{
+    let mut out = Vec::new(alloc);
+    let targets = targets_in(alloc, before, after)?;
+    for target in targets.as_slice() {
+        push_on(alloc, &mut out, before, after, target)?;
+    }
+    Ok(out)
+}
+
+/// What becomes of the answers from one set of rules to another, for principals that are super
+/// users neither before nor after. Empty exactly if no such answer changes. For an operation and a
+/// target a principal at a host takes the outcome that is listed for both, else for the principal
+/// at other hosts, else for other principals at the host, else for all others; else it stays.
+pub fn changes(
+    alloc: Global,
+    before: &Authorizer,
+    after: &Authorizer,
+) -> Result<Vec<Change>, AllocError>
+    ensures exact { IfOk result (λ found.
+        ListsChanges before.now.contents after.now.contents found.items) }
+    ensures listed { IfOk result (λ found.
+        found.items ≡ changes_of before.now.contents after.now.contents) }
+{
+    all_changes(alloc, before, after)
+}

@@ -1,0 +1,21 @@
+//! Answers about sets of access rules that hold for every principal, host, operation and name.
+#![tactic(auto)]
+
+mod class;
+mod difference;
+mod granting;
+mod laws;
+mod matching;
+mod needed;
+mod redundant;
+mod shadows;
+mod sides;
+mod supers;
+
+pub use class::{Class, Names, Target};
+pub use difference::{Change, Outcome, changes};
+pub use granting::{Answer, who};
+pub use laws::representatives_decide;
+pub use redundant::{Reason, Unneeded, unused};
+pub use shadows::shadowed;
+pub use supers::gained_supers;

@@ -1,0 +1,198 @@
+//! The bindings without which an answer changes.
+
+ghost use Rattle.std.specs.Prelude.{◌≡◌, ◌++◌, ◌∷◌, [], IfOk, OnOk, if◌then◌else◌};
+ghost use Rattle.kob_names.specs.Same.{same_text};
+ghost use Rattle.kob_authorizer.specs.Decide.{is_super};
+ghost use Rattle.kob_policy_review.specs.Needed.{closing, is_super_party, met, needed, needed_by};
+ghost use Rattle.kob_policy_review.specs.Needed.{needed_for, needed_from, needed_on, needed_to};
+ghost use Rattle.kob_policy_review.specs.Needed.{only_one, unless_allowed};
+
+use crate::class::{Target, is_met};
+use crate::matching::{OPERATIONS, asking, hosts_of, matching, principals_of, targets_of};
+use kob_authorizer::Authorizer;
+use kob_names::{Binding, Operation, Permission, Principal, Text};
+use std::alloc::{AllocError, Global};
+
+/// The serials of the entries that are met.
+#[tactic(auto, using(crate::proofs::Naming::meeting))]
+pub fn met(
+    alloc: Global,
+    entries: &[(u64, Binding)],
+    permission: Permission,
+    host: &Option<Text>,
+    operation: Operation,
+) -> Result<Vec<u64>, AllocError>
+    ensures { IfOk result (λ made. made.items ≡ met permission host.now operation entries.now) }
+{
+    let mut made = Vec::new(alloc);
+    for entry in entries {
+        push_if(
+            &mut made,
+            entry.0,
+            is_met(permission, host, operation, entry),
+        )?;
+    }
+    Ok(made)
+}
+
+fn push_if(made: &mut Vec<u64>, serial: u64, wanted: bool) -> Result<(), AllocError>
+    ensures { OnOk result (made.new.items ≡ made.old.items
+        ++ (if wanted then serial ∷ [] else [])) }
+{
+    if wanted {
+        made.push(serial)?;
+    }
+    Ok(())
+}
+
+/// The binding that is needed for one answer, if there is one.
+fn needed_for(alone: Option<u64>, denies: &[u64], allows: &[u64]) -> Option<u64>
+    ensures { result ≡ needed_for alone denies.now allows.now }
+{
+    match alone {
+        Some(closing) => unless_allowed(closing, allows),
+        None => only_one(denies, allows),
+    }
+}
+
+fn unless_allowed(closing: u64, allows: &[u64]) -> Option<u64>
+    ensures { result ≡ unless_allowed closing allows.now }
+{
+    if allows.is_empty() {
+        Some(closing)
+    } else {
+        None
+    }
+}
+
+fn only_one(denies: &[u64], allows: &[u64]) -> Option<u64>
+    ensures { result ≡ only_one denies.now allows.now }
+{
+    match (denies, allows) {
+        ([], [allow]) => Some(*allow),
+        ([deny], [_, ..]) => Some(*deny),
+        _ => None,
+    }
+}
+
+/// The binding that alone matches, if what none matches is open to everyone.
+fn closing(everyone: bool, entries: &[(u64, Binding)]) -> Option<u64>
+    ensures { result ≡ closing everyone entries.now }
+{
+    match entries {
+        [entry] if everyone => Some(entry.0),
+        _ => None,
+    }
+}
+
+fn is_user(principal: &Text, user: &Principal) -> bool
+    ensures { result ≡ same_text principal.now user.now }
+{
+    principal.as_str() == user.as_str()
+}
+
+fn is_super(supers: &[Principal], principal: &Text) -> bool
+    ensures { result ≡ is_super supers.now principal.now }
+{
+    supers.iter().any(|user| is_user(principal, user))
+}
+
+/// Whether the party is one principal, and a super user.
+pub fn is_super_party(supers: &[Principal], principal: &Option<Text>) -> bool
+    ensures { result ≡ is_super_party supers.now principal.now }
+{
+    match principal {
+        Some(principal) => is_super(supers, principal),
+        None => false,
+    }
+}
+
+#[tactic(auto, unfolding(crate::specs::Needed::needed_to))]
+fn push_needed_to(
+    alloc: Global,
+    out: &mut Vec<u64>,
+    alone: Option<u64>,
+    asking: &[(u64, Binding)],
+    host: &Option<Text>,
+    operation: Operation,
+) -> Result<(), AllocError>
+    ensures { OnOk result (out.new.items ≡ out.old.items
+        ++ needed_to alone asking.now host.now operation) }
+{
+    let denies = met(alloc, asking, Permission::Deny, host, operation)?;
+    let allows = met(alloc, asking, Permission::Allow, host, operation)?;
+    if let Some(serial) = needed_for(alone, denies.as_slice(), allows.as_slice()) {
+        out.push(serial)?;
+    }
+    Ok(())
+}
+
+#[tactic(auto, unfolding(crate::specs::Needed::needed_from))]
+fn push_needed_from(
+    alloc: Global,
+    out: &mut Vec<u64>,
+    alone: Option<u64>,
+    asking: &[(u64, Binding)],
+    host: &Option<Text>,
+) -> Result<(), AllocError>
+    ensures { OnOk result (out.new.items ≡ out.old.items ++ needed_from alone asking.now host.now) }
+{
+    for operation in OPERATIONS.as_slice() {
+        push_needed_to(alloc, out, alone, asking, host, *operation)?;
+    }
+    Ok(())
+}
+
+#[tactic(auto, unfolding(crate::specs::Needed::needed_by))]
+fn push_needed_by(
+    alloc: Global,
+    out: &mut Vec<u64>,
+    rules: &Authorizer,
+    matching: &[(u64, Binding)],
+    principal: &Option<Text>,
+) -> Result<(), AllocError>
+    ensures { OnOk result (out.new.items ≡ out.old.items ++ needed_by rules.now.contents.supers
+        rules.now.contents.everyone matching.now principal.now) }
+{
+    if is_super_party(rules.supers(), principal) {
+        return Ok(());
+    }
+    let alone = closing(rules.everyone(), matching);
+    let asking = asking(alloc, matching, principal)?;
+    let hosts = hosts_of(alloc, asking.as_slice())?;
+    for host in hosts.as_slice() {
+        push_needed_from(alloc, out, alone, asking.as_slice(), host)?;
+    }
+    Ok(())
+}
+
+#[tactic(auto, unfolding(crate::specs::Needed::needed_on))]
+fn push_needed_on(
+    alloc: Global,
+    out: &mut Vec<u64>,
+    rules: &Authorizer,
+    target: &Target,
+) -> Result<(), AllocError>
+    ensures { OnOk result (out.new.items ≡ out.old.items
+        ++ needed_on rules.now.contents target.now) }
+{
+    let matching = matching(alloc, rules.entries(), target)?;
+    let principals = principals_of(alloc, matching.as_slice())?;
+    for principal in principals.as_slice() {
+        push_needed_by(alloc, out, rules, matching.as_slice(), principal)?;
+    }
+    Ok(())
+}
+
+/// The serials of the bindings that are needed, each at least once.
+#[tactic(auto, unfolding(crate::specs::Needed::needed))]
+pub fn needed(alloc: Global, rules: &Authorizer) -> Result<Vec<u64>, AllocError>
+    ensures { IfOk result (λ made. made.items ≡ needed rules.now.contents) }
+{
+    let mut out = Vec::new(alloc);
+    let targets = targets_of(alloc, rules.entries())?;
+    for target in targets.as_slice() {
+        push_needed_on(alloc, &mut out, rules, target)?;
+    }
+    Ok(out)
+}

@@ -1,0 +1,197 @@
+//! Bindings without which, each taken alone, no answer at all changes.
+
+ghost use Rattle.std.specs.Prelude.{◌≡◌, ◌==◌, ◌||◌, IfOk, ℕ, filter, map, nat_eq, not};
+ghost use Rattle.std.specs.List.{list_any};
+ghost use Rattle.kob_names.specs.Binding.{reaches};
+ghost use Rattle.std.specs.HashSet.{contains};
+ghost use Rattle.kob_policy_review.specs.Redundancy.{ListsUnused, bears_on_all, binds_all};
+ghost use Rattle.kob_policy_review.specs.Redundancy.{first_wider, is_outside, is_wider, reaches_all};
+ghost use Rattle.kob_policy_review.specs.Redundancy.{reason_by, reason_of, takes_all};
+ghost use Rattle.kob_policy_review.specs.Redundancy.{unused_entry, unused_in};
+ghost use Rattle.kob_authorizer.specs.Decide.{is_super};
+
+use crate::matching::OPERATIONS;
+use crate::needed::needed;
+use kob_authorizer::Authorizer;
+use kob_names::{Binding, Draft, Operation, Pattern, PatternKind, Permission, Principal};
+use std::alloc::{AllocError, Global};
+use std::collections::HashSet;
+
+/// Why a binding is not needed. The first that holds is given, in this order.
+#[derive(Clone, Copy, Debug, PartialEq, Eq)]
+pub enum Reason {
+    /// Its principal is a super user.
+    Super,
+    /// The binding with this serial has the same permission and bears on all that this one does.
+    CoveredBy(u64),
+    /// It is an allow, and the deny with this serial bears on all that it does.
+    DeniedBy(u64),
+    /// None of these alone: several bindings together, or a deny of what nothing allows.
+    Together,
+}
+
+/// A binding that is not needed.
+#[derive(Clone, Copy, Debug, PartialEq, Eq)]
+pub struct Unneeded {
+    pub serial: u64,
+    pub reason: Reason,
+}
+
+fn takes_all(wide: &Pattern, narrow: &Pattern) -> bool
+    ensures { result ≡ takes_all wide.now.kind wide.now.name narrow.now.kind narrow.now.name }
+{
+    let name = narrow.name.as_str();
+    let start = wide.name.as_str();
+    match (wide.kind, narrow.kind) {
+        (PatternKind::Literal, PatternKind::Literal) => start == "*" || start == name,
+        (PatternKind::Literal, PatternKind::Prefixed) => start == "*",
+        (PatternKind::Prefixed, PatternKind::Literal) => {
+            name != "*" && name.as_bytes().starts_with(start.as_bytes())
+        }
+        (PatternKind::Prefixed, PatternKind::Prefixed) => {
+            name.as_bytes().starts_with(start.as_bytes())
+        }
+    }
+}
+
+fn binds_all(all: &str, wide: &str, narrow: &str) -> bool
+    ensures { result ≡ binds_all all.now wide.now narrow.now }
+{
+    wide == narrow || wide == all
+}
+
+fn reaches_too(wide: &Draft, narrow: &Draft, operation: Operation) -> bool
+    ensures { result ≡ (not (reaches narrow.now.permission narrow.now.operation operation)
+        || reaches wide.now.permission wide.now.operation operation) }
+{
+    !narrow.permission.reaches(narrow.operation, operation)
+        || wide.permission.reaches(wide.operation, operation)
+}
+
+fn reaches_all(wide: &Draft, narrow: &Draft) -> bool
+    ensures { result ≡ reaches_all wide.now narrow.now }
+{
+    OPERATIONS
+        .iter()
+        .all(|operation| reaches_too(wide, narrow, *operation))
+}
+
+/// Whether a binding bears on all that another one does.
+fn bears_on_all(wide: &Draft, narrow: &Draft) -> bool
+    ensures { result ≡ bears_on_all wide.now narrow.now }
+{
+    wide.resource == narrow.resource
+        && takes_all(&wide.pattern, &narrow.pattern)
+        && binds_all("User:*", wide.principal.as_str(), narrow.principal.as_str())
+        && binds_all("*", wide.host.as_str(), narrow.host.as_str())
+        && reaches_all(wide, narrow)
+}
+
+fn is_wider(permission: Permission, narrow: &(u64, Binding), wide: &(u64, Binding)) -> bool
+    ensures { result ≡ is_wider permission narrow.now wide.now }
+{
+    wide.0 != narrow.0
+        && wide.1.parts().permission == permission
+        && bears_on_all(wide.1.parts(), narrow.1.parts())
+}
+
+fn first_wider(
+    entries: &[(u64, Binding)],
+    permission: Permission,
+    narrow: &(u64, Binding),
+) -> Option<u64>
+    ensures { result ≡ first_wider entries.now permission narrow.now }
+{
+    let wider = entries
+        .iter()
+        .find(|entry| is_wider(permission, narrow, entry))?;
+    Some(wider.0)
+}
+
+pub fn is_super(supers: &[Principal], principal: &Principal) -> bool
+    ensures { result ≡ is_super supers.now principal.now }
+{
+    supers.iter().any(|user| principal == user)
+}
+
+fn reason_by(permission: Permission, is_super: bool, same: Option<u64>, deny: Option<u64>) -> Reason
+    ensures { result ≡ reason_by permission is_super same deny }
+{
+    match (is_super, same, deny) {
+        (true, _, _) => Reason::Super,
+        (false, Some(serial), _) => Reason::CoveredBy(serial),
+        (false, None, Some(serial)) if permission == Permission::Allow => Reason::DeniedBy(serial),
+        (false, None, _) => Reason::Together,
+    }
+}
+
+fn reason_of(rules: &Authorizer, entry: &(u64, Binding)) -> Reason
+    ensures { result ≡ reason_of rules.now.contents entry.now }
+{
+    let binding = entry.1.parts();
+    let same = first_wider(rules.entries(), binding.permission, entry);
+    let deny = first_wider(rules.entries(), Permission::Deny, entry);
+    reason_by(
+        binding.permission,
+        is_super(rules.supers(), &binding.principal),
+        same,
+        deny,
+    )
+}
+
+/// The set of these serials.
+pub fn set_of(alloc: Global, serials: &[u64]) -> Result<HashSet<u64>, AllocError>
+    ensures { IfOk result (λ set. (serial : ℕ) → contains nat_eq set serial
+        ≡ list_any (λ other. other == serial) serials.now) }
+{
+    let mut set = HashSet::new(alloc);
+    for serial in serials {
+        set.insert(*serial)?;
+    }
+    Ok(set)
+}
+
+fn is_unneeded(set: &HashSet<u64>, entry: &(u64, Binding)) -> bool
+    ensures { result ≡ not (contains nat_eq set.now entry.now.0) }
+{
+    !set.contains(&entry.0)
+}
+
+fn with_reason(rules: &Authorizer, entry: &(u64, Binding)) -> Unneeded
+    ensures { result ≡ unused_entry rules.now.contents entry.now }
+{
+    Unneeded {
+        serial: entry.0,
+        reason: reason_of(rules, entry),
+    }
+}
+
+/// Those whose serials are not in the set.
+fn outside(
+    alloc: Global,
+    rules: &Authorizer,
+    entries: &[(u64, Binding)],
+    set: &HashSet<u64>,
+) -> Result<Vec<Unneeded>, AllocError>
+    ensures { IfOk result (λ found. found.items ≡ map (unused_entry rules.now.contents)
+        (filter (is_outside (contains nat_eq set.now)) entries.now)) }
+{
+    entries
+        .iter()
+        .filter(|entry| is_unneeded(set, entry))
+        .map(|entry| with_reason(rules, entry))
+        .collect(alloc)
+}
+
+/// The bindings without which, each taken alone, no answer at all changes: for no principal, no
+/// host, no operation and no name. By ascending serial, each with its reason. Two that stand in for
+/// each other are both listed; `removable` tells which may go together.
+pub fn unused(alloc: Global, rules: &Authorizer) -> Result<Vec<Unneeded>, AllocError>
+    ensures exact { IfOk result (λ found. ListsUnused rules.now.contents found.items) }
+    ensures listed { IfOk result (λ found. found.items ≡ unused_in rules.now.contents) }
+{
+    let entries = rules.entries();
+    let serials = needed(alloc, rules)?;
+    let set = set_of(alloc, serials.as_slice())?;
+    outside(alloc, rules, entries, &set)
+}

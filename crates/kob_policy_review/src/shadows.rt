@@ -1,0 +1,168 @@
+//! Allows that a deny always beats.
+
+ghost use Rattle.std.specs.Prelude.{◌≡◌, ◌++◌, IfOk, OnOk, filter, map, nat_eq};
+ghost use Rattle.std.specs.HashSet.{contains};
+ghost use Rattle.std.specs.List.{list_any};
+ghost use Rattle.kob_names.specs.declared.kinds.Permission.TheVariants.{Deny};
+ghost use Rattle.kob_policy_review.specs.Classes.{is_met};
+ghost use Rattle.kob_policy_review.specs.Shadows.{ListsShadowed, bearing, bearing_by, bearing_from};
+ghost use Rattle.kob_policy_review.specs.Shadows.{bearing_on, bearing_to, is_between, serial_of_entry};
+
+use crate::class::{Target, is_met};
+use crate::matching::{OPERATIONS, asking, hosts_of, matching, principals_of, targets_of};
+use crate::needed::{is_super_party, met};
+use crate::redundant::set_of;
+use kob_authorizer::Authorizer;
+use kob_names::{Binding, Operation, Permission, Principal, Text};
+use std::alloc::{AllocError, Global};
+use std::collections::HashSet;
+
+fn some_denies(asking: &[(u64, Binding)], host: &Option<Text>, operation: Operation) -> bool
+    ensures { result ≡ list_any (is_met Deny host.now operation) asking.now }
+{
+    asking
+        .iter()
+        .any(|entry| is_met(Permission::Deny, host, operation, entry))
+}
+
+#[tactic(auto, unfolding(crate::specs::Shadows::bearing_to))]
+fn push_to(
+    alloc: Global,
+    out: &mut Vec<u64>,
+    beaten: bool,
+    asking: &[(u64, Binding)],
+    host: &Option<Text>,
+    operation: Operation,
+) -> Result<(), AllocError>
+    ensures { OnOk result (out.new.items ≡ out.old.items
+        ++ bearing_to beaten asking.now host.now operation) }
+{
+    if beaten && some_denies(asking, host, operation) {
+        return Ok(());
+    }
+    let serials = met(alloc, asking, Permission::Allow, host, operation)?;
+    out.extend_from_slice(serials.as_slice())?;
+    Ok(())
+}
+
+#[tactic(auto, unfolding(crate::specs::Shadows::bearing_from))]
+fn push_from(
+    alloc: Global,
+    out: &mut Vec<u64>,
+    beaten: bool,
+    asking: &[(u64, Binding)],
+    host: &Option<Text>,
+) -> Result<(), AllocError>
+    ensures { OnOk result (out.new.items ≡ out.old.items ++ bearing_from beaten asking.now host.now) }
+{
+    for operation in OPERATIONS.as_slice() {
+        push_to(alloc, out, beaten, asking, host, *operation)?;
+    }
+    Ok(())
+}
+
+#[tactic(auto, unfolding(crate::specs::Shadows::bearing_by))]
+fn push_by(
+    alloc: Global,
+    out: &mut Vec<u64>,
+    beaten: bool,
+    supers: &[Principal],
+    matching: &[(u64, Binding)],
+    principal: &Option<Text>,
+) -> Result<(), AllocError>
+    ensures { OnOk result (out.new.items ≡ out.old.items
+        ++ bearing_by beaten supers.now matching.now principal.now) }
+{
+    if is_super_party(supers, principal) {
+        return Ok(());
+    }
+    let asking = asking(alloc, matching, principal)?;
+    let hosts = hosts_of(alloc, asking.as_slice())?;
+    for host in hosts.as_slice() {
+        push_from(alloc, out, beaten, asking.as_slice(), host)?;
+    }
+    Ok(())
+}
+
+#[tactic(auto, unfolding(crate::specs::Shadows::bearing_on))]
+fn push_on(
+    alloc: Global,
+    out: &mut Vec<u64>,
+    beaten: bool,
+    rules: &Authorizer,
+    target: &Target,
+) -> Result<(), AllocError>
+    ensures { OnOk result (out.new.items ≡ out.old.items
+        ++ bearing_on beaten rules.now.contents target.now) }
+{
+    let matching = matching(alloc, rules.entries(), target)?;
+    let principals = principals_of(alloc, matching.as_slice())?;
+    for principal in principals.as_slice() {
+        push_by(
+            alloc,
+            out,
+            beaten,
+            rules.supers(),
+            matching.as_slice(),
+            principal,
+        )?;
+    }
+    Ok(())
+}
+
+/// The serials of the allows that bear on a question of one who is no super user: with `beaten`, on
+/// one that no deny bears on.
+#[tactic(auto, unfolding(crate::specs::Shadows::bearing))]
+fn bearing(alloc: Global, beaten: bool, rules: &Authorizer) -> Result<Vec<u64>, AllocError>
+    ensures { IfOk result (λ made. made.items ≡ bearing beaten rules.now.contents) }
+{
+    let mut out = Vec::new(alloc);
+    let targets = targets_of(alloc, rules.entries())?;
+    for target in targets.as_slice() {
+        push_on(alloc, &mut out, beaten, rules, target)?;
+    }
+    Ok(out)
+}
+
+fn is_between(some: &HashSet<u64>, others: &HashSet<u64>, entry: &(u64, Binding)) -> bool
+    ensures { result ≡ is_between (contains nat_eq some.now) (contains nat_eq others.now) entry.now }
+{
+    some.contains(&entry.0) && !others.contains(&entry.0)
+}
+
+fn serial_of(entry: &(u64, Binding)) -> u64
+    ensures { result ≡ serial_of_entry entry.now }
+{
+    entry.0
+}
+
+/// The serials of the entries that are in the one set and not in the other.
+fn between(
+    alloc: Global,
+    entries: &[(u64, Binding)],
+    some: &HashSet<u64>,
+    others: &HashSet<u64>,
+) -> Result<Vec<u64>, AllocError>
+    ensures { IfOk result (λ found. found.items ≡ map serial_of_entry
+        (filter (is_between (contains nat_eq some.now) (contains nat_eq others.now)) entries.now)) }
+{
+    entries
+        .iter()
+        .filter(|entry| is_between(some, others, entry))
+        .map(|entry| serial_of(entry))
+        .collect(alloc)
+}
+
+/// The serials of the allows that a deny always beats: wherever such an allow bears on what one who
+/// is no super user asks, a deny does too. By ascending serial. An allow for a super user alone is
+/// not listed.
+pub fn shadowed(alloc: Global, rules: &Authorizer) -> Result<Vec<u64>, AllocError>
+    ensures { IfOk result (λ found. ListsShadowed rules.now.contents found.items) }
+{
+    let entries = rules.entries();
+    let bearing_at_all = bearing(alloc, false, rules)?;
+    let some = set_of(alloc, bearing_at_all.as_slice())?;
+    let unbeaten = bearing(alloc, true, rules)?;
+    let others = set_of(alloc, unbeaten.as_slice())?;
+    between(alloc, entries, &some, &others)
+}

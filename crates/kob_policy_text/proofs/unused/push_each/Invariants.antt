@@ -1,0 +1,7 @@
+use Rattle.std.proofs.Common.{flat_map, take, ◌++◌, ◌≡◌}
+use Rattle.kob_policy_text.specs.Review.{unneeded_text}
+use Rattle.kob_policy_text.proofs.unused.push_each.Given as goal
+
+abbrev pub invariant-loop-one : goal.invariant-loop-one
+invariant-loop-one l =
+    l.out.items ≡ l.initial.out.items ++ flat_map (unneeded_text l.judge) (take l.one-index l.found)

@@ -1,0 +1,117 @@
+-- How answers over all principals, hosts and names are printed, and all answers in their order.
+use Rattle.std.specs.Prelude.{ℕ, ◌+◌, Bool, true, false, List, [], ◌∷◌, ◌++◌, Option, Some, None, codes, flat_map, if◌then◌else◌}
+use Rattle.std.specs.Fmt.{decimal}
+use Rattle.kob_authorizer.specs.Decide.{is_super, question_of}
+use Rattle.kob_policy_review.specs.Difference.{changes_of}
+use Rattle.kob_policy_review.specs.Redundancy.{unused_in}
+use Rattle.kob_policy_review.specs.declared.class.Class.{Class}
+use Rattle.kob_policy_review.specs.declared.class.Names.{Names}
+use Rattle.kob_policy_review.specs.declared.class.Names.TheVariants.{Exactly, Below}
+use Rattle.kob_policy_review.specs.declared.difference.Change.{Change}
+use Rattle.kob_policy_review.specs.declared.difference.Outcome.{Outcome}
+use Rattle.kob_policy_review.specs.declared.difference.Outcome.TheVariants.{Same, Gained, Lost}
+use Rattle.kob_policy_review.specs.declared.redundant.Reason.{Reason}
+use Rattle.kob_policy_review.specs.declared.redundant.Reason.TheVariants.{CoveredBy, DeniedBy, Super, Together}
+use Rattle.kob_policy_review.specs.declared.redundant.Unneeded.{Unneeded}
+use Rattle.kob_policy_text.specs.Answers.{hand_of, line_by, may_text, request_text, sees_text, shadowed_text, who_text}
+use Rattle.kob_policy_text.specs.AtHand.{asked_at_hand}
+use Rattle.kob_policy_text.specs.Policy.{Policy, contents_of, may}
+use Rattle.kob_policy_text.specs.Questions.{Questions}
+use Rattle.kob_policy_text.specs.declared.question.Question.{Question}
+use Rattle.kob_policy_text.specs.declared.question.Question.TheVariants.{May, Ask, Who, Sees, Unused, Shadowed}
+use Rattle.kob_words.specs.Words.{bytes_text, operation_name, resource_name}
+
+-- why no answer needs a binding
+abbrev pub why_text : Reason → List ℕ
+why_text Super = codes "    its principal is a super user\n"
+why_text (CoveredBy serial) = codes "    covered by " ++ decimal serial ++ codes "\n"
+why_text (DeniedBy serial) = codes "    denied by " ++ decimal serial ++ codes "\n"
+why_text Together = codes "    covered by several, or nothing to deny\n"
+
+unfoldable pub unneeded_text : Policy → Unneeded → List ℕ
+unneeded_text policy one = line_by policy (Some one.serial) ++ why_text one.reason
+
+-- the bindings without which, each taken alone, no answer at all changes
+abbrev pub unused_text : Policy → List ℕ
+unused_text policy =
+    codes "unused\n" ++ flat_map (unneeded_text policy) (unused_in (contents_of policy))
+
+-- a principal or a host, or all that no binding names
+abbrev pub party_text : List ℕ → Option (List ℕ) → List ℕ
+party_text all None = all
+party_text all (Some party) = bytes_text party
+
+-- a name, or those that begin so and that no longer pattern takes
+abbrev pub names_text : Names → List ℕ
+names_text (Exactly name) = bytes_text name
+names_text (Below start) = bytes_text start ++ codes "* (others)"
+
+-- who asks, and from where
+unfoldable pub asker_text : Class → List ℕ
+asker_text class =
+    party_text (codes "User:* (others)") class.principal ++ codes " "
+    ++ party_text (codes "* (others)") class.host ++ codes " "
+
+-- OPERATION RESOURCE NAME
+unfoldable pub target_text : Class → List ℕ
+target_text class =
+    operation_name class.operation ++ codes " " ++ resource_name class.target.resource
+    ++ codes " " ++ names_text class.target.names
+
+abbrev pub outcome_text : Outcome → List ℕ
+outcome_text Gained = codes " no -> yes\n"
+outcome_text Lost = codes " yes -> no\n"
+outcome_text Same = codes " unchanged\n"
+
+unfoldable pub change_line : Change → List ℕ
+change_line change =
+    asker_text change.class ++ target_text change.class ++ outcome_text change.outcome
+
+-- a super user on one side alone
+unfoldable pub super_line : List ℕ → List (List ℕ) → List ℕ → List ℕ
+super_line what others user =
+    if is_super others user then [] else codes "super " ++ bytes_text user ++ what
+
+abbrev pub supers_text : Policy → Policy → List ℕ
+supers_text before after =
+    flat_map (super_line (codes " removed\n") after.supers) before.supers
+    ++ flat_map (super_line (codes " added\n") before.supers) after.supers
+
+abbrev pub everyone_text : Bool → Bool → List ℕ
+everyone_text false true = codes "everyone off -> on\n"
+everyone_text true false = codes "everyone on -> off\n"
+everyone_text before after = []
+
+-- what changes: super users, who is let in where no binding matches, and each answer
+abbrev pub changes_text : Policy → Policy → List ℕ
+changes_text before after =
+    supers_text before after ++ everyone_text before.everyone after.everyone
+    ++ flat_map change_line (changes_of (contents_of before) (contents_of after))
+
+-- the answer to a question, with the names of topics that are given
+abbrev pub question_text : Policy → List (List ℕ) → Question → List ℕ
+question_text policy topics (May asker right) = may_text policy
+    (may policy
+    (question_of asker.principal asker.host right.operation right.resource right.name))
+question_text policy topics (Ask event) = request_text policy event
+question_text policy topics (Who right host) = who_text policy right host
+question_text policy topics (Sees asker) = sees_text policy topics asker
+question_text policy topics Unused = unused_text policy
+question_text policy topics Shadowed = shadowed_text policy (asked_at_hand (hand_of policy topics))
+
+-- an answer behind its number
+abbrev pub answer_line : Policy → List (List ℕ) → ℕ → Question → List ℕ
+answer_line policy topics number question =
+    decimal number ++ codes " " ++ question_text policy topics question
+
+-- the answers, numbered from one on
+unfoldable pub answers_text : Policy → List (List ℕ) → ℕ → List Question → List ℕ
+answers_text policy topics number [] = []
+answers_text policy topics number (question ∷ others) =
+    answer_line policy topics number question ++ answers_text policy topics (number + 1) others
+
+-- what changes, and then the answers of the second policy
+abbrev pub review_text : Policy → Policy → Questions → List ℕ
+review_text before after questions =
+    changes_text before after
+    ++ answers_text after questions.topics 1 questions.asked

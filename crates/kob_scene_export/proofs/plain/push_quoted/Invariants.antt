@@ -1,0 +1,7 @@
+use Rattle.std.proofs.Common.{◌≡◌, ◌++◌, flat_map, take}
+use Rattle.kob_scene_export.specs.Plain.{quoted_byte}
+use Rattle.kob_scene_export.proofs.plain.push_quoted.Given as goal
+
+abbrev pub invariant-loop-byte : goal.invariant-loop-byte
+invariant-loop-byte l =
+    l.out.items ≡ l.initial.out.items ++ flat_map quoted_byte (take l.byte-index l.text)

@@ -1,0 +1,40 @@
+-- What ends a scene before its last step, by what ended a part of a step.
+use Rattle.std.specs.Prelude.{Option, Some, None}
+use Rattle.kob_inbox.specs.declared.fault.InboxFault.{InboxFault}
+use Rattle.kob_inbox.specs.declared.fault.InboxFault.TheVariants as of_inbox
+use Rattle.kob_inbox.specs.declared.tick.StopReason.TheVariants as consumer_stop
+use Rattle.kob_inbox.specs.declared.tick.Tick.{Tick as ConsumerTick}
+use Rattle.kob_inbox.specs.declared.tick.Tick.TheVariants as consumer_tick
+use Rattle.kob_outbox.specs.declared.fault.OutboxFault.{OutboxFault}
+use Rattle.kob_outbox.specs.declared.fault.OutboxFault.TheVariants as of_outbox
+use Rattle.kob_router.specs.declared.tick.StopReason.TheVariants as service_stop
+use Rattle.kob_router.specs.declared.tick.Tick.{Tick as ServiceTick}
+use Rattle.kob_router.specs.declared.tick.Tick.TheVariants as service_tick
+use Rattle.kob_scene_play.specs.declared.fault.PlayFault.{PlayFault}
+use Rattle.kob_scene_play.specs.declared.fault.PlayFault.TheVariants.{Memory, JournalFull, Store}
+use Rattle.kob_shared.specs.declared.faults.CallFault.{CallFault}
+use Rattle.kob_shared.specs.declared.faults.CallFault.TheVariants as of_call
+
+abbrev pub fault_of_call : CallFault → PlayFault
+fault_of_call (of_call.Memory e) = Memory e
+fault_of_call of_call.JournalFull = JournalFull
+fault_of_call (of_call.Stale length) = JournalFull
+
+abbrev pub fault_of_outbox : OutboxFault → PlayFault
+fault_of_outbox (of_outbox.Memory e) = Memory e
+fault_of_outbox of_outbox.Store = Store
+
+abbrev pub fault_of_inbox : InboxFault → PlayFault
+fault_of_inbox (of_inbox.Memory e) = Memory e
+fault_of_inbox of_inbox.Store = Store
+
+-- why a tick stopped that ran out of memory or whose database failed; every other stop is a result
+abbrev pub stop_of_service : ServiceTick → Option PlayFault
+stop_of_service (service_tick.Stopped (service_stop.Memory e)) = Some (Memory e)
+stop_of_service (service_tick.Stopped service_stop.Store) = Some Store
+stop_of_service tick = None
+
+abbrev pub stop_of_consumer : ConsumerTick → Option PlayFault
+stop_of_consumer (consumer_tick.Stopped (consumer_stop.Memory e)) = Some (Memory e)
+stop_of_consumer (consumer_tick.Stopped consumer_stop.Store) = Some Store
+stop_of_consumer tick = None

@@ -1,0 +1,14 @@
+# Completions of kob for bash.
+_kob() {
+    local word=${COMP_WORDS[COMP_CWORD]} task=${COMP_WORDS[1]}
+    if [ "$COMP_CWORD" -eq 1 ]; then
+        mapfile -t COMPREPLY < <(compgen -W "play export policy help --help --version" -- "$word")
+    elif [ "$task" = help ]; then
+        mapfile -t COMPREPLY < <(compgen -W "play export policy scene" -- "$word")
+    elif [ "$task" = policy ] && [[ $word == -* ]]; then
+        mapfile -t COMPREPLY < <(compgen -W "--policy --questions --topics --before --after --skip --next --help" -- "$word")
+    else
+        mapfile -t COMPREPLY < <(compgen -f -- "$word")
+    fi
+}
+complete -o filenames -F _kob kob
