@@ -5,6 +5,7 @@ ghost use Rattle.std.specs.Prelude.{◌≡◌};
 ghost use Rattle.kob_run.specs.Status.{status_of};
 
 use kob_text::{Ended, RunFault, run_text};
+use std::env::FillError;
 use std::io;
 use std::process::ExitCode;
 use std::rt::Env;
@@ -19,11 +20,8 @@ fn main(rt: HostRuntime) -> ExitCode {
 }
 
 /// Whether the command line has a word after the program's name.
-fn is_given_words<R: AllocGlobal + Env>(rt: &R) -> bool {
-    match std::env::args(rt) {
-        Ok(words) => words.skip(1).next().is_some(),
-        Err(_) => true,
-    }
+fn is_given_words(rt: &impl Env) -> bool {
+    !matches!(rt.arg(1, &mut []), Err(FillError::NotPresent))
 }
 
 /// 0 for a script that was served to its end, 2 for out of memory, and 1 for every other end.
