@@ -1,3 +1,5 @@
+mod Entries
+mod Idling
 pub mod Reachings
 pub mod Runs
 pub mod Servings

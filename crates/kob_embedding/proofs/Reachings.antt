@@ -1,13 +1,15 @@
 -- What a journal and the calls of two lines say of an inbox.
 use Rattle.kob_embedding.proofs.Words.{ArePrivate, AreServed, Call, Entry, Event, HasRun, ReachesReader, IsLegal, IsReaderRun, IsSenderRun, List, Place, ReachesInOrder, ReaderLeft, Retained, ServiceLeft, Settings, State, Subscription, arith, holds_a_prefix, legal_is_history, nat_tests, opened_by, served_to, state_of, subst, sym, view_after, ℕ, ◌≡◌}
+use Rattle.kob_embedding.specs.Running.{HasPremises}
+use Rattle.kob_pipeline.specs.View.{IsBreach}
+use Rattle.std.proofs.Common.{Bool, IsTrue, true}
+use Rattle.kob_pipeline.specs.declared.premises.Breach.{Breach}
 use Rattle.kob_router.specs.Tick as router
 
 pub delivered : (opening : Settings) (journal : List Entry) (now : State Retained) (s : ServiceLeft) (r : ReaderLeft)
     → IsLegal (opened_by opening) journal now
-    → AreServed s.calls (served_to s.worker journal) → AreServed r.calls (served_to r.worker journal)
-    → ArePrivate s.worker r.worker r.fetcher.subscription.group r.fetcher.subscription.assignment journal
-    → HasRun s.relayed s.calls → IsReaderRun r.fetcher r.inbox r.calls → ReachesReader s r
-delivered opening journal now s r legal sent taken private ran read = record {
+    → HasPremises s r journal → HasRun s.relayed s.calls → IsReaderRun r.fetcher r.inbox r.calls → ReachesReader s r
+delivered opening journal now s r legal premises ran read = record {
   recorded = ran;
   reaches = λ (rows : List Event) (kind id : List ℕ) (one : IsSenderRun s.relayed s.calls rows).
       subst (λ (all : List Event). ReachesInOrder all r.inbox kind id) (sym one.recorded)
@@ -16,13 +18,13 @@ delivered opening journal now s r legal sent taken private ran read = record {
       (legal_is_history opening journal now legal)
       (record {
         run = one.run;
-        served = subst (λ (calls : List Call). AreServed calls (served_to s.worker journal)) one.made sent;
+        served = subst (λ (calls : List Call). AreServed calls (served_to s.worker journal)) one.made premises.sent;
       })
       (record {
         run = read.run;
-        served = subst (λ (calls : List Call). AreServed calls (served_to r.worker journal)) read.made taken;
+        served = subst (λ (calls : List Call). AreServed calls (served_to r.worker journal)) read.made premises.taken;
       })
-      private);
+      premises.private);
 }
 
 -- the same calls of the same worker in the same journal
@@ -36,3 +38,19 @@ pub private_in_it : (sender own taker other : ℕ) (t u : Subscription) (places 
     → ArePrivate sender taker t.group places journal → ArePrivate own other u.group u.assignment all
 private_in_it sender own taker other t u places journal all one two same assigned three private =
     grind (arith, nat_tests)
+
+-- the calls that a journal does not have
+pub unserved_in_it : (calls now : List Call) (worker own : ℕ) (journal all : List Entry) → calls ≡ now → worker ≡ own
+    → journal ≡ all → (AreServed calls (served_to worker journal) → ⊥) → AreServed now (served_to own all) → ⊥
+unserved_in_it calls now worker own journal all one two three unserved served =
+    unserved (served_in_it now calls own worker all journal (sym one) (sym two) (sym three) served)
+
+-- the same breach
+pub breach_in_it : (sender own taker other : ℕ) (t u : Subscription) (places : List Place) (journal all : List Entry)
+    (breach : Breach) → sender ≡ own → taker ≡ other → t ≡ u → places ≡ t.assignment → journal ≡ all
+    → IsBreach sender taker t.group places journal breach → IsBreach own other u.group u.assignment all breach
+breach_in_it sender own taker other t u places journal all breach one two same assigned three broken =
+    grind (arith, nat_tests)
+
+pub is_true : (b : Bool) → b ≡ true → IsTrue b
+is_true b h = grind (arith, nat_tests)

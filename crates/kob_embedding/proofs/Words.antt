@@ -1,6 +1,6 @@
 -- The names that the lemmas cite, passed on from one place.
 pub use Rattle.kob_broker.specs.State.{State}
-pub use Rattle.kob_embedding.specs.Running.{HasRun, ReachesReader, IsReaderRun, IsSenderRun, ReaderLeft, RecordsNoRow, ServiceLeft, IsNext, Serves}
+pub use Rattle.kob_embedding.specs.Running.{HasRun, ReachesReader, IsReaderRun, IsSenderRun, ReaderLeft, RecordsNoRow, ServiceLeft}
 pub use Rattle.kob_inbox.specs.Contents.{placed_intake}
 pub use Rattle.kob_inbox.specs.Run.Move.{Restarted}
 pub use Rattle.kob_inbox.specs.Tick.{state_of}
@@ -36,4 +36,4 @@ pub use Rattle.std.proofs.lemmas.Bool.{eq-eqb, ne_eqb}
 pub use Rattle.std.proofs.lemmas.Bool.Decides.{nat_tests}
 pub use Rattle.std.proofs.lemmas.List.{drop_more, length-map}
 pub use Rattle.std.proofs.lemmas.List.FromFn.{length-enumerate_from}
-pub use Rattle.std.specs.Prelude.{Err, None, Ok, OnErr, OnOk, Result, Some, if◌then◌else◌, slice_get, ◌⊎◌}
+pub use Rattle.std.specs.Prelude.{Err, None, Ok, OnErr, OnOk, Result, Some, if◌then◌else◌, slice_get, ◌↔◌, ◌⊎◌}

@@ -1,5 +1,5 @@
 -- A service and a consumer since they began.
-use Rattle.std.specs.Prelude.{ℕ, List, ◌≡◌, ◌+◌, ◌<◌, ◌∷◌, drop, length, Some, slice_get}
+use Rattle.std.specs.Prelude.{ℕ, List, ◌≡◌, suc, zero}
 use Rattle.kob_inbox.specs.Contents.{Contents}
 use Rattle.kob_inbox.specs.declared.fetcher.Fetcher.{Fetcher}
 use Rattle.kob_lines.specs.Relayed.{HasConsumerRun, Relayed, HasServiceRun}
@@ -8,10 +8,15 @@ use Rattle.kob_pipeline.specs.Plans.{ReachesInOrder}
 use Rattle.kob_router.specs.Run.{dispatch_of}
 use Rattle.kob_router.specs.declared.line.Call.{Call}
 use Rattle.kob_shared.specs.declared.journal.Entry.{Entry}
-use Rattle.kob_router.specs.Line.{AreServed}
-use Rattle.kob_lines.specs.Calls.{served_in}
-use Rattle.kob_pipeline.specs.Served.{served_to}
+use Rattle.kob_embedding.specs.declared.reaching.DeliveryFault.{DeliveryFault}
+use Rattle.kob_embedding.specs.declared.reaching.DeliveryFault.TheVariants as faults
 use Rattle.kob_inbox.specs.Tick as consumer
+use Rattle.kob_inbox.specs.Tick.{Point, Ticks}
+use Rattle.kob_inbox.specs.declared.fetcher.Subscription.{Subscription}
+use Rattle.kob_inbox.specs.declared.tick.Tick.TheVariants.{Idle}
+use Rattle.kob_pipeline.specs.Served.{served_to}
+use Rattle.kob_pipeline.specs.View.{ArePrivate, IsBreach}
+use Rattle.kob_router.specs.Line.{AreServed}
 use Rattle.kob_router.specs.Tick as router
 
 -- a service: its outbox with its router, and its line
@@ -43,6 +48,12 @@ RecordsNoRow old calls new then_calls =
 abbrev pub IsReaderRun : Fetcher → Contents → List Call → Type 0
 IsReaderRun f inbox calls = HasConsumerRun f.subscription (consumer.state_of f inbox) calls
 
+-- so many ticks in a row that found no record
+abbrev pub AreIdle : Subscription → ℕ → Point → Point → Type 0
+AreIdle t zero before now = before ≡ now
+AreIdle t (suc count) before now =
+    (last : Point) × AreIdle t count before last × Ticks t last now Idle
+
 -- a service whose line ended, and the number of its worker
 pub record ServiceLeft : Type 0 where
   pub worker : ℕ
@@ -64,16 +75,17 @@ pub record ReachesReader (s : ServiceLeft) (r : ReaderLeft) : Type 0 where
       → IsSenderRun s.relayed s.calls rows
       → ReachesInOrder rows r.inbox kind id
 
--- the worker's first entry from a place on is at this place
-pub record IsNext (worker : ℕ) (journal : List Entry) (from place : ℕ) : Type 0 where
-  pub entry : Entry
-  pub there : slice_get journal place ≡ Some entry
-  pub within : place < length journal
-  pub first : served_to worker (drop from journal)
-      ≡ served_in entry ∷ served_to worker (drop (place + 1) journal)
+-- what the law of delivery asks: the journal has the calls of both lines, and breaks no premise
+pub record HasPremises (s : ServiceLeft) (r : ReaderLeft) (journal : List Entry) : Type 0 where
+  pub sent : AreServed s.calls (served_to s.worker journal)
+  pub taken : AreServed r.calls (served_to r.worker journal)
+  pub private : ArePrivate s.worker r.worker r.fetcher.subscription.group
+      r.fetcher.subscription.assignment journal
 
--- where the calls after this one are served from the one place on, all are from the other on
-abbrev pub Serves : ℕ → List Entry → Call → ℕ → ℕ → Type 0
-Serves worker journal call from behind = (calls : List Call)
-    → AreServed calls (served_to worker (drop behind journal))
-    → AreServed (call ∷ calls) (served_to worker (drop from journal))
+-- what of it is lacking
+abbrev pub IsLacking : ServiceLeft → ReaderLeft → List Entry → DeliveryFault → Type 0
+IsLacking s r journal (faults.Memory refused) = Unit {0}
+IsLacking s r journal faults.Service = ¬ (AreServed s.calls (served_to s.worker journal))
+IsLacking s r journal faults.Consumer = ¬ (AreServed r.calls (served_to r.worker journal))
+IsLacking s r journal (faults.Premise breach) = IsBreach s.worker r.worker r.fetcher.subscription.group
+    r.fetcher.subscription.assignment journal breach

@@ -17,7 +17,7 @@ pub use consumer_end::ConsumerEnd;
 pub use laws::a_legal_journal_is_a_history;
 pub use opening::opened;
 pub use part::{Part, is_served};
-pub use reaching::reaches_in_order;
+pub use reaching::{DeliveryFault, reaches_in_order};
 pub use running_consumer::RunningConsumer;
 pub use running_service::RunningService;
 pub use service_end::ServiceEnd;

@@ -2,7 +2,8 @@
 
 ghost use Rattle.std.specs.Prelude.{◌≡◌, ◌≤◌, ◌↔◌, [], IfErr, IfOk, IsErrOf, IsTrue, OnErr, OnOk};
 ghost use Rattle.std.specs.Prelude.{alloc_error};
-ghost use Rattle.std.specs.Prelude.{length, map};
+ghost use Rattle.std.specs.Prelude.{length, map, max};
+ghost use Rattle.kob_embedding.specs.Running.{AreIdle};
 ghost use Rattle.std.specs.List.{enumerate_from};
 ghost use Rattle.kob_inbox.specs.Contents.{placed_intake};
 ghost use Rattle.kob_inbox.specs.Tick.{Point, Ticks, point_of};
@@ -85,25 +86,43 @@ impl<L: Line> RunningConsumer<L> {
         tick
     }
 
-    /// Ticks until the partition that has the turn has no record, at most `most` times. It goes on
-    /// if a tick is denied or its call is lost. The error is `Stopped`: no tick returned `Idle`.
+    /// Ticks until no assigned partition has a record, at most `most` times: it is done once each of
+    /// them had its turn, and all these ticks returned `Idle`. It goes on if a tick is denied or its
+    /// call is lost. The error is `Stopped`.
     pub fn take_all(&mut self, alloc: Global, most: u32) -> Result<(), ProgramFault>
         ensures same { self.new.fetcher.subscription ≡ self.old.fetcher.subscription }
         ensures stopped { IfErr result (λ fault. fault ≡ ProgramFault.Stopped) }
         ensures idle { OnOk result ((before : Point)
-            × Ticks self.old.fetcher.subscription before
+            × AreIdle self.old.fetcher.subscription
+            (max 1 (length self.old.fetcher.subscription.assignment)) before
             (point_of self.new.fetcher self.new.inbox
-            (L.calls self.new.line) (L.unmade self.new.line))
-            Tick.Idle) }
+            (L.calls self.new.line) (L.unmade self.new.line))) }
         ensures line { L.becomes self.old.line self.new.line }
     {
+        let round = self.consumer.subscription().assignment.len().max(1);
+        let mut idle = 0;
         for _ in 0..most {
-            if let Tick::Idle = self.tick(alloc) {
+            idle = if self.finds_none(alloc) { idle + 1 } else { 0 };
+            if idle >= round {
                 return Ok(());
             }
             thread::yield_now();
         }
         Err(ProgramFault::Stopped)
+    }
+
+    /// Makes one step, and returns whether there was no record.
+    fn finds_none(&mut self, alloc: Global) -> bool
+        ensures same { self.new.fetcher.subscription ≡ self.old.fetcher.subscription }
+        ensures idle { IsTrue result → Ticks self.old.fetcher.subscription
+            (point_of self.old.fetcher self.old.inbox
+            (L.calls self.old.line) (L.unmade self.old.line))
+            (point_of self.new.fetcher self.new.inbox
+            (L.calls self.new.line) (L.unmade self.new.line))
+            Tick.Idle }
+        ensures line { L.becomes self.old.line self.new.line }
+    {
+        matches!(self.tick(alloc), Tick::Idle)
     }
 
     /// Ticks until the inbox has `count` rows or more, at most `most` times; not at all if it has

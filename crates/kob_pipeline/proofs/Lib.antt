@@ -2,6 +2,7 @@ mod Words
 pub mod Lists
 mod Logged
 mod ServedRuns
+mod Breaches
 mod OtherSteps
 mod RouterKept
 mod RouterRun

@@ -13,7 +13,7 @@ pub(crate) fn deliver(alloc: Global) -> Worked<Delivered> {
     let mut recorded = broker(alloc)?;
     let sent = serve(alloc, &mut recorded);
     let mut taken = consume(alloc, &mut recorded);
-    let delivered = reached(&recorded, &sent, &mut taken);
+    let delivered = reached(alloc, &recorded, &sent, &mut taken);
     drop(sent);
     drop(taken);
     drop(recorded);

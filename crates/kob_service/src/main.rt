@@ -6,7 +6,8 @@ mod direct;
 mod threads;
 mod workers;
 
-use kob_embedding::{ConsumerEnd, RunningService, ServiceEnd, opened, reaches_in_order};
+use kob_embedding::{ConsumerEnd, DeliveryFault, RunningService, ServiceEnd};
+use kob_embedding::{opened, reaches_in_order};
 use kob_inbox::InboxRow;
 use kob_lines::ProgramFault;
 use kob_outbox::{Change, OutboxEvent};
@@ -29,10 +30,10 @@ User:root h create-acl allow User:mail * Read Group literal mail
 /// What a worker leaves, or why it stopped.
 type Worked<T> = Result<T, ProgramFault>;
 
-/// The rows of an inbox, and whether the law of delivery holds of it.
+/// The rows of an inbox, and whether the law of delivery holds of it, or what it lacks.
 #[derive(Drop)]
 struct Delivered {
-    in_order: bool,
+    reached: Result<(), DeliveryFault>,
     rows: Vec<InboxRow>,
 }
 
@@ -54,7 +55,10 @@ fn print<W: Write>(out: &mut W, heading: &str, delivered: &Delivered) -> Worked<
         let value = std::str::from_utf8(row.value.as_slice()).unwrap_or("?");
         writeln!(out, "{}: {value}", row.place)?;
     }
-    writeln!(out, "delivered in order: {}", delivered.in_order)?;
+    match delivered.reached {
+        Ok(()) => writeln!(out, "delivered in order: true")?,
+        Err(fault) => writeln!(out, "delivered in order: false, {fault}")?,
+    }
     Ok(())
 }
 
@@ -81,17 +85,16 @@ fn send<L: Line>(alloc: Global, service: &mut RunningService<L>) -> Worked<()> {
 /// What has reached the inbox. The ends are borrowed, since a value that is dropped at `?` makes a
 /// proof long.
 fn reached(
+    alloc: Global,
     recorded: &Recorded,
     sent: &Worked<ServiceEnd>,
     taken: &mut Worked<ConsumerEnd>,
 ) -> Worked<Delivered> {
     match (taken, sent) {
         (Ok(taken), Ok(sent)) => {
-            let in_order = reaches_in_order(recorded, sent, taken);
-            Ok(Delivered {
-                in_order,
-                rows: taken.taken()?,
-            })
+            let reached = reaches_in_order(alloc, recorded, sent, taken);
+            let rows = taken.taken()?;
+            Ok(Delivered { reached, rows })
         }
         (Err(fault), _) => Err(*fault),
         (_, Err(fault)) => Err(*fault),

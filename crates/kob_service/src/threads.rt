@@ -30,7 +30,7 @@ pub(crate) fn deliver<R: Threads + Wait + Sync>(rt: &R, alloc: Global) -> Worked
     );
     let recorded = shared.finish();
     let mut taken = taken;
-    let delivered = reached(&recorded, &sent, &mut taken);
+    let delivered = reached(alloc, &recorded, &sent, &mut taken);
     drop(sent);
     drop(taken);
     drop(recorded);

@@ -1,9 +1,9 @@
 use Rattle.kob_embedding.proofs.Words.{arith, eq-eqb, false, length, ne_eqb, true, ◌<◌, ◌==◌, ◌∙◌, ◌≡◌}
-use Rattle.kob_embedding.proofs.Servings.{others, own}
+use Rattle.kob_embedding.proofs.Entries.{others, own}
 use Rattle.kob_embedding.proofs.part.next_of.Goals as goal
 
-pub returns-then-entry_at-worker : goal.returns-then-entry_at-worker
-returns-then-entry_at-worker c =
+pub returns-then-entry_at-worker-clause-next : goal.returns-then-entry_at-worker-clause-next
+returns-then-entry_at-worker-clause-next c =
     let entry = c.entry_at.result.now in
     let test = c.if-entry_at-worker.true in
     let is : (entry.worker == c.args.worker) ≡ true = search (eq-eqb) in

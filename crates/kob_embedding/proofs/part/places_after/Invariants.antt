@@ -1,0 +1,8 @@
+use Rattle.kob_embedding.proofs.Words.{Call, List, take, ◌↔◌, ◌∷◌}
+use Rattle.kob_embedding.specs.Pairing.{Reaches, left}
+use Rattle.kob_embedding.proofs.part.places_after.Given as goal
+
+abbrev pub invariant-loop-from : goal.invariant-loop-from
+invariant-loop-from l = (calls : List Call)
+    → Reaches (left l.worker l.journal) l.then.items calls
+    ↔ Reaches (left l.worker l.journal) (take l.from-index l.places) (l.call ∷ calls)
