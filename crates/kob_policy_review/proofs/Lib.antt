@@ -3,6 +3,7 @@ pub mod Answering
 pub mod Changing
 pub mod Deciders
 pub mod Deciding
+pub mod Finding
 pub mod Listing
 pub mod Marks
 pub mod Naming
@@ -10,3 +11,4 @@ pub mod Needing
 pub mod Shadowing
 pub mod Standing
 pub mod Texts
+pub mod Widening

@@ -17,7 +17,7 @@ use Rattle.kob_policy_review.proofs.Standing.{all_named, hosts_are, only_named, 
 use Rattle.kob_policy_review.specs.Alike.{hosts_of, principals_of, spare, weight}
 use Rattle.kob_policy_review.specs.Classes.{hosts_named, is_for, is_met, is_on, open_targets, operations, principals_named, representative, targets_named}
 use Rattle.kob_policy_review.specs.Needed.{is_super_party, met}
-use Rattle.kob_policy_review.specs.Shadows.{BearsOn, IsShadowed, ListsShadowed, bearing, bearing_by, bearing_from, bearing_on, bearing_to, is_between, is_shadowed, serial_of_entry}
+use Rattle.kob_policy_review.specs.Shadows.{BearsOn, IsShadowed, ListsShadowed, bearing, bearing_by, bearing_from, bearing_on, bearing_to, is_between, is_shadowed, shadowed_in, serial_of_entry}
 use Rattle.kob_policy_review.specs.declared.class.Class.{Class}
 use Rattle.kob_policy_review.specs.declared.class.Target.{Target}
 
@@ -232,12 +232,19 @@ lists_shadowed rules rising found is = record {
   );
 }
 
--- what two sets of serials tell is listed
+-- what two sets of serials tell are the shadowed
+pub between_are : (rules : Contents) → (some others : ℕ → Bool)
+    → ((serial : ℕ) → some serial ≡ list_any (λ s. s == serial) (bearing false rules))
+    → ((serial : ℕ) → others serial ≡ list_any (λ s. s == serial) (bearing true rules)) → (found : List ℕ)
+    → found ≡ map serial_of_entry (filter (is_between some others) rules.entries) → found ≡ shadowed_in rules
+between_are rules some others same_some same_others found is =
+    is ∙ ap (map serial_of_entry) (filter_in (is_between some others) (is_shadowed rules) rules.entries
+    (λ entry there. both_same _ _ _ _ (same_some entry.0) (same_others entry.0)))
+
+-- and they are listed
 pub lists_between : (rules : Contents) → IsRising 1 rules.entries rules.next → (some others : ℕ → Bool)
     → ((serial : ℕ) → some serial ≡ list_any (λ s. s == serial) (bearing false rules))
     → ((serial : ℕ) → others serial ≡ list_any (λ s. s == serial) (bearing true rules)) → (found : List ℕ)
     → found ≡ map serial_of_entry (filter (is_between some others) rules.entries) → ListsShadowed rules found
 lists_between rules rising some others same_some same_others found is =
-    lists_shadowed rules rising found
-    (is ∙ ap (map serial_of_entry) (filter_in (is_between some others) (is_shadowed rules) rules.entries
-    (λ entry there. both_same _ _ _ _ (same_some entry.0) (same_others entry.0))))
+    lists_shadowed rules rising found (between_are rules some others same_some same_others found is)

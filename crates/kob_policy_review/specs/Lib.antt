@@ -1,6 +1,7 @@
 pub mod Alike
 pub mod Classes
 pub mod Difference
+pub mod Finding
 pub mod Granting
 pub mod Needed
 pub mod Redundancy

@@ -10,7 +10,9 @@ use Rattle.kob_names.specs.declared.kinds.Permission.{Permission}
 use Rattle.kob_names.specs.declared.kinds.Permission.TheVariants.{Allow, Deny}
 use Rattle.kob_authorizer.specs.Decide.{Contents, is_super}
 use Rattle.kob_policy_review.specs.Alike.{AnswerAlike, without}
-use Rattle.kob_policy_review.specs.Classes.{operations}
+use Rattle.kob_policy_review.specs.Classes.{operations, target}
+use Rattle.kob_policy_review.specs.declared.class.Names.TheVariants.{Exactly}
+use Rattle.kob_policy_review.specs.declared.class.Target.{Target}
 use Rattle.kob_policy_review.specs.Needed.{needed}
 use Rattle.kob_policy_review.specs.declared.redundant.Reason.{Reason}
 use Rattle.kob_policy_review.specs.declared.redundant.Reason.TheVariants.{CoveredBy, DeniedBy, Super, Together}
@@ -51,6 +53,10 @@ abbrev pub is_wider : Permission → ℕ × Binding → ℕ × Binding → Bool
 is_wider permission narrow wide =
     not (wide.0 == narrow.0)
     && (same_permission wide.1.permission permission && bears_on_all wide.1 narrow.1)
+
+-- the name that an entry's pattern has, on which each wider one bears
+abbrev pub around : ℕ × Binding → Target
+around entry = target entry.1.resource (Exactly entry.1.pattern.name)
 
 -- the serial of the first such entry
 abbrev pub first_wider : List (ℕ × Binding) → Permission → ℕ × Binding → Option ℕ

@@ -1,5 +1,5 @@
 -- Allows that a deny always beats.
-use Rattle.std.specs.Prelude.{◌≡◌, ◌↔◌, Bool, true, false, List, [], ℕ, ◌&&◌, ◌==◌, not, Option, Contains, flat_map, if◌then◌else◌}
+use Rattle.std.specs.Prelude.{◌≡◌, ◌↔◌, Bool, true, false, List, [], ℕ, ◌&&◌, ◌==◌, not, Option, Contains, flat_map, map, if◌then◌else◌}
 use Rattle.std.specs.List.{filter, list_any}
 use Rattle.kob_names.specs.Binding.{Binding}
 use Rattle.kob_names.specs.declared.kinds.Operation.{Operation}
@@ -58,6 +58,10 @@ abbrev pub is_shadowed : Contents → ℕ × Binding → Bool
 is_shadowed rules entry =
     list_any (λ serial. serial == entry.0) (bearing false rules)
     && not (list_any (λ serial. serial == entry.0) (bearing true rules))
+
+-- the serials of those, in order
+abbrev pub shadowed_in : Contents → List ℕ
+shadowed_in rules = map serial_of_entry (filter (is_shadowed rules) rules.entries)
 
 -- exactly the serials of the allows that a deny always beats
 pub record ListsShadowed (rules : Contents) (found : List ℕ) : Type 0 where

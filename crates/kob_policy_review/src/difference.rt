@@ -8,6 +8,7 @@ ghost use Rattle.kob_policy_review.specs.Difference.{changes_to, is_listed, name
 ghost use Rattle.kob_policy_review.specs.Difference.{same_outcome, targets_in};
 
 use crate::class::{Class, Names, Target};
+use crate::finder::Finder;
 use crate::matching::{OPERATIONS, add_targets, targets_of};
 use crate::needed::is_super_party;
 use crate::sides::{Sides, sides_on};
@@ -256,20 +257,20 @@ fn push_principals(
 fn push_on(
     alloc: Global,
     out: &mut Vec<Change>,
-    before: &Authorizer,
-    after: &Authorizer,
+    before: &Finder<'_>,
+    after: &Finder<'_>,
     target: &Target,
 ) -> Result<(), AllocError>
     ensures { OnOk result (out.new.items ≡ out.old.items
-        ++ changes_on before.now.contents after.now.contents target.now) }
+        ++ changes_on before.now after.now target.now) }
 {
     let sides = sides_on(alloc, before, after, target)?;
     let principals = sides.principals(alloc)?;
     push_principals(
         alloc,
         out,
-        before.supers(),
-        after.supers(),
+        before.rules().supers(),
+        after.rules().supers(),
         &sides,
         target,
         principals.as_slice(),
@@ -290,6 +291,22 @@ fn targets_in(
     Ok(made)
 }
 
+fn push_all(
+    alloc: Global,
+    out: &mut Vec<Change>,
+    before: &Finder<'_>,
+    after: &Finder<'_>,
+    targets: &[Target],
+) -> Result<(), AllocError>
+    ensures { OnOk result (out.new.items ≡ out.old.items
+        ++ flat_map (changes_on before.now after.now) targets.now) }
+{
+    for target in targets {
+        push_on(alloc, out, before, after, target)?;
+    }
+    Ok(())
+}
+
 #[tactic(auto, unfolding(crate::specs::Difference::changes_of))]
 fn all_changes(
     alloc: Global,
@@ -301,9 +318,9 @@ fn all_changes(
 {
     let mut out = Vec::new(alloc);
     let targets = targets_in(alloc, before, after)?;
-    for target in targets.as_slice() {
-        push_on(alloc, &mut out, before, after, target)?;
-    }
+    let earlier = Finder::of(alloc, before)?;
+    let later = Finder::of(alloc, after)?;
+    push_all(alloc, &mut out, &earlier, &later, targets.as_slice())?;
     Ok(out)
 }
 

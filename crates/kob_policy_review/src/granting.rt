@@ -169,8 +169,10 @@ pub fn who(
     operation: Operation,
     target: &Target,
 ) -> Result<Vec<Answer>, AllocError>
-    ensures { IfOk result (λ found.
+    ensures exact { IfOk result (λ found.
         ListsAnswers rules.now.contents operation target.now found.items) }
+    ensures listed { IfOk result (λ found.
+        found.items ≡ answers_on rules.now.contents operation target.now) }
 {
     answers_on(alloc, rules, operation, target)
 }

@@ -3,6 +3,7 @@
 
 mod class;
 mod difference;
+mod finder;
 mod granting;
 mod laws;
 mod matching;

@@ -8,7 +8,8 @@ ghost use Rattle.kob_policy_review.specs.Needed.{needed_for, needed_from, needed
 ghost use Rattle.kob_policy_review.specs.Needed.{only_one, unless_allowed};
 
 use crate::class::{Target, is_met};
-use crate::matching::{OPERATIONS, asking, hosts_of, matching, principals_of, targets_of};
+use crate::finder::Finder;
+use crate::matching::{OPERATIONS, asking, hosts_of, principals_of, targets_of};
 use kob_authorizer::Authorizer;
 use kob_names::{Binding, Operation, Permission, Principal, Text};
 use std::alloc::{AllocError, Global};
@@ -170,29 +171,28 @@ fn push_needed_by(
 fn push_needed_on(
     alloc: Global,
     out: &mut Vec<u64>,
-    rules: &Authorizer,
+    finder: &Finder<'_>,
     target: &Target,
 ) -> Result<(), AllocError>
-    ensures { OnOk result (out.new.items ≡ out.old.items
-        ++ needed_on rules.now.contents target.now) }
+    ensures { OnOk result (out.new.items ≡ out.old.items ++ needed_on finder.now target.now) }
 {
-    let matching = matching(alloc, rules.entries(), target)?;
+    let matching = finder.matching(alloc, target)?;
     let principals = principals_of(alloc, matching.as_slice())?;
     for principal in principals.as_slice() {
-        push_needed_by(alloc, out, rules, matching.as_slice(), principal)?;
+        push_needed_by(alloc, out, finder.rules(), matching.as_slice(), principal)?;
     }
     Ok(())
 }
 
 /// The serials of the bindings that are needed, each at least once.
 #[tactic(auto, unfolding(crate::specs::Needed::needed))]
-pub fn needed(alloc: Global, rules: &Authorizer) -> Result<Vec<u64>, AllocError>
-    ensures { IfOk result (λ made. made.items ≡ needed rules.now.contents) }
+pub fn needed(alloc: Global, finder: &Finder<'_>) -> Result<Vec<u64>, AllocError>
+    ensures { IfOk result (λ made. made.items ≡ needed finder.now) }
 {
     let mut out = Vec::new(alloc);
-    let targets = targets_of(alloc, rules.entries())?;
+    let targets = targets_of(alloc, finder.rules().entries())?;
     for target in targets.as_slice() {
-        push_needed_on(alloc, &mut out, rules, target)?;
+        push_needed_on(alloc, &mut out, finder, target)?;
     }
     Ok(out)
 }

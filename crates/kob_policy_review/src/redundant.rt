@@ -1,19 +1,25 @@
 //! Bindings without which, each taken alone, no answer at all changes.
 
-ghost use Rattle.std.specs.Prelude.{◌≡◌, ◌==◌, ◌||◌, IfOk, ℕ, filter, map, nat_eq, not};
+ghost use Rattle.std.specs.Prelude.{◌≡◌, ◌==◌, ◌||◌, ◌++◌, ◌∷◌, [], IfOk, OnOk, ℕ, filter, map, nat_eq, not};
+ghost use Rattle.std.specs.Prelude.{if◌then◌else◌};
+ghost use Rattle.kob_policy_review.specs.Classes.{is_on};
 ghost use Rattle.std.specs.List.{list_any};
 ghost use Rattle.kob_names.specs.Binding.{reaches};
 ghost use Rattle.std.specs.HashSet.{contains};
-ghost use Rattle.kob_policy_review.specs.Redundancy.{ListsUnused, bears_on_all, binds_all};
+ghost use Rattle.kob_policy_review.specs.Redundancy.{ListsUnused, around, bears_on_all, binds_all};
 ghost use Rattle.kob_policy_review.specs.Redundancy.{first_wider, is_outside, is_wider, reaches_all};
 ghost use Rattle.kob_policy_review.specs.Redundancy.{reason_by, reason_of, takes_all};
 ghost use Rattle.kob_policy_review.specs.Redundancy.{unused_entry, unused_in};
 ghost use Rattle.kob_authorizer.specs.Decide.{is_super};
 
+use crate::class::{Names, Target};
+use crate::finder::Finder;
 use crate::matching::OPERATIONS;
 use crate::needed::needed;
 use kob_authorizer::Authorizer;
-use kob_names::{Binding, Draft, Operation, Pattern, PatternKind, Permission, Principal};
+use kob_names::{
+    Binding, Draft, Operation, Pattern, PatternKind, Permission, PlainValue, Principal,
+};
 use std::alloc::{AllocError, Global};
 use std::collections::HashSet;
 
@@ -125,18 +131,38 @@ fn reason_by(permission: Permission, is_super: bool, same: Option<u64>, deny: Op
     }
 }
 
-fn reason_of(rules: &Authorizer, entry: &(u64, Binding)) -> Reason
-    ensures { result ≡ reason_of rules.now.contents entry.now }
+/// Copies of the bindings that match all that this one's pattern takes, in order.
+fn around(
+    alloc: Global,
+    finder: &Finder<'_>,
+    entry: &(u64, Binding),
+) -> Result<Vec<(u64, Binding)>, AllocError>
+    ensures { IfOk result (λ made. made.items
+        ≡ filter (is_on (around entry.now)) finder.now.entries) }
 {
     let binding = entry.1.parts();
-    let same = first_wider(rules.entries(), binding.permission, entry);
-    let deny = first_wider(rules.entries(), Permission::Deny, entry);
-    reason_by(
-        binding.permission,
-        is_super(rules.supers(), &binding.principal),
-        same,
-        deny,
-    )
+    let names = Names::Exactly(binding.pattern.name.copy(alloc)?);
+    let target = Target {
+        resource: binding.resource,
+        names,
+    };
+    finder.matching(alloc, &target)
+}
+
+#[tactic(auto, using(crate::proofs::Widening::first_around))]
+fn reason_of(
+    alloc: Global,
+    finder: &Finder<'_>,
+    entry: &(u64, Binding),
+) -> Result<Reason, AllocError>
+    ensures { IfOk result (λ reason. reason ≡ reason_of finder.now entry.now) }
+{
+    let binding = entry.1.parts();
+    let near = around(alloc, finder, entry)?;
+    let same = first_wider(near.as_slice(), binding.permission, entry);
+    let deny = first_wider(near.as_slice(), Permission::Deny, entry);
+    let is_super = is_super(finder.rules().supers(), &binding.principal);
+    Ok(reason_by(binding.permission, is_super, same, deny))
 }
 
 /// The set of these serials.
@@ -157,30 +183,43 @@ fn is_unneeded(set: &HashSet<u64>, entry: &(u64, Binding)) -> bool
     !set.contains(&entry.0)
 }
 
-fn with_reason(rules: &Authorizer, entry: &(u64, Binding)) -> Unneeded
-    ensures { result ≡ unused_entry rules.now.contents entry.now }
+fn push_outside(
+    alloc: Global,
+    found: &mut Vec<Unneeded>,
+    finder: &Finder<'_>,
+    set: &HashSet<u64>,
+    entry: &(u64, Binding),
+) -> Result<(), AllocError>
+    ensures { OnOk result (found.new.items ≡ found.old.items
+        ++ (if is_outside (contains nat_eq set.now) entry.now
+        then unused_entry finder.now entry.now ∷ [] else [])) }
 {
-    Unneeded {
-        serial: entry.0,
-        reason: reason_of(rules, entry),
+    if is_unneeded(set, entry) {
+        let reason = reason_of(alloc, finder, entry)?;
+        found.push(Unneeded {
+            serial: entry.0,
+            reason,
+        })?;
     }
+    Ok(())
 }
 
 /// Those whose serials are not in the set.
+#[tactic(auto, using(crate::proofs::Widening::outside_more))]
 fn outside(
     alloc: Global,
-    rules: &Authorizer,
+    finder: &Finder<'_>,
     entries: &[(u64, Binding)],
     set: &HashSet<u64>,
 ) -> Result<Vec<Unneeded>, AllocError>
-    ensures { IfOk result (λ found. found.items ≡ map (unused_entry rules.now.contents)
+    ensures { IfOk result (λ found. found.items ≡ map (unused_entry finder.now)
         (filter (is_outside (contains nat_eq set.now)) entries.now)) }
 {
-    entries
-        .iter()
-        .filter(|entry| is_unneeded(set, entry))
-        .map(|entry| with_reason(rules, entry))
-        .collect(alloc)
+    let mut found = Vec::new(alloc);
+    for entry in entries {
+        push_outside(alloc, &mut found, finder, set, entry)?;
+    }
+    Ok(found)
 }
 
 /// The bindings without which, each taken alone, no answer at all changes: for no principal, no
@@ -191,7 +230,8 @@ pub fn unused(alloc: Global, rules: &Authorizer) -> Result<Vec<Unneeded>, AllocE
     ensures listed { IfOk result (λ found. found.items ≡ unused_in rules.now.contents) }
 {
     let entries = rules.entries();
-    let serials = needed(alloc, rules)?;
+    let finder = Finder::of(alloc, rules)?;
+    let serials = needed(alloc, &finder)?;
     let set = set_of(alloc, serials.as_slice())?;
-    outside(alloc, rules, entries, &set)
+    outside(alloc, &finder, entries, &set)
 }

@@ -7,9 +7,11 @@ ghost use Rattle.kob_names.specs.declared.kinds.Permission.TheVariants.{Deny};
 ghost use Rattle.kob_policy_review.specs.Classes.{is_met};
 ghost use Rattle.kob_policy_review.specs.Shadows.{ListsShadowed, bearing, bearing_by, bearing_from};
 ghost use Rattle.kob_policy_review.specs.Shadows.{bearing_on, bearing_to, is_between, serial_of_entry};
+ghost use Rattle.kob_policy_review.specs.Shadows.{shadowed_in};
 
 use crate::class::{Target, is_met};
-use crate::matching::{OPERATIONS, asking, hosts_of, matching, principals_of, targets_of};
+use crate::finder::Finder;
+use crate::matching::{OPERATIONS, asking, hosts_of, principals_of, targets_of};
 use crate::needed::{is_super_party, met};
 use crate::redundant::set_of;
 use kob_authorizer::Authorizer;
@@ -89,20 +91,20 @@ fn push_on(
     alloc: Global,
     out: &mut Vec<u64>,
     beaten: bool,
-    rules: &Authorizer,
+    finder: &Finder<'_>,
     target: &Target,
 ) -> Result<(), AllocError>
     ensures { OnOk result (out.new.items ≡ out.old.items
-        ++ bearing_on beaten rules.now.contents target.now) }
+        ++ bearing_on beaten finder.now target.now) }
 {
-    let matching = matching(alloc, rules.entries(), target)?;
+    let matching = finder.matching(alloc, target)?;
     let principals = principals_of(alloc, matching.as_slice())?;
     for principal in principals.as_slice() {
         push_by(
             alloc,
             out,
             beaten,
-            rules.supers(),
+            finder.rules().supers(),
             matching.as_slice(),
             principal,
         )?;
@@ -113,13 +115,13 @@ fn push_on(
 /// The serials of the allows that bear on a question of one who is no super user: with `beaten`, on
 /// one that no deny bears on.
 #[tactic(auto, unfolding(crate::specs::Shadows::bearing))]
-fn bearing(alloc: Global, beaten: bool, rules: &Authorizer) -> Result<Vec<u64>, AllocError>
-    ensures { IfOk result (λ made. made.items ≡ bearing beaten rules.now.contents) }
+fn bearing(alloc: Global, beaten: bool, finder: &Finder<'_>) -> Result<Vec<u64>, AllocError>
+    ensures { IfOk result (λ made. made.items ≡ bearing beaten finder.now) }
 {
     let mut out = Vec::new(alloc);
-    let targets = targets_of(alloc, rules.entries())?;
+    let targets = targets_of(alloc, finder.rules().entries())?;
     for target in targets.as_slice() {
-        push_on(alloc, &mut out, beaten, rules, target)?;
+        push_on(alloc, &mut out, beaten, finder, target)?;
     }
     Ok(out)
 }
@@ -157,12 +159,14 @@ fn between(
 /// is no super user asks, a deny does too. By ascending serial. An allow for a super user alone is
 /// not listed.
 pub fn shadowed(alloc: Global, rules: &Authorizer) -> Result<Vec<u64>, AllocError>
-    ensures { IfOk result (λ found. ListsShadowed rules.now.contents found.items) }
+    ensures exact { IfOk result (λ found. ListsShadowed rules.now.contents found.items) }
+    ensures listed { IfOk result (λ found. found.items ≡ shadowed_in rules.now.contents) }
 {
     let entries = rules.entries();
-    let bearing_at_all = bearing(alloc, false, rules)?;
+    let finder = Finder::of(alloc, rules)?;
+    let bearing_at_all = bearing(alloc, false, &finder)?;
     let some = set_of(alloc, bearing_at_all.as_slice())?;
-    let unbeaten = bearing(alloc, true, rules)?;
+    let unbeaten = bearing(alloc, true, &finder)?;
     let others = set_of(alloc, unbeaten.as_slice())?;
     between(alloc, entries, &some, &others)
 }

@@ -8,8 +8,8 @@ ghost use Rattle.kob_policy_review.specs.Difference.{principals_in, sides_on, so
 
 use crate::class::{Target, is_met};
 use crate::difference::Outcome;
-use crate::matching::{add_hosts, add_principals, asking, hosts_of, matching, principals_of};
-use kob_authorizer::Authorizer;
+use crate::finder::Finder;
+use crate::matching::{add_hosts, add_principals, asking, hosts_of, principals_of};
 use kob_names::{Binding, Operation, Permission, Text};
 use std::alloc::{AllocError, Global};
 use std::marker::Model;
@@ -39,17 +39,16 @@ impl Model for Sides {
 /// The bindings whose patterns match the names.
 pub fn sides_on(
     alloc: Global,
-    before: &Authorizer,
-    after: &Authorizer,
+    before: &Finder<'_>,
+    after: &Finder<'_>,
     target: &Target,
 ) -> Result<Sides, AllocError>
-    ensures { IfOk result (λ sides.
-        sides ≡ sides_on before.now.contents after.now.contents target.now) }
+    ensures { IfOk result (λ sides. sides ≡ sides_on before.now after.now target.now) }
 {
-    let on_before = matching(alloc, before.entries(), target)?;
-    let on_after = matching(alloc, after.entries(), target)?;
-    let open_before = before.everyone() && is_nothing(on_before.as_slice());
-    let open_after = after.everyone() && is_nothing(on_after.as_slice());
+    let on_before = before.matching(alloc, target)?;
+    let on_after = after.matching(alloc, target)?;
+    let open_before = before.rules().everyone() && is_nothing(on_before.as_slice());
+    let open_after = after.rules().everyone() && is_nothing(on_after.as_slice());
     Ok(Sides {
         before: on_before,
         after: on_after,

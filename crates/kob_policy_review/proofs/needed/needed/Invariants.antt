@@ -4,4 +4,4 @@ use Rattle.kob_policy_review.specs.Needed.{needed_on}
 use Rattle.kob_policy_review.proofs.needed.needed.Given as goal
 
 abbrev pub invariant-loop-target : goal.invariant-loop-target
-invariant-loop-target l = l.out.items ≡ flat_map (needed_on l.rules.contents) (take l.target-index l.target-items)
+invariant-loop-target l = l.out.items ≡ flat_map (needed_on l.finder) (take l.target-index l.target-items)

@@ -6,5 +6,5 @@ use Rattle.kob_policy_review.proofs.needed.push_needed_on.Given as goal
 abbrev pub invariant-loop-principal : goal.invariant-loop-principal
 invariant-loop-principal l =
     l.out.items ≡ l.initial.out.items
-    ++ flat_map (needed_by l.rules.contents.supers l.rules.contents.everyone l.matching.items)
+    ++ flat_map (needed_by l.finder.supers l.finder.everyone l.matching.items)
     (take l.principal-index l.principal-items)

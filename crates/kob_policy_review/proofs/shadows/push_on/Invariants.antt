@@ -5,4 +5,4 @@ use Rattle.kob_policy_review.proofs.shadows.push_on.Given as goal
 
 abbrev pub invariant-loop-principal : goal.invariant-loop-principal
 invariant-loop-principal l = l.out.items ≡ l.initial.out.items
-    ++ flat_map (bearing_by l.beaten l.rules.contents.supers l.matching.items) (take l.principal-index l.principal-items)
+    ++ flat_map (bearing_by l.beaten l.finder.supers l.matching.items) (take l.principal-index l.principal-items)
