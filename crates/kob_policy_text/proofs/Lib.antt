@@ -1,5 +1,6 @@
+mod Words
 pub mod Asking
 pub mod Chains
 pub mod Growing
 pub mod Making
-mod Words
+pub mod Passing

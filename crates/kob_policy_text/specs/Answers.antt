@@ -217,10 +217,15 @@ left_out_word left_out.Resource = codes "resource"
 left_out_word left_out.Principal = codes "principal"
 left_out_word left_out.Operation = codes "operation"
 
+-- without a deny, an answer may be yes where the cluster's is no
+abbrev pub denial_text : Bool → List ℕ
+denial_text true = codes ", a deny: a yes may be wrong\n"
+denial_text false = codes "\n"
+
 unfoldable pub omission_line : Omission → List ℕ
 omission_line omission =
     codes "left out " ++ origin_text omission.origin ++ codes " " ++ left_out_word omission.what
-    ++ codes "\n"
+    ++ denial_text omission.denies
 
 -- what was left out
 abbrev pub omissions_text : Policy → List ℕ

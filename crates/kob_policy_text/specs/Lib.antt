@@ -2,7 +2,9 @@ pub mod Answers
 pub mod AtHand
 pub mod Lines
 pub mod Listing
+pub mod Options
 pub mod Outcomes
 pub mod Policy
 pub mod Questions
 pub mod Review
+pub mod Shell

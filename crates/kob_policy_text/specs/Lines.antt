@@ -1,31 +1,30 @@
 -- What a line of a policy says: a listed line, a setting, or a line that creates bindings.
-use Rattle.std.specs.Prelude.{◌≡◌, ◌==◌, ◌||◌, ◌&&◌, not, ℕ, Bool, true, false, List, [], ◌∷◌, ◌++◌, map, filter, length, nat_lt, nat_eq, slice_get, Option, Some, None, Result, Ok, Err, codes, if◌then◌else◌}
+use Rattle.std.specs.Prelude.{◌≡◌, ◌==◌, ◌||◌, ◌&&◌, not, ℕ, Bool, true, false, List, [], ◌∷◌, ◌++◌, map, filter, length, nat_lt, nat_eq, set, slice_get, Option, Some, None, Result, Ok, Err, codes, if◌then◌else◌}
 use Rattle.std.specs.List.{list_any, slice_split, starts_with}
 use Rattle.std.specs.Str.{bytes_eq, str_eq_ignore_ascii_case}
-use Rattle.kob_acl_cli.specs.declared.args.CliArgs.{CliArgs}
 use Rattle.kob_names.specs.Binding.{Binding}
 use Rattle.kob_rights.specs.declared.event.Event.{Event}
 use Rattle.kob_rights.specs.declared.request.Request.{Request}
 use Rattle.kob_rights.specs.declared.request.Request.TheVariants.{CreateAcls}
 use Rattle.kob_script.specs.CommandLines.{events_of}
 use Rattle.kob_script.specs.declared.fault.FaultKind.{FaultKind}
-use Rattle.kob_script.specs.declared.fault.FaultKind.TheVariants.{BadLine, BadWord, Usage}
-use Rattle.kob_script.specs.Words.{◌>>=◌, each, Word, words_of}
-use Rattle.kob_script.specs.Script.{IsAnswerToLine, everyone_of, is_setting, is_super, super_of}
+use Rattle.kob_script.specs.declared.fault.FaultKind.TheVariants.{BadLine, BadWord}
+use Rattle.kob_script.specs.Words.{◌>>=◌, each, host_of, principal_of, text_in, text_of, Word, word_of, words_of}
+use Rattle.kob_script.specs.Script.{asks_clap, everyone_of, is_setting, is_super}
 use Rattle.kob_policy_text.specs.declared.item.Item.{Item}
 use Rattle.kob_policy_text.specs.declared.item.Item.TheVariants.{Super, Everyone, Rule, LeftOut}
-use Rattle.kob_policy_text.specs.declared.item.LeftOut as kinds
-use Rattle.kob_policy_text.specs.declared.item.LeftOut.TheVariants.{Resource, Principal}
-use Rattle.kob_policy_text.specs.Listing.{heading_item, newer_grant, older_grant, is_other_kind, user_in, around_first, first_parts, holds_mark, last_parts, trimmed}
+use Rattle.kob_policy_text.specs.declared.item.LeftOut.TheVariants.{Principal}
+use Rattle.kob_policy_text.specs.Options.{SaysOptions, rule_items}
+use Rattle.kob_policy_text.specs.Shell.{shell_words}
+use Rattle.kob_policy_text.specs.Listing.{heading_item, newer_grant, older_grant, is_other_kind, other_principal, user_in, around_first, first_parts, holds_mark, last_parts, trimmed}
 
 -- one thing that is said
 abbrev pub said : Result Item FaultKind → Result (List Item) FaultKind
 said read = read >>= λ item. Ok (item ∷ [])
 
--- a super user; one of another kind is told in its place
-abbrev pub super_or_left_out : Option (List ℕ) → Item
-super_or_left_out None = LeftOut Principal
-super_or_left_out (Some user) = Super user
+-- a super user; one of another kind is left out
+abbrev pub super_or_left_out : List ℕ → Item
+super_or_left_out user = if bytes_eq user other_principal then LeftOut Principal else Super user
 
 unfoldable pub super_item : List ℕ → Result Item FaultKind
 super_item bytes = user_in bytes >>= λ user. Ok (super_or_left_out user)
@@ -98,63 +97,48 @@ is_tool command =
     && (bytes_eq (base_name command) (codes "kafka-acls")
     || bytes_eq (base_name command) (codes "kafka-acls.sh"))
 
--- a quote, a backslash, a dollar or a backquote means something to a shell
-abbrev pub is_shell_mark : ℕ → Bool
-is_shell_mark byte = byte == 34 || byte == 39 || byte == 92 || byte == 36 || byte == 96
+-- what is after the word of Kafka's tool
+abbrev pub arguments_by : Option (List ℕ × List ℕ) → Option (List ℕ)
+arguments_by None = None
+arguments_by (Some parts) = if is_tool parts.0 then Some parts.1 else None
 
-abbrev pub has_shell_mark : List ℕ → Bool
-has_shell_mark bytes = list_any is_shell_mark bytes
+unfoldable pub tool_arguments : List ℕ → Option (List ℕ)
+tool_arguments line = arguments_by (first_parts line (codes " "))
 
--- the words after Kafka's tool stand in a script after `acl`
-abbrev pub tool_line : List ℕ → Result (List ℕ) FaultKind
-tool_line arguments =
-    if has_shell_mark arguments then Err Usage
-    else Ok (codes "User:* * acl " ++ arguments)
+-- the texts that a shell would pass to the tool
+abbrev pub tool_texts : List ℕ → Result (List (List ℕ)) FaultKind
+tool_texts arguments = shell_words arguments >>= each text_in
 
-abbrev pub script_line_by : Option (List ℕ × List ℕ) → List ℕ → Result (List ℕ) FaultKind
-script_line_by None line = Ok line
-script_line_by (Some parts) line = if is_tool parts.0 then tool_line parts.1 else Ok line
-
--- the line as it stands in a script
-unfoldable pub script_line : List ℕ → Result (List ℕ) FaultKind
-script_line line = script_line_by (first_parts line (codes " ")) line
-
--- the words of a line
-abbrev pub words_in : List ℕ → Result (List Word) FaultKind
-words_in line = script_line line >>= words_of
+-- the super user of a line `super PRINCIPAL`
+abbrev pub super_line : List Word → Result (List Item) FaultKind
+super_line (name ∷ []) = said (super_item name.decoded)
+super_line _ = Err BadLine
 
 -- `super PRINCIPAL`, `everyone on` or `everyone off`
 unfoldable pub setting_items : Word → List Word → Result (List Item) FaultKind
 setting_items first arguments =
-    if is_super first then (super_of arguments >>= λ user. Ok (Super user ∷ []))
+    if is_super first then super_line arguments
     else (everyone_of arguments >>= λ everyone. Ok (Everyone everyone ∷ []))
 
--- options of kafka-acls for kinds of resource that are left out
-abbrev pub names_left_out : Word → Bool
-names_left_out word =
-    starts_with nat_eq word.decoded (codes "--delegation-token")
-    || starts_with nat_eq word.decoded (codes "--user-principal")
+abbrev pub is_other_text : Result (List ℕ) FaultKind → Bool
+is_other_text (Ok text) = is_other_kind text
+is_other_text (Err kind) = false
 
-abbrev pub any_left_out : List Word → Bool
-any_left_out words = list_any names_left_out words
+abbrev pub names_other_kind : Word → Bool
+names_other_kind word = is_other_text (text_of word)
 
--- a principal of another kind is named
-abbrev pub any_other_kind : List (List ℕ) → Bool
-any_other_kind names = list_any is_other_kind names
+-- the words create a binding for a principal of another kind
+abbrev pub is_for_other_kind : List Word → Bool
+is_for_other_kind (who ∷ from ∷ command ∷ permission ∷ principal ∷ others) =
+    bytes_eq command.decoded (codes "create-acl")
+    && names_other_kind principal
+is_for_other_kind _ = false
 
-abbrev pub has_other_kind : Option CliArgs → Bool
-has_other_kind None = false
-has_other_kind (Some args) =
-    any_other_kind args.allow_principals || any_other_kind args.deny_principals
-
--- why a line that asks for bindings is left out, if it is
-unfoldable pub left_out_by : Option CliArgs → List Word → Option kinds.LeftOut
-left_out_by answer words =
-    if any_left_out words then Some Resource
-    else (if has_other_kind answer then Some Principal else None)
-
-abbrev pub rule_items : List Binding → List Item
-rule_items drafts = map (λ (draft : Binding). Rule draft) drafts
+-- the words, of which the fifth is in place of a principal of another kind
+abbrev pub held_words : List Word → Result (List Word) FaultKind
+held_words words =
+    if is_for_other_kind words
+    then (word_of other_principal >>= λ held. Ok (set words 4 held)) else Ok words
 
 -- the bindings that a request creates; no other request says anything
 abbrev pub rules_in : Request → Result (List Item) FaultKind
@@ -172,37 +156,51 @@ rules_by None = Err BadLine
 abbrev pub rules_of : List Event → Result (List Item) FaultKind
 rules_of events = rules_by (only_event events)
 
-abbrev pub unless_left_out : Option kinds.LeftOut → Result (List Event) FaultKind
-    → Result (List Item) FaultKind
-unless_left_out (Some what) events = Ok (LeftOut what ∷ [])
-unless_left_out None events = events >>= rules_of
-
--- what the words say, by clap's answer to those of `acl`
-unfoldable pub words_items : Option CliArgs → List Word → Result (List Item) FaultKind
-words_items answer [] = Ok []
-words_items answer (first ∷ arguments) =
+-- what words say that do not ask by `acl`
+unfoldable pub words_items : List Word → Result (List Item) FaultKind
+words_items [] = Ok []
+words_items (first ∷ arguments) =
     if is_setting first then setting_items first arguments
-    else unless_left_out (left_out_by answer (first ∷ arguments))
-    (events_of answer (first ∷ arguments))
+    else (held_words (first ∷ arguments) >>= events_of None >>= rules_of)
 
--- what a line without white space at its ends says
-unfoldable pub items_of : Option CliArgs → List ℕ → Result (List Item) FaultKind
-items_of answer line =
-    if is_listed line then listed_items line else (words_in line >>= words_items answer)
+abbrev pub asker_of : List ℕ → List ℕ → Result (List ℕ × List ℕ) FaultKind
+asker_of name address =
+    principal_of name >>= λ principal. host_of address >>= λ host. Ok (principal, host)
 
--- the words may say this, by what clap may answer to them
-abbrev pub SaysByWords : List ℕ → Result (List Item) FaultKind → Type 0
-SaysByWords text read =
-    (answer : Option CliArgs)
-    × IsAnswerToLine (words_of text) answer
-    × ((words_of text >>= words_items answer) ≡ read)
+-- the texts after `acl`; who asks from where does not matter, but has to be a principal and a host
+abbrev pub texts_behind : Word → Word → List Word → Result (List (List ℕ)) FaultKind
+texts_behind who from arguments = do
+  name ← text_of who
+  address ← text_of from
+  texts ← each text_of arguments
+  asker ← asker_of name address
+  Ok texts
 
--- a line may say this, by what clap may answer where it is asked
-abbrev pub SaysBy : List ℕ → Result (List Item) FaultKind → Type 0
-SaysBy line read =
-    (answer : Option CliArgs)
-    × (is_listed line ≡ false → IsAnswerToLine (words_in line) answer)
-    × (items_of answer line ≡ read)
+unfoldable pub acl_texts : List Word → Result (List (List ℕ)) FaultKind
+acl_texts (who ∷ from ∷ command ∷ arguments) = texts_behind who from arguments
+acl_texts words = Ok []
+
+-- What the words of a line may say, by what clap may answer to those after `acl`.
+abbrev pub SaysBy : Bool → List Word → Result (List Item) FaultKind → Type 0
+SaysBy true words read = SaysOptions (acl_texts words) read
+SaysBy false words read = words_items words ≡ read
+
+abbrev pub SaysByWords : Result (List Word) FaultKind → Result (List Item) FaultKind → Type 0
+SaysByWords (Ok words) read = SaysBy (asks_clap words) words read
+SaysByWords (Err kind) read = read ≡ Err kind
+
+-- What a line may say whose options are those of Kafka's tool.
+abbrev pub SaysUnlisted : Option (List ℕ) → List ℕ → Result (List Item) FaultKind → Type 0
+SaysUnlisted (Some arguments) line read = SaysOptions (tool_texts arguments) read
+SaysUnlisted None line read = SaysByWords (words_of line) read
+
+abbrev pub SaysIf : Bool → List ℕ → Result (List Item) FaultKind → Type 0
+SaysIf true line read = listed_items line ≡ read
+SaysIf false line read = SaysUnlisted (tool_arguments line) line read
+
+-- A line may say this, by what clap may answer where it is asked.
+unfoldable pub SaysTrimmed : List ℕ → Result (List Item) FaultKind → Type 0
+SaysTrimmed line read = SaysIf (is_listed line) line read
 
 abbrev pub Says : List ℕ → Result (List Item) FaultKind → Type 0
-Says line read = SaysBy (trimmed line) read
+Says line read = SaysTrimmed (trimmed line) read

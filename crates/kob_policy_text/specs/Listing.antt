@@ -1,5 +1,5 @@
 -- Principals of the kind `User`, and those of other kinds, which are left out.
-use Rattle.std.specs.Prelude.{Bool, false, not, ℕ, List, Option, Some, None, Result, Ok, Err, codes, is_none, if◌then◌else◌, ◌+◌, drop, take, length, is_some, ok_or, ◌||◌, nat_eq}
+use Rattle.std.specs.Prelude.{Bool, false, not, ℕ, List, Option, Some, None, Result, Ok, Err, codes, is_none, if◌then◌else◌, ◌+◌, drop, take, length, is_some, ok_or, unwrap_or, [], ◌||◌, nat_eq}
 use Rattle.std.specs.List.{position, before_first, starts_with}
 use Rattle.std.specs.Str.{bytes_eq}
 use Rattle.kob_names.specs.TextRules.{is_colon}
@@ -11,17 +11,17 @@ use Rattle.bstr.specs.Trim.{trim_start_by, trim_end_by}
 use Rattle.memchr.specs.Find.{first_of, matches, rmatches}
 use Rattle.kob_script.specs.declared.fault.FaultKind.TheVariants.{BadLine, BadWord}
 use Rattle.kob_names.specs.declared.kinds.Operation.{Operation}
-use Rattle.kob_names.specs.declared.kinds.Operation.TheVariants.{ClusterAction, DescribeConfigs, AlterConfigs, IdempotentWrite}
+use Rattle.kob_names.specs.declared.kinds.Operation.TheVariants.{All, ClusterAction, DescribeConfigs, AlterConfigs, IdempotentWrite}
 use Rattle.kob_names.specs.declared.kinds.PatternKind.{PatternKind}
-use Rattle.kob_names.specs.declared.kinds.PatternKind.TheVariants.{Literal, Prefixed}
 use Rattle.kob_names.specs.declared.kinds.Permission.{Permission}
-use Rattle.kob_names.specs.declared.kinds.Permission.TheVariants.{Allow, Deny}
 use Rattle.kob_names.specs.declared.kinds.ResourceKind.{ResourceKind}
 use Rattle.kob_names.specs.declared.kinds.ResourceKind.TheVariants.{TransactionalId}
 use Rattle.kob_words.specs.Words.{operation_named, resource_named, pattern_named, permission_named}
 use Rattle.kob_policy_text.specs.declared.item.Grant.{Grant}
 use Rattle.kob_policy_text.specs.declared.item.Item.{Item}
+use Rattle.kob_policy_text.specs.declared.item.LeftOut as kinds
 use Rattle.kob_policy_text.specs.declared.item.Target.{Target}
+use Rattle.kob_names.specs.Binding.{Binding}
 use Rattle.kob_policy_text.specs.declared.item.Item.TheVariants as item
 use Rattle.kob_policy_text.specs.declared.item.LeftOut.TheVariants as left_out
 
@@ -31,14 +31,32 @@ is_other_kind text =
     if is_none (position is_colon text) then false
     else not (bytes_eq (before_first is_colon text) (codes "User"))
 
--- a principal, or nothing for one of another kind
-abbrev pub user_named : List ℕ → Result (Option (List ℕ)) FaultKind
-user_named text =
-    if is_other_kind text then Ok None else (principal_of text >>= λ user. Ok (Some user))
+-- A binding that this product does not support has one of these names in place of the part that is
+-- not supported, up to the policy, which leaves it out. No cluster has such names.
 
--- the same of bytes
-abbrev pub user_in : List ℕ → Result (Option (List ℕ)) FaultKind
-user_in bytes = text_in bytes >>= user_named
+abbrev pub other_principal : List ℕ
+other_principal = codes "User:(another kind of principal)"
+
+abbrev pub other_operation : List ℕ
+other_operation = codes "User:(another operation)"
+
+abbrev pub other_resource : List ℕ
+other_resource = codes "(another kind of resource)"
+
+-- why a binding is left out, if it is
+abbrev pub left_out_of : Binding → Option kinds.LeftOut
+left_out_of draft =
+    if bytes_eq draft.pattern.name other_resource then Some left_out.Resource
+    else (if bytes_eq draft.principal other_principal then Some left_out.Principal
+    else (if bytes_eq draft.principal other_operation then Some left_out.Operation else None))
+
+-- the name of a principal, or what is in place of one of another kind
+abbrev pub held_name : List ℕ → List ℕ
+held_name text = if is_other_kind text then other_principal else text
+
+-- the principal that bytes name
+abbrev pub user_in : List ℕ → Result (List ℕ) FaultKind
+user_in bytes = text_in bytes >>= λ text. principal_of (held_name text)
 
 -- The parts of bytes around a mark.
 
@@ -96,17 +114,13 @@ listed_resource word =
     else (if bytes_eq word (codes "USER") then Some None
     else option_map (λ kind. Some kind) (resource_named word))))
 
--- a permission, with the parenthesis that closes a binding or without it
-abbrev pub listed_permission : List ℕ → Option Permission
-listed_permission word =
-    if bytes_eq word (codes "ALLOW)") then Some Allow
-    else (if bytes_eq word (codes "DENY)") then Some Deny else permission_named word)
+-- a word without the parenthesis that closes the list in which it is the last
+abbrev pub unclosed_by : List ℕ → Option (List ℕ × List ℕ) → List ℕ
+unclosed_by word None = word
+unclosed_by word (Some parts) = if bytes_eq parts.1 [] then parts.0 else word
 
--- a kind of pattern, with the parenthesis that closes a resource or without it
-abbrev pub listed_pattern : List ℕ → Option PatternKind
-listed_pattern word =
-    if bytes_eq word (codes "LITERAL)") then Some Literal
-    else (if bytes_eq word (codes "PREFIXED)") then Some Prefixed else pattern_named word)
+abbrev pub unclosed : List ℕ → List ℕ
+unclosed word = unclosed_by word (last_parts word (codes ")"))
 
 -- the parts of a listed binding, as they stand there
 pub record GrantWords : Type 0 where
@@ -115,25 +129,29 @@ pub record GrantWords : Type 0 where
   pub operation : List ℕ
   pub permission : List ℕ
 
--- a listed binding; a principal or an operation that is left out is told in its place
-abbrev pub granted : Permission → List ℕ → Option Operation → Option (List ℕ) → Item
-granted permission host None user = item.LeftOut left_out.Operation
-granted permission host (Some operation) None = item.LeftOut left_out.Principal
-granted permission host (Some operation) (Some user) = item.Grant (record {
-  permission = permission;
-  principal = user;
-  host = host;
-  operation = operation;
-})
+-- the user, or what is in its place beside an operation that is left out
+abbrev pub holder_by : Option Operation → List ℕ → Result (List ℕ) FaultKind
+holder_by None user = principal_of other_operation
+holder_by (Some operation) user = Ok user
 
 unfoldable pub grant_item : GrantWords → Result Item FaultKind
 grant_item words = do
-  permission ← ok_or (listed_permission words.permission) BadWord
+  permission ← ok_or (permission_named (unclosed words.permission)) BadWord
   operation ← ok_or (listed_operation words.operation) BadWord
   user ← user_in words.principal
+  principal ← holder_by operation user
   text ← text_in words.host
   host ← host_of text
-  Ok (granted permission host operation user)
+  Ok (item.Grant (record {
+    permission = permission;
+    principal = principal;
+    host = host;
+    operation = unwrap_or operation All;
+  }))
+
+-- a principal, and not one binding and the next on one line
+abbrev pub one_principal : List ℕ → Result (List ℕ) FaultKind
+one_principal text = if holds_mark text (codes ")(principal=") then Err BadLine else Ok text
 
 -- (principal=PRINCIPAL, host=HOST, operation=OPERATION, permissionType=PERMISSION)
 unfoldable pub newer_grant : List ℕ → Result Item FaultKind
@@ -142,8 +160,9 @@ newer_grant line = do
   by_permission ← around_last inside.1 (codes ", permissionType=")
   by_operation ← around_last by_permission.0 (codes ", operation=")
   by_host ← around_last by_operation.0 (codes ", host=")
+  principal ← one_principal by_host.0
   grant_item (record {
-    principal = by_host.0;
+    principal = principal;
     host = by_host.1;
     operation = by_operation.1;
     permission = by_permission.1;
@@ -177,7 +196,7 @@ pub record TargetWords : Type 0 where
 unfoldable pub target_item : TargetWords → Result Item FaultKind
 target_item words = do
   kind ← ok_or (listed_resource words.resource) BadWord
-  pattern ← ok_or (listed_pattern words.pattern) BadWord
+  pattern ← ok_or (pattern_named (unclosed words.pattern)) BadWord
   name ← text_in words.name
   Ok (item.Resource (headed kind pattern name))
 

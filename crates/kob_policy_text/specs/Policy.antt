@@ -1,6 +1,6 @@
 -- A policy: the bindings of some files in the order in which they are read, the super users, and
 -- whether what no binding matches is open to everyone.
-use Rattle.std.specs.Prelude.{◌≡◌, ◌+◌, ℕ, Bool, false, List, [], ◌∷◌, ◌++◌, remove, Option, Some, None, Result, Ok, Err, is_none, if◌then◌else◌, ◌==◌, position}
+use Rattle.std.specs.Prelude.{◌≡◌, ◌+◌, ◌||◌, ◌&&◌, not, ℕ, Bool, false, List, [], ◌∷◌, ◌++◌, remove, Option, Some, None, Result, Ok, Err, codes, is_none, length, nat_lt, if◌then◌else◌, ◌==◌, position}
 use Rattle.kob_names.specs.Binding.{Binding, draft_fault, is_granted}
 use Rattle.kob_script.specs.declared.fault.FaultKind.{FaultKind}
 use Rattle.kob_script.specs.declared.fault.FaultKind.TheVariants.{BadName, NoResource}
@@ -17,7 +17,14 @@ use Rattle.kob_policy_text.specs.declared.origin.Origin.{Origin}
 use Rattle.kob_policy_text.specs.declared.origin.Omission.{Omission}
 use Rattle.kob_policy_text.specs.Lines.{Says}
 use Rattle.kob_authorizer.specs.Decide.{Contents, decide, Question}
-use Rattle.kob_authorizer.specs.Creation.{Added, addition}
+use Rattle.kob_authorizer.specs.Creation.{Added, addition, create_fault}
+use Rattle.kob_authorizer.specs.declared.fault.CreateFault.{CreateFault}
+use Rattle.kob_names.specs.Same.{same_permission, same_resource, same_text}
+use Rattle.kob_names.specs.TextRules.{name_limit}
+use Rattle.kob_names.specs.declared.kinds.Operation.TheVariants.{ClusterAction}
+use Rattle.kob_names.specs.declared.kinds.Permission.TheVariants.{Deny}
+use Rattle.kob_names.specs.declared.kinds.ResourceKind.TheVariants.{Cluster}
+use Rattle.kob_policy_text.specs.Listing.{left_out_of}
 use Rattle.kob_names.specs.declared.verdict.Verdict.{Verdict}
 use Rattle.kob_script.specs.declared.fault.ScriptError.TheVariants as script_error
 use Rattle.kob_script.specs.declared.fault.LineError.TheVariants as line_error
@@ -25,13 +32,14 @@ use Rattle.kob_policy_text.specs.declared.item.Item.TheVariants as item
 use Rattle.kob_policy_text.specs.declared.item.LeftOut.TheVariants as left_out
 use Rattle.kob_names.specs.declared.verdict.Verdict.TheVariants as verdict
 
--- each binding stands beside its origin; below a heading, the next listed bindings are on what it
--- names, or are left out
+-- each binding stands beside its origin; the closings close what left out bindings are on; below a
+-- heading, the next listed bindings are on what it names, or are left out
 pub record Policy : Type 0 where
   pub supers : List (List ℕ)
   pub everyone : Bool
   pub bindings : List Binding
   pub origins : List Origin
+  pub closings : List Binding
   pub omissions : List Omission
   pub heading : Option (Option Target)
 
@@ -41,6 +49,7 @@ empty_policy = record {
   everyone = false;
   bindings = [];
   origins = [];
+  closings = [];
   omissions = [];
   heading = None;
 }
@@ -49,12 +58,13 @@ empty_policy = record {
 abbrev pub at_file : Policy → Policy
 at_file policy = record policy { heading = None }
 
-abbrev pub omission : Origin → LeftOut → Omission
-omission origin what = record { origin = origin; what = what }
+-- what is left out, and whether it denies
+abbrev pub omission : Origin → LeftOut → Bool → Omission
+omission origin what denies = record { origin = origin; what = what; denies = denies }
 
-abbrev pub with_omission : Policy → Origin → LeftOut → Policy
-with_omission policy origin what =
-    record policy { omissions = policy.omissions ++ omission origin what ∷ [] }
+abbrev pub with_omission : Policy → Origin → LeftOut → Bool → Policy
+with_omission policy origin what denies =
+    record policy { omissions = policy.omissions ++ omission origin what denies ∷ [] }
 
 abbrev pub with_binding : Policy → Origin → Binding → Policy
 with_binding policy origin binding = record policy {
@@ -62,10 +72,40 @@ with_binding policy origin binding = record policy {
   origins = policy.origins ++ origin ∷ [];
 }
 
+-- a binding on the same pattern that covers nobody, since no client has such an address
+abbrev pub closing_of : Binding → Binding
+closing_of binding = record {
+  permission = Deny;
+  principal = codes "User:(left out)";
+  host = codes "(left out)";
+  operation = ClusterAction;
+  resource = binding.resource;
+  pattern = binding.pattern;
+}
+
+-- A binding that is left out still closes its pattern where everyone may do what no binding matches;
+-- one on a kind of resource that is not supported has no pattern here.
+abbrev pub with_closing : Policy → LeftOut → Binding → Policy
+with_closing policy left_out.Resource closing = policy
+with_closing policy _ closing = record policy { closings = policy.closings ++ closing ∷ [] }
+
 -- a binding whose pattern's name is one that a binding may have
+abbrev pub binding_of : Binding → Result Binding FaultKind
+binding_of draft = if is_none (draft_fault draft) then Ok draft else Err BadName
+
+abbrev pub with_draft_left_out : Policy → Origin → LeftOut → Binding → Result Policy FaultKind
+with_draft_left_out policy origin what draft = binding_of (closing_of draft) >>= λ closing.
+    Ok (with_closing (with_omission policy origin what (same_permission draft.permission Deny))
+    what closing)
+
+abbrev pub with_draft_by : Option LeftOut → Policy → Origin → Binding → Result Policy FaultKind
+with_draft_by (Some what) policy origin draft = with_draft_left_out policy origin what draft
+with_draft_by None policy origin draft =
+    binding_of draft >>= λ binding. Ok (with_binding policy origin binding)
+
+-- with a binding more, which may be left out
 abbrev pub with_draft : Policy → Origin → Binding → Result Policy FaultKind
-with_draft policy origin draft =
-    if is_none (draft_fault draft) then Ok (with_binding policy origin draft) else Err BadName
+with_draft policy origin draft = with_draft_by (left_out_of draft) policy origin draft
 
 -- the listed binding with what its heading names
 abbrev pub draft_under : Target → Grant → Binding
@@ -80,9 +120,25 @@ draft_under target grant = record {
 
 abbrev pub with_grant : Policy → Origin → Option (Option Target) → Grant → Result Policy FaultKind
 with_grant policy origin None grant = Err NoResource
-with_grant policy origin (Some None) grant = Ok (with_omission policy origin left_out.Resource)
+with_grant policy origin (Some None) grant =
+    Ok (with_omission policy origin left_out.Resource (same_permission grant.permission Deny))
 with_grant policy origin (Some (Some target)) grant =
     with_draft policy origin (draft_under target grant)
+
+-- no binding may be on this
+abbrev pub has_bad_name : Target → Bool
+has_bad_name target =
+    length target.pattern.name == 0 || ((same_resource target.resource Cluster
+    && not (same_text target.pattern.name (codes "kafka-cluster")))
+    || nat_lt name_limit (length target.pattern.name))
+
+abbrev pub has_bad_heading : Option Target → Bool
+has_bad_heading None = false
+has_bad_heading (Some target) = has_bad_name target
+
+abbrev pub with_heading : Policy → Option Target → Result Policy FaultKind
+with_heading policy target =
+    if has_bad_heading target then Err BadName else Ok (record policy { heading = Some target })
 
 -- the policy with one thing more that was said
 unfoldable pub with_item : Policy → Origin → Item → Result Policy FaultKind
@@ -90,9 +146,9 @@ with_item policy origin (item.Super user) =
     Ok (record policy { supers = policy.supers ++ user ∷ [] })
 with_item policy origin (item.Everyone everyone) = Ok (record policy { everyone = everyone })
 with_item policy origin (item.Rule draft) = with_draft policy origin draft
-with_item policy origin (item.Resource target) = Ok (record policy { heading = Some target })
+with_item policy origin (item.Resource target) = with_heading policy target
 with_item policy origin (item.Grant grant) = with_grant policy origin policy.heading grant
-with_item policy origin (item.LeftOut what) = Ok (with_omission policy origin what)
+with_item policy origin (item.LeftOut what) = Ok (with_omission policy origin what false)
 
 -- one thing after another, up to the first fault
 unfoldable pub with_items : Policy → Origin → List Item → Result Policy FaultKind
@@ -148,14 +204,26 @@ IsRead (Err error) new Makes = IsStopped error Makes
 abbrev pub added : Policy → Added
 added policy = addition [] 1 policy.bindings
 
+-- and then what left out bindings close
+abbrev pub closed : Policy → Added
+closed policy = addition (added policy).entries (added policy).next policy.closings
+
 -- what the authorizer holds
 unfoldable pub contents_of : Policy → Contents
 contents_of policy = record {
-  entries = (added policy).entries;
+  entries = (closed policy).entries;
   supers = policy.supers;
   everyone = policy.everyone;
-  next = (added policy).next;
+  next = (closed policy).next;
 }
+
+-- why no authorizer holds all these bindings
+abbrev pub fault_by : Policy → Option CreateFault → Option CreateFault
+fault_by policy None = create_fault (added policy).entries (added policy).next policy.closings
+fault_by policy (Some fault) = Some fault
+
+unfoldable pub open_fault : Policy → Option CreateFault
+open_fault policy = fault_by policy (create_fault [] 1 policy.bindings)
 
 -- the serial of each binding
 unfoldable pub serials_of : Policy → List ℕ

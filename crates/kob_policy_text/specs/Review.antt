@@ -13,9 +13,9 @@ use Rattle.kob_policy_review.specs.declared.difference.Outcome.TheVariants.{Same
 use Rattle.kob_policy_review.specs.declared.redundant.Reason.{Reason}
 use Rattle.kob_policy_review.specs.declared.redundant.Reason.TheVariants.{CoveredBy, DeniedBy, Super, Together}
 use Rattle.kob_policy_review.specs.declared.redundant.Unneeded.{Unneeded}
-use Rattle.kob_policy_text.specs.Answers.{hand_of, line_by, may_text, request_text, sees_text, shadowed_text, who_text}
+use Rattle.kob_policy_text.specs.Answers.{hand_of, line_at, may_text, request_text, sees_text, shadowed_text, who_text}
 use Rattle.kob_policy_text.specs.AtHand.{asked_at_hand}
-use Rattle.kob_policy_text.specs.Policy.{Policy, contents_of, may}
+use Rattle.kob_policy_text.specs.Policy.{Policy, contents_of, may, place_of}
 use Rattle.kob_policy_text.specs.Questions.{Questions}
 use Rattle.kob_policy_text.specs.declared.question.Question.{Question}
 use Rattle.kob_policy_text.specs.declared.question.Question.TheVariants.{May, Ask, Who, Sees, Unused, Shadowed}
@@ -28,8 +28,13 @@ why_text (CoveredBy serial) = codes "    covered by " ++ decimal serial ++ codes
 why_text (DeniedBy serial) = codes "    denied by " ++ decimal serial ++ codes "\n"
 why_text Together = codes "    covered by several, or nothing to deny\n"
 
+-- nothing is printed of what a left out binding closes
+abbrev pub unneeded_at : Policy → Reason → Option ℕ → List ℕ
+unneeded_at policy reason None = []
+unneeded_at policy reason (Some place) = line_at policy (Some place) ++ why_text reason
+
 unfoldable pub unneeded_text : Policy → Unneeded → List ℕ
-unneeded_text policy one = line_by policy (Some one.serial) ++ why_text one.reason
+unneeded_text policy one = unneeded_at policy one.reason (place_of policy one.serial)
 
 -- the bindings without which, each taken alone, no answer at all changes
 abbrev pub unused_text : Policy → List ℕ

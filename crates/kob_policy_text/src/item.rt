@@ -36,5 +36,6 @@ pub enum Item {
     /// The bindings that are listed below are on this, or are left out.
     Resource(Option<Target>),
     Grant(Grant),
+    /// A super user is left out.
     LeftOut(LeftOut),
 }

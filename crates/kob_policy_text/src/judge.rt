@@ -1,9 +1,8 @@
 //! How a policy decides.
 
-ghost use Rattle.std.specs.Prelude.{◌≡◌, ◌≢◌, [], IfErr, IfOk, Some, alloc_error};
-ghost use Rattle.kob_authorizer.specs.Creation.{create_fault};
-ghost use Rattle.kob_policy_text.specs.Policy.{contents_of, deciding, is_yes, may, place_of};
-ghost use Rattle.kob_policy_text.specs.Policy.{serials_of};
+ghost use Rattle.std.specs.Prelude.{◌≡◌, ◌≢◌, [], IfErr, IfOk, OnOk, Some, alloc_error};
+ghost use Rattle.kob_policy_text.specs.Policy.{added, closed, contents_of, deciding, is_yes, may};
+ghost use Rattle.kob_policy_text.specs.Policy.{open_fault, place_of, serials_of};
 
 use crate::asked::Asked;
 use crate::policy::Policy;
@@ -39,7 +38,7 @@ impl Judge {
     pub fn open(alloc: Global, policy: Policy) -> Result<Judge, CreateFault>
         ensures policy { IfOk result (λ judge. judge ≡ policy) }
         ensures fault { IfErr result (λ fault. fault ≢ CreateFault.Memory alloc_error
-            → create_fault [] 1 policy.bindings ≡ Some fault) }
+            → open_fault policy ≡ Some fault) }
     {
         match in_force(alloc, &policy) {
             Ok((authorizer, serials)) => Ok(Judge {
@@ -109,17 +108,39 @@ fn in_force(alloc: Global, policy: &Policy) -> Result<(Authorizer, Vec<u64>), Cr
     ensures made { IfOk result (λ made. (made.0.contents ≡ contents_of policy.now)
         × (made.1.items ≡ serials_of policy.now)) }
     ensures fault { IfErr result (λ fault. fault ≢ CreateFault.Memory alloc_error
-        → create_fault [] 1 policy.now.bindings ≡ Some fault) }
+        → open_fault policy.now ≡ Some fault) }
 {
     let supers = Items::copied(alloc, policy.supers())?.into_vec();
     let mut authorizer = Authorizer::open(alloc, supers, policy.everyone());
-    match authorizer.create(alloc, policy.bindings()) {
+    match create_all(alloc, &mut authorizer, policy) {
         Ok(serials) => Ok((authorizer, serials)),
         Err(fault) => {
             drop(authorizer);
             Err(fault)
         }
     }
+}
+
+/// Puts the bindings of a policy in force, and then those that close what was left out.
+#[tactic(auto, unfolding(crate::specs::Policy::open_fault))]
+fn create_all(
+    alloc: Global,
+    authorizer: &mut Authorizer,
+    policy: &Policy,
+) -> Result<Vec<u64>, CreateFault>
+    requires entries { authorizer.old.contents.entries ≡ [] }
+    requires next { authorizer.old.contents.next ≡ 1 }
+    ensures entries { OnOk result (authorizer.new.contents.entries ≡ (closed policy.now).entries) }
+    ensures next { OnOk result (authorizer.new.contents.next ≡ (closed policy.now).next) }
+    ensures serials { IfOk result (λ serials. serials.items ≡ (added policy.now).serials) }
+    ensures supers { authorizer.new.contents.supers ≡ authorizer.old.contents.supers }
+    ensures everyone { authorizer.new.contents.everyone ≡ authorizer.old.contents.everyone }
+    ensures fault { IfErr result (λ fault. fault ≢ CreateFault.Memory alloc_error
+        → open_fault policy.now ≡ Some fault) }
+{
+    let serials = authorizer.create(alloc, policy.bindings())?;
+    authorizer.create(alloc, policy.closings())?;
+    Ok(serials)
 }
 
 /// The serial that decides, if one does.

@@ -1,29 +1,30 @@
 //! What a line of a policy says.
 
-ghost use Rattle.std.specs.Prelude.{◌≡◌, ◌∷◌, [], IfOk, Ok, map};
+ghost use Rattle.std.specs.Prelude.{◌≡◌, ◌∷◌, [], IfOk, Ok, map, option_map};
 ghost use Rattle.std.specs.List.{slice_split};
-ghost use Rattle.kob_policy_text.specs.Lines.{SaysBy, Says, between_semicolons, everyone_item};
-ghost use Rattle.kob_policy_text.specs.Lines.{base_name, has_other_kind, is_listed, is_tool, left_out_by};
-ghost use Rattle.kob_policy_text.specs.Lines.{listed_items, property_by};
-ghost use Rattle.kob_policy_text.specs.Lines.{property_items, rules_in, rules_of, said};
-ghost use Rattle.kob_policy_text.specs.Lines.{script_line, setting_items, super_item, tool_line};
-ghost use Rattle.kob_policy_text.specs.Lines.{SaysByWords, any_left_out, any_other_kind, has_shell_mark};
-ghost use Rattle.kob_policy_text.specs.Lines.{only_event, rule_items, words_items};
+ghost use Rattle.kob_policy_text.specs.Lines.{Says, SaysByWords, SaysTrimmed, acl_texts, asker_of};
+ghost use Rattle.kob_policy_text.specs.Lines.{base_name, between_semicolons, everyone_item, held_words};
+ghost use Rattle.kob_policy_text.specs.Lines.{is_for_other_kind, is_listed, is_tool, listed_items, names_other_kind};
+ghost use Rattle.kob_policy_text.specs.Lines.{only_event, property_by, property_items, rules_in};
+ghost use Rattle.kob_policy_text.specs.Lines.{rules_of, setting_items, super_item, super_line, texts_behind};
+ghost use Rattle.kob_policy_text.specs.Lines.{tool_arguments, tool_texts, words_items};
+ghost use Rattle.kob_policy_text.specs.Options.{SaysOptions};
 ghost use Rattle.kob_policy_text.specs.Outcomes.{MayGive};
 ghost use Rattle.kob_policy_text.specs.Listing.{trimmed};
-ghost use Rattle.kob_script.specs.Words.{Gives, GivesSeen, each, words_of};
-ghost use Rattle.kob_script.specs.Script.{IsAnswerToLine};
+ghost use Rattle.kob_script.specs.Words.{Gives, GivesSeen, each, text_in, text_of, words_of};
+ghost use Rattle.kob_script.specs.Script.{asks_clap};
 
 use crate::item::{Item, LeftOut};
 use crate::listing::{heading_item, newer_grant, older_grant};
+use crate::options::{added, rule_items};
 use crate::pieces::{around_first, first_parts, holds_mark, last_parts, trimmed};
-use crate::users::{is_other_kind, user_in};
-use kob_acl_cli::CliArgs;
-use kob_names::{Draft, Text};
+use crate::shell::shell_words;
+use crate::users::{OTHER_PRINCIPAL, is_other_kind, text_in, user_in};
+use kob_names::{Bytes, Host, Principal, Text};
 use kob_rights::{Event, Request};
 use kob_script::{
-    FaultKind, LineError, Word, answer_to, events_of, everyone_of, is_setting, is_super, super_of,
-    words_of,
+    FaultKind, LineError, Word, events_of, everyone_of, host_of, is_setting, is_super,
+    lent_text_of, principal_of, text_of, words_of,
 };
 use std::alloc::{AllocError, Global};
 use std::collections::VecDeque;
@@ -40,10 +41,12 @@ fn one(alloc: Global, item: Item) -> Result<Vec<Item>, LineError>
 fn super_item(alloc: Global, bytes: &[u8]) -> Result<Item, LineError>
     ensures { Gives result (super_item bytes.now) }
 {
-    match user_in(alloc, bytes)? {
-        Some(user) => Ok(Item::Super(user)),
-        None => Ok(Item::LeftOut(LeftOut::Principal)),
+    let user = user_in(alloc, bytes)?;
+    if user.as_str() == OTHER_PRINCIPAL {
+        drop(user);
+        return Ok(Item::LeftOut(LeftOut::Principal));
     }
+    Ok(Item::Super(user))
 }
 
 fn between_semicolons(alloc: Global, value: &[u8]) -> Result<Vec<&[u8]>, AllocError>
@@ -155,33 +158,57 @@ fn is_tool(command: &[u8]) -> bool
         && (base == b"kafka-acls".as_slice() || base == b"kafka-acls.sh".as_slice())
 }
 
-fn has_shell_mark(bytes: &[u8]) -> bool
-    ensures { result ≡ has_shell_mark bytes.now }
-{
-    bytes
-        .iter()
-        .any(|byte| matches!(*byte, b'"' | b'\'' | b'\\' | b'$' | b'`'))
-}
-
-fn tool_line(alloc: Global, arguments: &[u8]) -> Result<Vec<u8>, LineError>
-    ensures { GivesSeen (λ line. line.items) result (tool_line arguments.now) }
-{
-    if has_shell_mark(arguments) {
-        return Err(LineError::Fault(FaultKind::Usage));
-    }
-    let mut line = Vec::from_slice(alloc, b"User:* * acl ")?;
-    line.extend_from_slice(arguments)?;
-    Ok(line)
-}
-
-/// The line as a script has it.
-#[tactic(auto, unfolding(crate::specs::Lines::script_line))]
-fn script_line(alloc: Global, line: &[u8]) -> Result<Vec<u8>, LineError>
-    ensures { GivesSeen (λ made. made.items) result (script_line line.now) }
+/// What is after the word of Kafka's tool.
+#[tactic(auto, unfolding(crate::specs::Lines::tool_arguments))]
+fn tool_arguments(line: &[u8]) -> Option<&[u8]>
+    ensures { option_map (λ arguments. arguments.now) result ≡ tool_arguments line.entry.now }
 {
     match first_parts(line, b" ") {
-        Some((command, arguments)) if is_tool(command) => tool_line(alloc, arguments),
-        _ => Ok(Vec::from_slice(alloc, line)?),
+        Some((command, arguments)) if is_tool(command) => Some(arguments),
+        _ => None,
+    }
+}
+
+fn copied_text(alloc: Global, bytes: &[u8]) -> Result<Text, LineError>
+    ensures { Gives result (text_in bytes.now) }
+{
+    let text = text_in(bytes)?;
+    Ok(Text::copied(alloc, text)?)
+}
+
+fn texts_in(alloc: Global, words: &[Bytes]) -> Result<Vec<Text>, LineError>
+    ensures { GivesSeen (λ texts. texts.items) result (each text_in words.now) }
+{
+    let mut texts = Vec::with_capacity(alloc, words.len())?;
+    for word in words {
+        let text = copied_text(alloc, word.as_slice())?;
+        texts.push(text)?;
+    }
+    Ok(texts)
+}
+
+/// The texts that a shell would pass to Kafka's tool.
+fn tool_texts(alloc: Global, arguments: &[u8]) -> Result<Vec<Text>, LineError>
+    ensures { GivesSeen (λ texts. texts.items) result (tool_texts arguments.now) }
+{
+    let words = shell_words(alloc, arguments)?;
+    texts_in(alloc, &words)
+}
+
+fn tool_items(alloc: Global, arguments: &[u8]) -> Result<Vec<Item>, LineError>
+    ensures { MayGive (λ items. items.items) result (SaysOptions (tool_texts arguments.now)) }
+{
+    let texts = tool_texts(alloc, arguments)?;
+    added(alloc, &texts)
+}
+
+/// `super PRINCIPAL`
+fn super_line(alloc: Global, arguments: &[Word<'_>]) -> Result<Vec<Item>, LineError>
+    ensures { GivesSeen (λ items. items.items) result (super_line arguments.now) }
+{
+    match arguments {
+        [name] => one(alloc, super_item(alloc, name.decoded())?),
+        _ => Err(LineError::Fault(FaultKind::BadLine)),
     }
 }
 
@@ -193,63 +220,44 @@ fn setting_items(
 ) -> Result<Vec<Item>, LineError>
     ensures { GivesSeen (λ items. items.items) result (setting_items first.now arguments.now) }
 {
-    let item = if is_super(first) {
-        Item::Super(super_of(alloc, arguments)?)
+    if is_super(first) {
+        super_line(alloc, arguments)
     } else {
-        Item::Everyone(everyone_of(arguments)?)
-    };
-    one(alloc, item)
+        one(alloc, Item::Everyone(everyone_of(arguments)?))
+    }
 }
 
-fn any_left_out(words: &[Word<'_>]) -> bool
-    ensures { result ≡ any_left_out words.now }
+/// Whether the words create a binding for a principal of another kind.
+fn is_for_other_kind(words: &[Word<'_>]) -> bool
+    ensures { result ≡ is_for_other_kind words.now }
 {
-    words.iter().any(|word| {
-        word.decoded().starts_with(b"--delegation-token")
-            || word.decoded().starts_with(b"--user-principal")
-    })
-}
-
-fn has_other_kind(answer: &Option<CliArgs>) -> bool
-    ensures { result ≡ has_other_kind answer.now }
-{
-    match answer {
-        None => false,
-        Some(args) => {
-            any_other_kind(args.allow_principals.as_slice())
-                || any_other_kind(args.deny_principals.as_slice())
+    match words {
+        [_, _, command, _, principal, ..] => {
+            command.decoded() == b"create-acl".as_slice() && names_other_kind(principal)
         }
+        _ => false,
     }
 }
 
-fn any_other_kind(names: &[Text]) -> bool
-    ensures { result ≡ any_other_kind names.now }
+fn names_other_kind(word: &Word<'_>) -> bool
+    ensures { result ≡ names_other_kind word.now }
 {
-    names.iter().any(|name| is_other_kind(name.as_str()))
-}
-
-/// Why a line that asks for bindings is left out, or `None`.
-#[tactic(auto, unfolding(crate::specs::Lines::left_out_by))]
-fn left_out_by(answer: &Option<CliArgs>, words: &[Word<'_>]) -> Option<LeftOut>
-    ensures { result ≡ left_out_by answer.now words.now }
-{
-    if any_left_out(words) {
-        Some(LeftOut::Resource)
-    } else if has_other_kind(answer) {
-        Some(LeftOut::Principal)
-    } else {
-        None
+    match lent_text_of(word) {
+        Ok(text) => is_other_kind(text),
+        Err(_) => false,
     }
 }
 
-fn rule_items(alloc: Global, drafts: Vec<Draft>) -> Result<Vec<Item>, AllocError>
-    ensures { IfOk result (λ items. items.items ≡ rule_items drafts.items) }
+#[tactic(auto, using(crate::proofs::Passing::has_fifth))]
+fn held_words<'a>(alloc: Global, words: Vec<Word<'a>>) -> Result<Vec<Word<'a>>, LineError>
+    ensures { GivesSeen (λ held. held.items) result (held_words words.entry.items) }
 {
-    let mut items = Vec::with_capacity(alloc, drafts.len())?;
-    for draft in drafts {
-        items.push(Item::Rule(draft))?;
+    if !is_for_other_kind(&words) {
+        return Ok(words);
     }
-    Ok(items)
+    let mut held = words;
+    held[4] = Word::read(alloc, OTHER_PRINCIPAL.as_bytes())?;
+    Ok(held)
 }
 
 fn rules_in(alloc: Global, request: Request) -> Result<Vec<Item>, LineError>
@@ -287,12 +295,8 @@ pub fn only_event(mut asked: VecDeque<Event>) -> Option<Event>
 }
 
 #[tactic(auto, unfolding(crate::specs::Lines::words_items))]
-fn words_items(
-    alloc: Global,
-    answer: &Option<CliArgs>,
-    words: &[Word<'_>],
-) -> Result<Vec<Item>, LineError>
-    ensures { GivesSeen (λ items. items.items) result (words_items answer.now words.now) }
+fn words_items(alloc: Global, words: Vec<Word<'_>>) -> Result<Vec<Item>, LineError>
+    ensures { GivesSeen (λ items. items.items) result (words_items words.entry.items) }
 {
     let Some((first, arguments)) = words.split_first() else {
         return Ok(Vec::new(alloc));
@@ -300,31 +304,94 @@ fn words_items(
     if is_setting(first) {
         return setting_items(alloc, first, arguments);
     }
-    match left_out_by(answer, words) {
-        Some(what) => one(alloc, Item::LeftOut(what)),
-        None => rules_of(alloc, events_of(alloc, words, answer)?),
+    let held = held_words(alloc, words)?;
+    rules_of(alloc, events_of(alloc, &held, &None)?)
+}
+
+fn texts_of(alloc: Global, words: &[Word<'_>]) -> Result<Vec<Text>, LineError>
+    ensures { GivesSeen (λ texts. texts.items) result (each text_of words.now) }
+{
+    let mut texts = Vec::with_capacity(alloc, words.len())?;
+    for word in words {
+        let text = text_of(alloc, word)?;
+        texts.push(text)?;
+    }
+    Ok(texts)
+}
+
+fn asker_of(alloc: Global, name: &Text, address: &Text) -> Result<(Principal, Host), LineError>
+    ensures { Gives result (asker_of name.now address.now) }
+{
+    let principal = principal_of(alloc, name.as_str())?;
+    let host = host_of(alloc, address.as_str())?;
+    Ok((principal, host))
+}
+
+fn texts_behind(
+    alloc: Global,
+    who: &Word<'_>,
+    from: &Word<'_>,
+    arguments: &[Word<'_>],
+) -> Result<Vec<Text>, LineError>
+    ensures { GivesSeen (λ texts. texts.items) result
+        (texts_behind who.now from.now arguments.now) }
+{
+    let name = text_of(alloc, who)?;
+    let address = text_of(alloc, from)?;
+    let texts = texts_of(alloc, arguments)?;
+    let asker = asker_of(alloc, &name, &address)?;
+    drop(asker);
+    Ok(texts)
+}
+
+/// The texts after `acl`.
+#[tactic(auto, unfolding(crate::specs::Lines::acl_texts))]
+fn acl_texts(alloc: Global, words: &[Word<'_>]) -> Result<Vec<Text>, LineError>
+    ensures { GivesSeen (λ texts. texts.items) result (acl_texts words.now) }
+{
+    match words {
+        [who, from, _, arguments @ ..] => texts_behind(alloc, who, from, arguments),
+        _ => Ok(Vec::new(alloc)),
     }
 }
 
-/// What a line of a script says, by what `clap` returns if the line is an `acl` line.
-fn script_items(alloc: Global, text: &[u8]) -> Result<Vec<Item>, LineError>
-    ensures { MayGive (λ items. items.items) result (SaysByWords text.now) }
+fn asks_by_acl(words: &[Word<'_>]) -> bool
+    ensures { result ≡ asks_clap words.now }
 {
-    let words = words_of(alloc, text)?;
-    let answer = answer_to(alloc, &words)?;
-    let items = words_items(alloc, &answer, &words);
-    drop(answer);
-    items
+    match words {
+        [first, _, command, ..] => !is_setting(first) && command.decoded() == b"acl".as_slice(),
+        _ => false,
+    }
 }
 
-/// What a line says. The words of an `acl` line are read by `clap`.
-pub fn items_of(alloc: Global, line: &[u8]) -> Result<Vec<Item>, LineError>
-    ensures { MayGive (λ items. items.items) result (Says line.now) }
+/// What a line of a script says.
+fn script_items(alloc: Global, line: &[u8]) -> Result<Vec<Item>, LineError>
+    ensures { MayGive (λ items. items.items) result (SaysByWords (words_of line.now)) }
 {
-    let line = trimmed(line);
+    let words = words_of(alloc, line)?;
+    if asks_by_acl(&words) {
+        let texts = acl_texts(alloc, &words)?;
+        return added(alloc, &texts);
+    }
+    words_items(alloc, words)
+}
+
+#[tactic(auto, unfolding(crate::specs::Lines::SaysTrimmed))]
+fn trimmed_items(alloc: Global, line: &[u8]) -> Result<Vec<Item>, LineError>
+    ensures { MayGive (λ items. items.items) result (SaysTrimmed line.now) }
+{
     if is_listed(line) {
         return listed_items(alloc, line);
     }
-    let text = script_line(alloc, line)?;
-    script_items(alloc, &text)
+    match tool_arguments(line) {
+        Some(arguments) => tool_items(alloc, arguments),
+        None => script_items(alloc, line),
+    }
+}
+
+/// What a line says. The options of `kafka-acls` and of `acl` are read by `clap`.
+pub fn items_of(alloc: Global, line: &[u8]) -> Result<Vec<Item>, LineError>
+    ensures { MayGive (λ items. items.items) result (Says line.now) }
+{
+    trimmed_items(alloc, trimmed(line))
 }

@@ -1,20 +1,20 @@
 //! The lines that `kafka-acls --list` prints.
 
 ghost use Rattle.std.specs.Prelude.{◌≡◌, codes, ok_or};
-ghost use Rattle.kob_policy_text.specs.Listing.{grant_item, granted, headed, heading_item};
-ghost use Rattle.kob_policy_text.specs.Listing.{listed_operation, listed_pattern};
-ghost use Rattle.kob_policy_text.specs.Listing.{listed_permission, listed_resource};
+ghost use Rattle.kob_policy_text.specs.Listing.{grant_item, headed, heading_item, holder_by};
+ghost use Rattle.kob_policy_text.specs.Listing.{listed_operation, listed_resource, one_principal};
+ghost use Rattle.kob_policy_text.specs.Listing.{unclosed};
 ghost use Rattle.kob_policy_text.specs.Listing.{is_pattern_word, newer_grant, newer_resource};
 ghost use Rattle.kob_policy_text.specs.Listing.{older_grant, older_resource, older_target};
 ghost use Rattle.kob_policy_text.specs.Listing.{resource_item, target_item, first_parts};
 ghost use Rattle.kob_script.specs.Words.{Gives, GivesSeen};
 ghost use Rattle.kob_script.specs.declared.fault.FaultKind.TheVariants.{BadWord};
 
-use crate::item::{Grant, Item, LeftOut, Target};
-use crate::pieces::{around_first, around_last, first_parts};
-use crate::users::{text_in, user_in};
+use crate::item::{Grant, Item, Target};
+use crate::pieces::{around_first, around_last, first_parts, holds_mark, last_parts};
+use crate::users::{OTHER_OPERATION, text_in, user_in};
 use kob_names::{Host, Operation, Pattern, PatternKind, Permission, Principal, ResourceKind, Text};
-use kob_script::{FaultKind, LineError, host_of};
+use kob_script::{FaultKind, LineError, host_of, principal_of};
 use kob_words::{operation_named, pattern_named, permission_named, resource_named};
 use std::alloc::Global;
 use std::marker::Model;
@@ -105,27 +105,13 @@ fn listed_resource(word: &[u8]) -> Option<Option<ResourceKind>>
     }
 }
 
-fn listed_permission(word: &[u8]) -> Option<Permission>
-    ensures { result ≡ listed_permission word.now }
+/// The word without the parenthesis that closes a list.
+fn unclosed(word: &[u8]) -> &[u8]
+    ensures { result.now ≡ unclosed word.entry.now }
 {
-    if word == b"ALLOW)".as_slice() {
-        Some(Permission::Allow)
-    } else if word == b"DENY)".as_slice() {
-        Some(Permission::Deny)
-    } else {
-        permission_named(word)
-    }
-}
-
-fn listed_pattern(word: &[u8]) -> Option<PatternKind>
-    ensures { result ≡ listed_pattern word.now }
-{
-    if word == b"LITERAL)".as_slice() {
-        Some(PatternKind::Literal)
-    } else if word == b"PREFIXED)".as_slice() {
-        Some(PatternKind::Prefixed)
-    } else {
-        pattern_named(word)
+    match last_parts(word, b")") {
+        Some((front, behind)) if behind == b"".as_slice() => front,
+        _ => word,
     }
 }
 
@@ -139,25 +125,20 @@ pub fn known<T: Drop>(found: Option<T>) -> Result<T, LineError>
     }
 }
 
-fn granted(
-    permission: Permission,
-    host: Host,
+/// The user, or the principal in its place if the operation is left out.
+fn holder_by(
+    alloc: Global,
     operation: Option<Operation>,
-    user: Option<Principal>,
-) -> Item
-    ensures { result ≡ granted permission host operation user }
+    user: Principal,
+) -> Result<Principal, LineError>
+    ensures { Gives result (holder_by operation user) }
 {
-    let Some(operation) = operation else {
-        return Item::LeftOut(LeftOut::Operation);
-    };
-    match user {
-        None => Item::LeftOut(LeftOut::Principal),
-        Some(principal) => Item::Grant(Grant {
-            permission,
-            principal,
-            host,
-            operation,
-        }),
+    match operation {
+        Some(_) => Ok(user),
+        None => {
+            drop(user);
+            principal_of(alloc, OTHER_OPERATION)
+        }
     }
 }
 
@@ -165,12 +146,27 @@ fn granted(
 fn grant_item(alloc: Global, words: &GrantWords<'_>) -> Result<Item, LineError>
     ensures { Gives result (grant_item words.now) }
 {
-    let permission = known(listed_permission(words.permission))?;
+    let permission = known(permission_named(unclosed(words.permission)))?;
     let operation = known(listed_operation(words.operation))?;
     let user = user_in(alloc, words.principal)?;
+    let principal = holder_by(alloc, operation, user)?;
     let text = text_in(words.host)?;
-    let host = host_of(alloc, text)?;
-    Ok(granted(permission, host, operation, user))
+    Ok(Item::Grant(Grant {
+        permission,
+        principal,
+        host: host_of(alloc, text)?,
+        operation: operation.unwrap_or(Operation::All),
+    }))
+}
+
+/// The principal, unless another binding begins on the same line.
+fn one_principal(text: &[u8]) -> Result<&[u8], LineError>
+    ensures { GivesSeen (λ text. text.now) result (one_principal text.entry.now) }
+{
+    if holds_mark(text, b")(principal=") {
+        return Err(LineError::Fault(FaultKind::BadLine));
+    }
+    Ok(text)
 }
 
 /// `(principal=PRINCIPAL, host=HOST, operation=OPERATION, permissionType=PERMISSION)`
@@ -182,8 +178,9 @@ pub fn newer_grant(alloc: Global, line: &[u8]) -> Result<Item, LineError>
     let (front, permission) = around_last(inside, b", permissionType=")?;
     let (holder, operation) = around_last(front, b", operation=")?;
     let (principal, host) = around_last(holder, b", host=")?;
+    let user = one_principal(principal)?;
     let words = GrantWords {
-        principal,
+        principal: user,
         host,
         operation,
         permission,
@@ -228,7 +225,7 @@ fn target_item(alloc: Global, words: &TargetWords<'_>) -> Result<Item, LineError
     ensures { Gives result (target_item words.now) }
 {
     let kind = known(listed_resource(words.resource))?;
-    let pattern = known(listed_pattern(words.pattern))?;
+    let pattern = known(pattern_named(unclosed(words.pattern)))?;
     let text = text_in(words.name)?;
     let name = Text::copied(alloc, text)?;
     Ok(Item::Resource(headed(kind, pattern, name)))

@@ -10,9 +10,10 @@ pub struct Origin {
     pub line: u64,
 }
 
-/// A binding or a super user that is left out, and why.
+/// A binding or a super user that is left out, why, and whether it denies.
 #[derive(Drop)]
 pub struct Omission {
     pub origin: Origin,
     pub what: LeftOut,
+    pub denies: bool,
 }

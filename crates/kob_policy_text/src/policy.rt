@@ -1,30 +1,38 @@
 //! The policy that files make.
 
-ghost use Rattle.std.specs.Prelude.{◌≡◌, ◌<◌, IfOk, OnOk, length};
+ghost use Rattle.std.specs.Prelude.{◌≡◌, ◌<◌, IfOk, OnOk, codes, length};
 ghost use Rattle.kob_policy_text.specs.Outcomes.{MayGive};
-ghost use Rattle.kob_policy_text.specs.Policy.{FileMakes, IsRead, LineMakes, at_file, draft_under};
-ghost use Rattle.kob_policy_text.specs.Policy.{empty_policy, fault_at, with_binding, with_draft};
-ghost use Rattle.kob_policy_text.specs.Policy.{with_grant, with_item, with_items};
+ghost use Rattle.kob_policy_text.specs.Policy.{FileMakes, IsRead, LineMakes, at_file, binding_of};
+ghost use Rattle.kob_policy_text.specs.Policy.{closing_of, draft_under, empty_policy, fault_at};
+ghost use Rattle.kob_policy_text.specs.Policy.{has_bad_heading, has_bad_name, with_binding};
+ghost use Rattle.kob_policy_text.specs.Policy.{with_closing, with_draft, with_draft_left_out};
+ghost use Rattle.kob_policy_text.specs.Policy.{with_grant, with_heading, with_item, with_items};
 ghost use Rattle.kob_policy_text.specs.Policy.{with_omission};
-ghost use Rattle.kob_script.specs.Words.{GivesSeen};
+ghost use Rattle.kob_script.specs.Words.{Gives, GivesSeen};
 
 use crate::item::{Grant, Item, LeftOut, Target};
 use crate::lines::items_of;
 use crate::origin::{Omission, Origin};
+use crate::users::left_out_of;
 use bstr::ByteSlice;
-use kob_names::{Binding, BindingFault, Draft, Items, PlainValue, Principal, Text};
+use kob_names::{
+    Binding, BindingFault, Draft, Host, HostFault, Items, Operation, Permission, PlainValue,
+    Principal, PrincipalFault, ResourceKind, Text,
+};
 use kob_script::{Fault, FaultKind, LineError, ScriptError};
 use std::alloc::{AllocError, Global};
 use std::marker::Model;
 
 /// The bindings of some files in the order in which they are read, each beside its origin, the super
-/// users, whether what no binding matches is open to everyone, and what was left out.
+/// users, whether what no binding matches is open to everyone, and what was left out, whose patterns
+/// are closed nevertheless.
 #[derive(Drop)]
 pub struct Policy {
     supers: Vec<Principal>,
     everyone: bool,
     bindings: Vec<Binding>,
     origins: Vec<Origin>,
+    closings: Vec<Binding>,
     omissions: Vec<Omission>,
     heading: Option<Option<Target>>,
 }
@@ -39,6 +47,7 @@ impl Model for Policy {
       everyone = policy.everyone;
       bindings = policy.bindings.items;
       origins = policy.origins.items;
+      closings = policy.closings.items;
       omissions = policy.omissions.items;
       heading = policy.heading;
     } };
@@ -66,6 +75,7 @@ impl Policy {
             everyone: false,
             bindings: Vec::new(alloc),
             origins: Vec::new(alloc),
+            closings: Vec::new(alloc),
             omissions: Vec::new(alloc),
             heading: None,
         }
@@ -99,6 +109,13 @@ impl Policy {
         self.origins.as_slice()
     }
 
+    /// Bindings that cover nobody, on the patterns of bindings that were left out.
+    pub fn closings(&self) -> &[Binding]
+        ensures { result.now ≡ self.now.closings }
+    {
+        self.closings.as_slice()
+    }
+
     /// What was left out, in the order in which it is read.
     pub fn omissions(&self) -> &[Omission]
         ensures { result.now ≡ self.now.omissions }
@@ -111,11 +128,16 @@ impl Policy {
         alloc: Global,
         origin: &Origin,
         what: LeftOut,
+        denies: bool,
     ) -> Result<(), AllocError>
-        ensures { OnOk result (self.new ≡ with_omission self.old origin.now what) }
+        ensures { OnOk result (self.new ≡ with_omission self.old origin.now what denies) }
     {
         let origin = origin.copy(alloc)?;
-        self.omissions.push(Omission { origin, what })?;
+        self.omissions.push(Omission {
+            origin,
+            what,
+            denies,
+        })?;
         Ok(())
     }
 
@@ -132,13 +154,41 @@ impl Policy {
         Ok(())
     }
 
+    /// Closes the pattern of what is left out, if its kind of resource is supported.
+    fn add_closing(&mut self, what: LeftOut, closing: Binding) -> Result<(), AllocError>
+        ensures { OnOk result (self.new ≡ with_closing self.old what closing) }
+    {
+        match what {
+            LeftOut::Resource => drop(closing),
+            LeftOut::Principal | LeftOut::Operation => self.closings.push(closing)?,
+        }
+        Ok(())
+    }
+
+    fn add_left_out(
+        &mut self,
+        alloc: Global,
+        origin: &Origin,
+        what: LeftOut,
+        draft: &Draft,
+    ) -> Result<(), LineError>
+        ensures { GivesSeen (λ _. self.new) result (with_draft_left_out self.old origin.now what draft.now) }
+    {
+        let closing = closing_of(alloc, draft)?;
+        let closing = binding_of(alloc, &closing)?;
+        self.add_omission(alloc, origin, what, draft.permission == Permission::Deny)?;
+        Ok(self.add_closing(what, closing)?)
+    }
+
     fn add_draft(&mut self, alloc: Global, origin: &Origin, draft: &Draft) -> Result<(), LineError>
         ensures { GivesSeen (λ _. self.new) result (with_draft self.old origin.now draft.now) }
     {
-        match Binding::new(alloc, draft) {
-            Ok(binding) => Ok(self.add_binding(alloc, origin, binding)?),
-            Err(BindingFault::Memory(refused)) => Err(LineError::Memory(refused)),
-            Err(_) => Err(LineError::Fault(FaultKind::BadName)),
+        match left_out_of(draft) {
+            Some(what) => self.add_left_out(alloc, origin, what, draft),
+            None => {
+                let binding = binding_of(alloc, draft)?;
+                Ok(self.add_binding(alloc, origin, binding)?)
+            }
         }
     }
 
@@ -152,8 +202,9 @@ impl Policy {
                 Err(LineError::Fault(FaultKind::NoResource))
             }
             Some(None) => {
+                let denies = grant.permission == Permission::Deny;
                 drop(grant);
-                Ok(self.add_omission(alloc, origin, LeftOut::Resource)?)
+                Ok(self.add_omission(alloc, origin, LeftOut::Resource, denies)?)
             }
             Some(Some(target)) => {
                 let draft = draft_under(alloc, target, grant)?;
@@ -162,6 +213,17 @@ impl Policy {
                 added
             }
         }
+    }
+
+    fn add_heading(&mut self, target: Option<Target>) -> Result<(), LineError>
+        ensures { GivesSeen (λ _. self.new) result (with_heading self.old target) }
+    {
+        if has_bad_heading(&target) {
+            drop(target);
+            return Err(LineError::Fault(FaultKind::BadName));
+        }
+        self.heading = Some(target);
+        Ok(())
     }
 
     #[tactic(auto, unfolding(crate::specs::Policy::with_item))]
@@ -182,12 +244,9 @@ impl Policy {
                 drop(draft);
                 added
             }
-            Item::Resource(target) => {
-                self.heading = Some(target);
-                Ok(())
-            }
+            Item::Resource(target) => self.add_heading(target),
             Item::Grant(grant) => self.add_grant(alloc, origin, grant),
-            Item::LeftOut(what) => Ok(self.add_omission(alloc, origin, what)?),
+            Item::LeftOut(what) => Ok(self.add_omission(alloc, origin, what, false)?),
         }
     }
 
@@ -250,6 +309,72 @@ fn add_items(
         policy.add_item(alloc, origin, item)?;
     }
     Ok(())
+}
+
+/// The binding. The fault is `BadName`.
+fn binding_of(alloc: Global, draft: &Draft) -> Result<Binding, LineError>
+    ensures { Gives result (binding_of draft.now) }
+{
+    match Binding::new(alloc, draft) {
+        Ok(binding) => Ok(binding),
+        Err(BindingFault::Memory(refused)) => Err(LineError::Memory(refused)),
+        Err(_) => Err(LineError::Fault(FaultKind::BadName)),
+    }
+}
+
+/// A binding that covers nobody, on the pattern of another.
+fn closing_of(alloc: Global, draft: &Draft) -> Result<Draft, AllocError>
+    ensures { IfOk result (λ made. made ≡ closing_of draft.now) }
+{
+    let principal = nobody(alloc)?;
+    let host = nowhere(alloc)?;
+    let pattern = draft.pattern.copy(alloc)?;
+    Ok(Draft {
+        permission: Permission::Deny,
+        principal,
+        host,
+        operation: Operation::ClusterAction,
+        resource: draft.resource,
+        pattern,
+    })
+}
+
+fn nobody(alloc: Global) -> Result<Principal, AllocError>
+    ensures { IfOk result (λ made. made ≡ codes "User:(left out)") }
+{
+    match Principal::parse(alloc, "User:(left out)") {
+        Ok(principal) => Ok(principal),
+        Err(PrincipalFault::Memory(refused)) => Err(refused),
+        Err(_) => unreachable!(),
+    }
+}
+
+fn nowhere(alloc: Global) -> Result<Host, AllocError>
+    ensures { IfOk result (λ made. made ≡ codes "(left out)") }
+{
+    match Host::parse(alloc, "(left out)") {
+        Ok(host) => Ok(host),
+        Err(HostFault::Memory(refused)) => Err(refused),
+        Err(_) => unreachable!(),
+    }
+}
+
+fn has_bad_name(target: &Target) -> bool
+    ensures { result ≡ has_bad_name target.now }
+{
+    let name = target.pattern.name.as_str();
+    name.is_empty()
+        || target.resource == ResourceKind::Cluster && name != "kafka-cluster"
+        || name.len() > 255
+}
+
+fn has_bad_heading(target: &Option<Target>) -> bool
+    ensures { result ≡ has_bad_heading target.now }
+{
+    match target {
+        None => false,
+        Some(target) => has_bad_name(target),
+    }
 }
 
 fn draft_under(alloc: Global, target: &Target, grant: Grant) -> Result<Draft, AllocError>

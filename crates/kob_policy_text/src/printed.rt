@@ -1,7 +1,7 @@
 //! How answers are printed: origins, verdicts, bindings and rights.
 
 ghost use Rattle.std.specs.Prelude.{◌≡◌, ◌++◌, OnOk, Some};
-ghost use Rattle.kob_policy_text.specs.Answers.{answer_text, binding_line};
+ghost use Rattle.kob_policy_text.specs.Answers.{denial_text, answer_text, binding_line};
 ghost use Rattle.kob_policy_text.specs.Answers.{left_out_word, line_at, line_by, line_of, may_text};
 ghost use Rattle.kob_policy_text.specs.Answers.{omission_line, origin_behind, origin_by};
 ghost use Rattle.kob_policy_text.specs.Answers.{origin_text, reason_text, right_text, yes_or_no};
@@ -168,6 +168,16 @@ fn left_out_word(what: LeftOut) -> &'static str
     }
 }
 
+fn denial_text(denies: bool) -> &'static str
+    ensures { result.now ≡ denial_text denies }
+{
+    if denies {
+        ", a deny: a yes may be wrong\n"
+    } else {
+        "\n"
+    }
+}
+
 /// What was left out, on a line of its own.
 #[tactic(auto, using(kob_words::proofs::Appending::appending), unfolding(crate::specs::Answers::omission_line))]
 pub fn push_omission(out: &mut Vec<u8>, omission: &Omission) -> Result<(), AllocError>
@@ -177,5 +187,5 @@ pub fn push_omission(out: &mut Vec<u8>, omission: &Omission) -> Result<(), Alloc
     push_origin(out, &omission.origin)?;
     out.extend_from_slice(b" ")?;
     out.extend_from_slice(left_out_word(omission.what).as_bytes())?;
-    out.extend_from_slice(b"\n")
+    out.extend_from_slice(denial_text(omission.denies).as_bytes())
 }

@@ -5,7 +5,7 @@ ghost use Rattle.std.specs.Fmt.{decimal};
 ghost use Rattle.kob_policy_text.specs.Review.{unneeded_text, unused_text, why_text};
 
 use crate::judge::Judge;
-use crate::printed::push_line_by;
+use crate::printed::push_line_at;
 use kob_policy_review::{Reason, Unneeded, unused};
 use kob_words::push_number;
 use std::alloc::{AllocError, Global};
@@ -35,8 +35,13 @@ fn push_why(out: &mut Vec<u8>, reason: Reason) -> Result<(), AllocError>
 fn push_unneeded(out: &mut Vec<u8>, judge: &Judge, one: &Unneeded) -> Result<(), AllocError>
     ensures { OnOk result (out.new.items ≡ out.old.items ++ unneeded_text judge.now one.now) }
 {
-    push_line_by(out, judge, one.serial)?;
-    push_why(out, one.reason)
+    match judge.place_of(one.serial) {
+        None => Ok(()),
+        Some(place) => {
+            push_line_at(out, judge, place)?;
+            push_why(out, one.reason)
+        }
+    }
 }
 
 #[tactic(auto, using(kob_words::proofs::Appending::appending))]

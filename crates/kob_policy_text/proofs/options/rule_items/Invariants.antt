@@ -1,5 +1,5 @@
 use Rattle.kob_policy_text.proofs.Words.{into_iter_items, rule_items, ◌++◌, ◌≡◌}
-use Rattle.kob_policy_text.proofs.lines.rule_items.Given as goal
+use Rattle.kob_policy_text.proofs.options.rule_items.Given as goal
 
 abbrev pub invariant-loop-draft : goal.invariant-loop-draft
 invariant-loop-draft l =

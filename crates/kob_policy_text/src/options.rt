@@ -1,0 +1,257 @@
+//! What the options of `kafka-acls` say.
+
+ghost use Rattle.std.specs.Prelude.{◌≡◌, ◌++◌, IfOk, OnOk, Some, map, option_map};
+ghost use Rattle.std.specs.Option.{option_to_list};
+ghost use Rattle.kob_acl_cli.specs.Lines.{texts};
+ghost use Rattle.kob_policy_text.specs.Options.{Adds, added_by, added_from, added_of, behind, held_args};
+ghost use Rattle.kob_policy_text.specs.Options.{held_at, held_option, held_options, is_ignored};
+ghost use Rattle.kob_policy_text.specs.Options.{is_ignored_whole, is_other, is_other_whole};
+ghost use Rattle.kob_policy_text.specs.Options.{next_place, only_command, rule_items};
+ghost use Rattle.kob_policy_text.specs.Listing.{held_name};
+ghost use Rattle.kob_policy_text.specs.Outcomes.{MayGive};
+ghost use Rattle.kob_policy_text.specs.declared.options.Place.TheVariants.{Anywhere};
+ghost use Rattle.kob_script.specs.Script.{MayAnswer};
+ghost use Rattle.kob_script.specs.CommandLines.{acl_commands, error_of};
+ghost use Rattle.kob_script.specs.Words.{GivesSeen};
+
+use crate::item::Item;
+use crate::users::{OTHER_RESOURCE, held_name};
+use kob_acl_cli::{AclCommand, CliArgs, CommandFault, LineFault, commands_of, read_line};
+use kob_names::{Draft, Items, Text};
+use kob_script::{FaultKind, LineError};
+use std::alloc::{AllocError, Global};
+
+/// Where a word of options is: maybe behind an option whose value has no effect, or behind one for a
+/// resource of another kind.
+#[derive(Clone, Copy)]
+pub enum Place {
+    Anywhere,
+    BehindIgnored,
+    BehindOther,
+}
+
+fn is_ignored(word: &str) -> bool
+    ensures { result ≡ is_ignored word.now }
+{
+    word == "--authorizer-properties"
+        || word == "--bootstrap-controller"
+        || word == "--authorizer"
+        || word == "--zk-tls-config-file"
+}
+
+fn is_ignored_whole(word: &str) -> bool
+    ensures { result ≡ is_ignored_whole word.now }
+{
+    word.as_bytes().starts_with(b"--authorizer-properties=")
+        || word.as_bytes().starts_with(b"--bootstrap-controller=")
+        || word.as_bytes().starts_with(b"--authorizer=")
+        || word.as_bytes().starts_with(b"--zk-tls-config-file=")
+}
+
+fn is_other(word: &str) -> bool
+    ensures { result ≡ is_other word.now }
+{
+    word == "--delegation-token" || word == "--user-principal"
+}
+
+fn is_other_whole(word: &str) -> bool
+    ensures { result ≡ is_other_whole word.now }
+{
+    word.as_bytes().starts_with(b"--delegation-token=")
+        || word.as_bytes().starts_with(b"--user-principal=")
+}
+
+/// The option that is passed on for a word.
+fn held_option(word: &str) -> Option<&str>
+    ensures { option_to_list (option_map (λ text. text.now) result) ≡ held_option word.entry.now }
+{
+    if is_ignored(word) || is_ignored_whole(word) {
+        None
+    } else if is_other(word) {
+        Some("--topic")
+    } else if is_other_whole(word) {
+        Some("--topic=(another kind of resource)")
+    } else {
+        Some(word)
+    }
+}
+
+fn behind(word: &str) -> Place
+    ensures { result ≡ behind word.now }
+{
+    if is_ignored(word) {
+        Place::BehindIgnored
+    } else if is_other(word) {
+        Place::BehindOther
+    } else {
+        Place::Anywhere
+    }
+}
+
+/// The word that is passed on at a place.
+fn held_at(place: Place, word: &str) -> Option<&str>
+    ensures { option_to_list (option_map (λ text. text.now) result) ≡ held_at place word.entry.now }
+{
+    match place {
+        Place::Anywhere => held_option(word),
+        Place::BehindIgnored => None,
+        Place::BehindOther => Some(OTHER_RESOURCE),
+    }
+}
+
+/// Where the word behind one at a place is.
+fn next_place(place: Place, word: &str) -> Place
+    ensures { result ≡ next_place place word.now }
+{
+    match place {
+        Place::Anywhere => behind(word),
+        Place::BehindIgnored | Place::BehindOther => Place::Anywhere,
+    }
+}
+
+fn push_held<'a>(held: &mut Vec<&'a str>, place: Place, word: &'a str) -> Result<(), AllocError>
+    ensures { OnOk result (texts held.new.items ≡ texts held.old.items
+        ++ held_at place word.entry.now) }
+{
+    match held_at(place, word) {
+        None => Ok(()),
+        Some(text) => {
+            held.push(text)?;
+            Ok(())
+        }
+    }
+}
+
+/// The words that are passed on to `clap`.
+#[tactic(auto, using(crate::proofs::Passing::passes_more, crate::proofs::Passing::passes_all))]
+fn held_options(alloc: Global, words: &[Text]) -> Result<Vec<&str>, AllocError>
+    ensures { IfOk result (λ held. texts held.items ≡ held_options Anywhere words.entry.now) }
+{
+    let mut held = Vec::with_capacity(alloc, words.len())?;
+    let mut place = Place::Anywhere;
+    for word in words {
+        push_held(&mut held, place, word.as_str())?;
+        place = next_place(place, word.as_str());
+    }
+    Ok(held)
+}
+
+/// The names, with another in place of each principal of another kind.
+fn held_names(alloc: Global, names: &Items<Text>) -> Result<Items<Text>, AllocError>
+    ensures { IfOk result (λ held. held ≡ map held_name names.now) }
+{
+    let mut held = Vec::with_capacity(alloc, names.len())?;
+    for name in names.as_slice() {
+        held.push(Text::copied(alloc, held_name(name.as_str()))?)?;
+    }
+    Ok(Items::from_vec(held))
+}
+
+fn hold_principals(alloc: Global, args: &mut CliArgs) -> Result<(), AllocError>
+    ensures { OnOk result (args.new ≡ held_args args.old) }
+{
+    args.allow_principals = held_names(alloc, &args.allow_principals)?;
+    args.deny_principals = held_names(alloc, &args.deny_principals)?;
+    Ok(())
+}
+
+pub fn rule_items(alloc: Global, drafts: Vec<Draft>) -> Result<Vec<Item>, AllocError>
+    ensures { IfOk result (λ items. items.items ≡ rule_items drafts.items) }
+{
+    let mut items = Vec::with_capacity(alloc, drafts.len())?;
+    for draft in drafts {
+        items.push(Item::Rule(draft))?;
+    }
+    Ok(items)
+}
+
+/// What the only command adds. Commands that remove or list are a fault.
+fn added_of(alloc: Global, command: Option<AclCommand>) -> Result<Vec<Item>, LineError>
+    ensures { GivesSeen (λ items. items.items) result (added_of command) }
+{
+    match command {
+        Some(AclCommand::Create(drafts)) => Ok(rule_items(alloc, drafts.into_vec())?),
+        other => {
+            drop(other);
+            Err(LineError::Fault(FaultKind::BadLine))
+        }
+    }
+}
+
+fn only_command(mut commands: Vec<AclCommand>) -> Option<AclCommand>
+    ensures { result ≡ only_command commands.items }
+{
+    if commands.len() != 1 {
+        drop(commands);
+        return None;
+    }
+    let command = commands.pop();
+    drop(commands);
+    command
+}
+
+fn error_of(fault: &CommandFault) -> LineError
+    ensures { result ≡ error_of fault.now }
+{
+    match fault {
+        CommandFault::NoAction => LineError::Fault(FaultKind::NoAction),
+        CommandFault::BadName(_) => LineError::Fault(FaultKind::BadName),
+        CommandFault::BadMix => LineError::Fault(FaultKind::BadMix),
+        CommandFault::NoResource => LineError::Fault(FaultKind::NoResource),
+        CommandFault::NoPrincipal => LineError::Fault(FaultKind::NoPrincipal),
+        CommandFault::Memory(error) => LineError::Memory(*error),
+    }
+}
+
+/// The commands of options, of which the first fault counts.
+#[tactic(auto, using(kob_script::proofs::LineFaults::fails_first_of))]
+fn commands_by(alloc: Global, args: &CliArgs) -> Result<Vec<AclCommand>, LineError>
+    ensures { GivesSeen (λ commands. commands.items) result (acl_commands (Some args.now)) }
+{
+    match commands_of(alloc, args) {
+        Ok(commands) => Ok(commands),
+        Err(fault) => Err(error_of(&fault)),
+    }
+}
+
+fn added_from(alloc: Global, args: &CliArgs) -> Result<Vec<Item>, LineError>
+    ensures { GivesSeen (λ items. items.items) result (added_from args.now) }
+{
+    let commands = commands_by(alloc, args)?;
+    added_of(alloc, only_command(commands))
+}
+
+fn added_by(alloc: Global, answer: &mut Option<CliArgs>) -> Result<Vec<Item>, LineError>
+    ensures { GivesSeen (λ items. items.items) result (added_by answer.old) }
+{
+    match answer {
+        None => Err(LineError::Fault(FaultKind::Usage)),
+        Some(args) => {
+            hold_principals(alloc, args)?;
+            added_from(alloc, args)
+        }
+    }
+}
+
+/// What `clap` answers to words, or `None` if it refuses them.
+fn answer_to(alloc: Global, words: &[&str]) -> Result<Option<CliArgs>, AllocError>
+    ensures { IfOk result (λ answer. MayAnswer (texts words.entry.now) answer) }
+{
+    match read_line(alloc, words) {
+        Ok(args) => Ok(Some(args)),
+        Err(LineFault::Usage) => Ok(None),
+        Err(LineFault::Memory(error)) => Err(error),
+    }
+}
+
+/// The bindings that the words of `kafka-acls` add, as `clap` reads them.
+#[tactic(auto, using(crate::proofs::Chains::adds))]
+pub fn added(alloc: Global, words: &[Text]) -> Result<Vec<Item>, LineError>
+    ensures { MayGive (λ items. items.items) result (Adds words.now) }
+{
+    let held = held_options(alloc, words)?;
+    let mut answer = answer_to(alloc, &held)?;
+    let items = added_by(alloc, &mut answer);
+    drop(answer);
+    items
+}
