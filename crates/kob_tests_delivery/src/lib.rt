@@ -26,6 +26,8 @@ mod making;
 #[cfg(test)]
 mod outbox;
 #[cfg(test)]
+mod pairings;
+#[cfg(test)]
 mod pipelines;
 #[cfg(test)]
 mod plans;
