@@ -1,5 +1,5 @@
 -- A file is read line by line, and a line thing by thing.
-use Rattle.kob_policy_text.proofs.Words.{Err, Fails, Fault, FaultKind, FileMakes, GivesSeen, IsStopped, Item, LineError, List, MayFail, MayGive, Memory, Ok, Origin, Policy, Result, Says, [], ap, arith, at_file, fault_at, lines_in, nat_tests, place, refl, sym, with_item, ℕ, ◌+◌, ◌∙◌, ◌∷◌, ◌≡◌}
+use Rattle.kob_policy_text.proofs.Words.{Bool, Err, Fails, Fault, FaultKind, FileMakes, GivesSeen, IsStopped, Item, LineError, List, MayFail, MayGive, Memory, Ok, Origin, Policy, Result, SaysAt, is_none, unmarked, [], ap, arith, at_file, fault_at, lines_in, nat_tests, place, refl, sym, with_item, ℕ, ◌+◌, ◌∙◌, ◌∷◌, ◌≡◌}
 use Rattle.kob_script.specs.declared.fault.Fault as fault
 use Rattle.kob_policy_text.specs.Policy.{LineMakes, LinesMake, with_items}
 
@@ -8,8 +8,8 @@ abbrev pub Leads : List ℕ → List ℕ → Policy → Policy → ℕ → List 
 Leads file text old policy number rest =
     (read : Result Policy fault.Fault) → LinesMake file policy number rest read → FileMakes file text old read
 
-pub lines_begin : (file text : List ℕ) (old policy : Policy) → policy ≡ at_file old
-    → Leads file text old policy 1 (lines_in text)
+pub lines_begin : (file text : List ℕ) (old policy : Policy) → policy ≡ at_file (unmarked text) old
+    → Leads file text old policy 1 (lines_in (unmarked text))
 lines_begin file text old policy begun = grind (arith, nat_tests)
 
 pub line_keeps : (file text : List ℕ) (old policy next : Policy) (number : ℕ) (rest : List (List ℕ)) (line : List ℕ)
@@ -64,19 +64,20 @@ unfolding with_items
 items_end policy origin rest whole kept none = sym kept ∙ ap (with_items policy origin) none
 
 -- a line that says nothing readable, or says things one of which can't be added
-pub line_unread : (file : List ℕ) (policy : Policy) (number : ℕ) (line : List ℕ) (e : LineError)
-    → MayFail e (Says line) → MayFail e (LineMakes file policy number line)
+pub line_unread : (file : List ℕ) (policy : Policy) (number : ℕ) (line : List ℕ) (above listed : Bool) (e : LineError)
+    → above ≡ is_none policy.heading → listed ≡ policy.has_list → MayFail e (SaysAt above listed line) → MayFail e (LineMakes file policy number line)
 unfolding LineMakes
-line_unread file policy number line (Memory e) says = tt
-line_unread file policy number line (Fault kind) says = (Err kind, says, refl)
+line_unread file policy number line above listed (Memory e) same has says = tt
+line_unread file policy number line above listed (Fault kind) same has says =
+    (Err kind, rw (sym same, sym has) says, refl)
 
 pub line_made : {A : Type 0} (file made : List ℕ) (policy new : Policy) (number : ℕ) (line : List ℕ)
-    (items : List Item) (r : Result A LineError)
-    → made ≡ file → Says line (Ok items) → GivesSeen (λ _. new) r (with_items policy (place made number) items)
+    (items : List Item) (above listed : Bool) (r : Result A LineError)
+    → made ≡ file → above ≡ is_none policy.heading → listed ≡ policy.has_list → SaysAt above listed line (Ok items) → GivesSeen (λ _. new) r (with_items policy (place made number) items)
     → MayGive (λ _. new) r (LineMakes file policy number line)
 unfolding LineMakes
-line_made file made policy new number line items (Ok x) same says gives =
-    (Ok items, says, ap (λ (f : List ℕ). with_items policy (place f number) items) (sym same) ∙ gives)
-line_made file made policy new number line items (Err (Memory e)) same says gives = tt
-line_made file made policy new number line items (Err (Fault kind)) same says gives =
-    (Ok items, says, ap (λ (f : List ℕ). with_items policy (place f number) items) (sym same) ∙ gives)
+line_made file made policy new number line items above listed (Ok x) same is has says gives =
+    (Ok items, rw (sym is, sym has) says, ap (λ (f : List ℕ). with_items policy (place f number) items) (sym same) ∙ gives)
+line_made file made policy new number line items above listed (Err (Memory e)) same is has says gives = tt
+line_made file made policy new number line items above listed (Err (Fault kind)) same is has says gives =
+    (Ok items, rw (sym is, sym has) says, ap (λ (f : List ℕ). with_items policy (place f number) items) (sym same) ∙ gives)

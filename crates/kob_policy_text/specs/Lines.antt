@@ -1,6 +1,6 @@
 -- What a line of a policy says: a listed line, a setting, or a line that creates bindings.
-use Rattle.std.specs.Prelude.{◌≡◌, ◌==◌, ◌||◌, ◌&&◌, not, ℕ, Bool, true, false, List, [], ◌∷◌, ◌++◌, map, filter, length, nat_lt, nat_eq, set, slice_get, Option, Some, None, Result, Ok, Err, codes, if◌then◌else◌}
-use Rattle.std.specs.List.{list_any, slice_split, starts_with}
+use Rattle.std.specs.Prelude.{◌≡◌, ◌==◌, ◌||◌, ◌&&◌, not, ℕ, Bool, true, false, List, [], ◌∷◌, ◌++◌, map, filter, length, nat_lt, nat_eq, set, slice_get, is_some, Option, Some, None, Result, Ok, Err, codes, if◌then◌else◌}
+use Rattle.std.specs.List.{list_all, list_any, slice_split, starts_with}
 use Rattle.std.specs.Str.{bytes_eq, str_eq_ignore_ascii_case}
 use Rattle.kob_names.specs.Binding.{Binding}
 use Rattle.kob_rights.specs.declared.event.Event.{Event}
@@ -10,9 +10,10 @@ use Rattle.kob_script.specs.CommandLines.{events_of}
 use Rattle.kob_script.specs.declared.fault.FaultKind.{FaultKind}
 use Rattle.kob_script.specs.declared.fault.FaultKind.TheVariants.{BadLine, BadWord}
 use Rattle.kob_script.specs.Words.{◌>>=◌, each, host_of, principal_of, text_in, text_of, Word, word_of, words_of}
-use Rattle.kob_script.specs.Script.{asks_clap, everyone_of, is_setting, is_super}
+use Rattle.kob_names.specs.TextRules.{is_topic_byte}
+use Rattle.kob_script.specs.Script.{asks_clap, lines_in, everyone_of, is_setting, is_super}
 use Rattle.kob_policy_text.specs.declared.item.Item.{Item}
-use Rattle.kob_policy_text.specs.declared.item.Item.TheVariants.{Super, Everyone, Rule, LeftOut}
+use Rattle.kob_policy_text.specs.declared.item.Item.TheVariants.{Super, Everyone, Rule, LeftOut, Skipped}
 use Rattle.kob_policy_text.specs.declared.item.LeftOut.TheVariants.{Principal}
 use Rattle.kob_policy_text.specs.Options.{SaysOptions, rule_items}
 use Rattle.kob_policy_text.specs.Shell.{shell_words}
@@ -53,8 +54,23 @@ unfoldable pub property_items : List ℕ → Result (List Item) FaultKind
 property_items line =
     around_first line (codes "=") >>= λ parts. property_by (trimmed parts.0) (trimmed parts.1)
 
+-- the rules in force, or those that `--add` puts there
 abbrev pub is_heading : List ℕ → Bool
-is_heading line = starts_with nat_eq line (codes "Current ACLs for resource ")
+is_heading line =
+    starts_with nat_eq line (codes "Current ACLs for resource ")
+    || starts_with nat_eq line (codes "Adding ACLs for resource ")
+
+-- above the rules of a principal, which have headings of their own
+abbrev pub is_principal_heading : List ℕ → Bool
+is_principal_heading line = starts_with nat_eq line (codes "ACLs for principal ")
+
+-- a line of a list names what the bindings below it are on
+abbrev pub is_heading_line : List ℕ → Bool
+is_heading_line line = is_heading (trimmed line)
+
+-- some line of a file does
+abbrev pub has_heading : List ℕ → Bool
+has_heading text = list_any is_heading_line (lines_in text)
 
 abbrev pub is_newer_grant : List ℕ → Bool
 is_newer_grant line = starts_with nat_eq line (codes "(principal=")
@@ -67,16 +83,31 @@ is_property line =
 abbrev pub is_comment : List ℕ → Bool
 is_comment line = starts_with nat_eq line (codes "#")
 
+-- a letter, a digit, a dot, an underscore or a dash
+abbrev pub has_key_bytes : List ℕ → Bool
+has_key_bytes key = list_all is_topic_byte key
+
+abbrev pub is_key : List ℕ → Bool
+is_key key = nat_lt 0 (length key) && has_key_bytes key
+
+-- a setting of a broker that says nothing of rules
+abbrev pub has_key : Option (List ℕ × List ℕ) → Bool
+has_key None = false
+has_key (Some parts) = is_key (trimmed parts.0)
+
+abbrev pub is_other_property : List ℕ → Bool
+is_other_property line = not (is_property line) && has_key (first_parts line (codes "="))
+
 -- the line is not read by its words
 unfoldable pub is_listed : List ℕ → Bool
 is_listed line =
-    is_comment line || (is_heading line || (is_newer_grant line || (is_property line
-    || holds_mark line (codes " permission for operations: "))))
+    is_comment line || (is_principal_heading line || (is_heading line || (is_newer_grant line
+    || (is_property line || holds_mark line (codes " permission for operations: ")))))
 
 -- what such a line says
 unfoldable pub listed_items : List ℕ → Result (List Item) FaultKind
 listed_items line =
-    if is_comment line then Ok []
+    if is_comment line || is_principal_heading line then Ok []
     else (if is_heading line then said (heading_item line)
     else (if is_newer_grant line then said (newer_grant line)
     else (if is_property line then property_items line
@@ -180,6 +211,12 @@ unfoldable pub acl_texts : List Word → Result (List (List ℕ)) FaultKind
 acl_texts (who ∷ from ∷ command ∷ arguments) = texts_behind who from arguments
 acl_texts words = Ok []
 
+-- the words create bindings
+abbrev pub is_creation : List Word → Bool
+is_creation (who ∷ from ∷ command ∷ arguments) =
+    bytes_eq command.decoded (codes "create-acl") || bytes_eq command.decoded (codes "acl")
+is_creation _ = false
+
 -- What the words of a line may say, by what clap may answer to those after `acl`.
 abbrev pub SaysBy : Bool → List Word → Result (List Item) FaultKind → Type 0
 SaysBy true words read = SaysOptions (acl_texts words) read
@@ -202,5 +239,27 @@ SaysIf false line read = SaysUnlisted (tool_arguments line) line read
 unfoldable pub SaysTrimmed : List ℕ → Result (List Item) FaultKind → Type 0
 SaysTrimmed line read = SaysIf (is_listed line) line read
 
-abbrev pub Says : List ℕ → Result (List Item) FaultKind → Type 0
-Says line read = SaysTrimmed (trimmed line) read
+-- words that no form of a policy has; a comment has none
+abbrev pub are_foreign : Result (List Word) FaultKind → Bool
+are_foreign (Ok []) = false
+are_foreign (Ok (first ∷ arguments)) = not (is_setting first || is_creation (first ∷ arguments))
+are_foreign (Err kind) = true
+
+-- A line that is of no form, such as one that a wrapper or a logger printed.
+unfoldable pub is_foreign : List ℕ → Bool
+is_foreign line =
+    not (is_listed line || is_some (tool_arguments line)) && are_foreign (words_of line)
+
+-- Above every heading, settings of a broker that say nothing of rules are skipped, and in a file with
+-- a heading each line of no form.
+unfoldable pub is_skipped : Bool → List ℕ → Bool
+is_skipped has_list line = is_other_property line || (has_list && is_foreign line)
+
+abbrev pub SaysIn : Bool → List ℕ → Result (List Item) FaultKind → Type 0
+SaysIn true line read = read ≡ Ok (Skipped ∷ [])
+SaysIn false line read = SaysTrimmed line read
+
+-- What a line may say, above every heading of its file or not.
+abbrev pub SaysAt : Bool → Bool → List ℕ → Result (List Item) FaultKind → Type 0
+SaysAt above has_list line read =
+    SaysIn (above && is_skipped has_list (trimmed line)) (trimmed line) read

@@ -1,6 +1,6 @@
 -- A policy: the bindings of some files in the order in which they are read, the super users, and
 -- whether what no binding matches is open to everyone.
-use Rattle.std.specs.Prelude.{◌≡◌, ◌+◌, ◌||◌, ◌&&◌, not, ℕ, Bool, false, List, [], ◌∷◌, ◌++◌, remove, Option, Some, None, Result, Ok, Err, codes, is_none, length, nat_lt, if◌then◌else◌, ◌==◌, position}
+use Rattle.std.specs.Prelude.{◌≡◌, ◌+◌, ◌||◌, ◌&&◌, not, ℕ, Bool, false, List, [], ◌∷◌, ◌++◌, remove, Option, Some, None, Result, Ok, Err, codes, drop, is_none, length, nat_eq, nat_lt, if◌then◌else◌, ◌==◌, position}
 use Rattle.kob_names.specs.Binding.{Binding, draft_fault, is_granted}
 use Rattle.kob_script.specs.declared.fault.FaultKind.{FaultKind}
 use Rattle.kob_script.specs.declared.fault.FaultKind.TheVariants.{BadName, NoResource}
@@ -15,7 +15,8 @@ use Rattle.kob_policy_text.specs.declared.item.LeftOut.{LeftOut}
 use Rattle.kob_policy_text.specs.declared.item.Target.{Target}
 use Rattle.kob_policy_text.specs.declared.origin.Origin.{Origin}
 use Rattle.kob_policy_text.specs.declared.origin.Omission.{Omission}
-use Rattle.kob_policy_text.specs.Lines.{Says}
+use Rattle.kob_policy_text.specs.Lines.{SaysAt, has_heading}
+use Rattle.std.specs.List.{starts_with}
 use Rattle.kob_authorizer.specs.Decide.{Contents, decide, Question}
 use Rattle.kob_authorizer.specs.Creation.{Added, addition, create_fault}
 use Rattle.kob_authorizer.specs.declared.fault.CreateFault.{CreateFault}
@@ -41,6 +42,8 @@ pub record Policy : Type 0 where
   pub origins : List Origin
   pub closings : List Binding
   pub omissions : List Omission
+  pub skipped : List Origin
+  pub has_list : Bool
   pub heading : Option (Option Target)
 
 abbrev pub empty_policy : Policy
@@ -51,12 +54,14 @@ empty_policy = record {
   origins = [];
   closings = [];
   omissions = [];
+  skipped = [];
+  has_list = false;
   heading = None;
 }
 
 -- no heading stands above the first line of a file
-abbrev pub at_file : Policy → Policy
-at_file policy = record policy { heading = None }
+abbrev pub at_file : List ℕ → Policy → Policy
+at_file text policy = record policy { has_list = has_heading text; heading = None }
 
 -- what is left out, and whether it denies
 abbrev pub omission : Origin → LeftOut → Bool → Omission
@@ -65,6 +70,10 @@ omission origin what denies = record { origin = origin; what = what; denies = de
 abbrev pub with_omission : Policy → Origin → LeftOut → Bool → Policy
 with_omission policy origin what denies =
     record policy { omissions = policy.omissions ++ omission origin what denies ∷ [] }
+
+-- a line that says nothing of rules
+abbrev pub with_skipped : Policy → Origin → Policy
+with_skipped policy origin = record policy { skipped = policy.skipped ++ origin ∷ [] }
 
 abbrev pub with_binding : Policy → Origin → Binding → Policy
 with_binding policy origin binding = record policy {
@@ -148,6 +157,7 @@ with_item policy origin (item.Everyone everyone) = Ok (record policy { everyone 
 with_item policy origin (item.Rule draft) = with_draft policy origin draft
 with_item policy origin (item.Resource target) = with_heading policy target
 with_item policy origin (item.Grant grant) = with_grant policy origin policy.heading grant
+with_item policy origin item.Skipped = Ok (with_skipped policy origin)
 with_item policy origin (item.LeftOut what) = Ok (with_omission policy origin what false)
 
 -- one thing after another, up to the first fault
@@ -162,7 +172,7 @@ place file line = record { file = file; line = line }
 -- with a line more, the policy may be this
 unfoldable pub LineMakes : List ℕ → Policy → ℕ → List ℕ → Result Policy FaultKind → Type 0
 LineMakes file policy number line read =
-    (said : Result (List Item) FaultKind) × Says line said
+    (said : Result (List Item) FaultKind) × SaysAt (is_none policy.heading) policy.has_list line said
     × ((said >>= with_items policy (place file number)) ≡ read)
 
 -- the lines after one may make this, unless that one has a fault
@@ -178,9 +188,15 @@ LinesMake file policy number (line ∷ lines) read =
     (first : Result Policy FaultKind) × LineMakes file policy number line first
     × ThenLines number first (λ next. LinesMake file next (number + 1) lines read) read
 
+-- a byte order mark of UTF-8 is no part of the text
+abbrev pub unmarked : List ℕ → List ℕ
+unmarked text =
+    if starts_with nat_eq text (239 ∷ 187 ∷ 191 ∷ []) then drop 3 text else text
+
 -- A file may make this of a policy, or have this first fault, with lines counted from 1.
 abbrev pub FileMakes : List ℕ → List ℕ → Policy → Result Policy Fault → Type 0
-FileMakes file text policy read = LinesMake file (at_file policy) 1 (lines_in text) read
+FileMakes file text policy read =
+    LinesMake file (at_file (unmarked text) policy) 1 (lines_in (unmarked text)) read
 
 -- a fault with the number of its line
 abbrev pub fault_at : ℕ → LineError → ScriptError

@@ -36,6 +36,8 @@ pub enum Item {
     /// The bindings that are listed below are on this, or are left out.
     Resource(Option<Target>),
     Grant(Grant),
+    /// The line says nothing of rules.
+    Skipped,
     /// A super user is left out.
     LeftOut(LeftOut),
 }

@@ -1,8 +1,13 @@
 //! What a line of a policy says.
 
-ghost use Rattle.std.specs.Prelude.{◌≡◌, ◌∷◌, [], IfOk, Ok, map, option_map};
+ghost use Rattle.std.specs.Prelude.{◌≡◌, ◌∷◌, [], IfOk, Ok, codes, map, option_map};
 ghost use Rattle.std.specs.List.{slice_split};
-ghost use Rattle.kob_policy_text.specs.Lines.{Says, SaysByWords, SaysTrimmed, acl_texts, asker_of};
+ghost use Rattle.kob_names.specs.TextRules.{is_topic_byte};
+ghost use Rattle.kob_policy_text.specs.Lines.{SaysAt, SaysByWords, SaysIn, SaysTrimmed, acl_texts};
+ghost use Rattle.kob_policy_text.specs.Lines.{are_foreign, asker_of, has_key, has_key_bytes};
+ghost use Rattle.kob_policy_text.specs.Lines.{is_creation};
+ghost use Rattle.kob_policy_text.specs.Lines.{is_foreign, is_heading, is_heading_line, is_key};
+ghost use Rattle.kob_policy_text.specs.Lines.{is_other_property, is_property, is_skipped};
 ghost use Rattle.kob_policy_text.specs.Lines.{base_name, between_semicolons, everyone_item, held_words};
 ghost use Rattle.kob_policy_text.specs.Lines.{is_for_other_kind, is_listed, is_tool, listed_items, names_other_kind};
 ghost use Rattle.kob_policy_text.specs.Lines.{only_event, property_by, property_items, rules_in};
@@ -10,7 +15,7 @@ ghost use Rattle.kob_policy_text.specs.Lines.{rules_of, setting_items, super_ite
 ghost use Rattle.kob_policy_text.specs.Lines.{tool_arguments, tool_texts, words_items};
 ghost use Rattle.kob_policy_text.specs.Options.{SaysOptions};
 ghost use Rattle.kob_policy_text.specs.Outcomes.{MayGive};
-ghost use Rattle.kob_policy_text.specs.Listing.{trimmed};
+ghost use Rattle.kob_policy_text.specs.Listing.{first_parts, trimmed};
 ghost use Rattle.kob_script.specs.Words.{Gives, GivesSeen, each, text_in, text_of, words_of};
 ghost use Rattle.kob_script.specs.Script.{asks_clap};
 
@@ -105,16 +110,71 @@ fn property_items(alloc: Global, line: &[u8]) -> Result<Vec<Item>, LineError>
     property_by(alloc, trimmed(key), trimmed(value))
 }
 
+/// Whether the line names what the bindings below it are on.
+fn is_heading(line: &[u8]) -> bool
+    ensures { result ≡ is_heading line.now }
+{
+    line.starts_with(b"Current ACLs for resource ")
+        || line.starts_with(b"Adding ACLs for resource ")
+}
+
+/// Whether the line is a heading of a list.
+pub fn is_heading_line(line: &[u8]) -> bool
+    ensures { result ≡ is_heading_line line.now }
+{
+    is_heading(trimmed(line))
+}
+
+fn is_property(line: &[u8]) -> bool
+    ensures { result ≡ is_property line.now }
+{
+    line.starts_with(b"super.users") || line.starts_with(b"allow.everyone.if.no.acl.found")
+}
+
+fn has_key_bytes(key: &[u8]) -> bool
+    ensures { result ≡ has_key_bytes key.now }
+{
+    key.iter().all(|byte| is_key_byte(*byte))
+}
+
+fn is_key(key: &[u8]) -> bool
+    ensures { result ≡ is_key key.now }
+{
+    !key.is_empty() && has_key_bytes(key)
+}
+
+fn is_key_byte(byte: u8) -> bool
+    ensures { result ≡ is_topic_byte byte }
+{
+    byte.is_ascii_alphanumeric() || byte == b'.' || byte == b'_' || byte == b'-'
+}
+
+fn has_key(line: &[u8]) -> bool
+    ensures { result ≡ has_key (first_parts line.now (codes "=")) }
+{
+    match first_parts(line, b"=") {
+        None => false,
+        Some((key, _)) => is_key(trimmed(key)),
+    }
+}
+
+/// Whether the line is a setting of a broker that says nothing of rules.
+fn is_other_property(line: &[u8]) -> bool
+    ensures { result ≡ is_other_property line.now }
+{
+    !is_property(line) && has_key(line)
+}
+
 /// Whether the line is read as a whole and not word by word.
 #[tactic(auto, unfolding(crate::specs::Lines::is_listed))]
 fn is_listed(line: &[u8]) -> bool
     ensures { result ≡ is_listed line.now }
 {
     line.starts_with(b"#")
-        || line.starts_with(b"Current ACLs for resource ")
+        || line.starts_with(b"ACLs for principal ")
+        || is_heading(line)
         || line.starts_with(b"(principal=")
-        || line.starts_with(b"super.users")
-        || line.starts_with(b"allow.everyone.if.no.acl.found")
+        || is_property(line)
         || holds_mark(line, b" permission for operations: ")
 }
 
@@ -123,15 +183,13 @@ fn is_listed(line: &[u8]) -> bool
 fn listed_items(alloc: Global, line: &[u8]) -> Result<Vec<Item>, LineError>
     ensures { GivesSeen (λ items. items.items) result (listed_items line.now) }
 {
-    if line.starts_with(b"#") {
+    if line.starts_with(b"#") || line.starts_with(b"ACLs for principal ") {
         Ok(Vec::new(alloc))
-    } else if line.starts_with(b"Current ACLs for resource ") {
+    } else if is_heading(line) {
         one(alloc, heading_item(alloc, line)?)
     } else if line.starts_with(b"(principal=") {
         one(alloc, newer_grant(alloc, line)?)
-    } else if line.starts_with(b"super.users")
-        || line.starts_with(b"allow.everyone.if.no.acl.found")
-    {
+    } else if is_property(line) {
         property_items(alloc, line)
     } else {
         one(alloc, older_grant(alloc, line)?)
@@ -389,9 +447,75 @@ fn trimmed_items(alloc: Global, line: &[u8]) -> Result<Vec<Item>, LineError>
     }
 }
 
-/// What a line says. The options of `kafka-acls` and of `acl` are read by `clap`.
-pub fn items_of(alloc: Global, line: &[u8]) -> Result<Vec<Item>, LineError>
-    ensures { MayGive (λ items. items.items) result (Says line.now) }
+/// Whether the words create bindings.
+fn is_creation(words: &[Word<'_>]) -> bool
+    ensures { result ≡ is_creation words.now }
 {
-    trimmed_items(alloc, trimmed(line))
+    match words {
+        [_, _, command, ..] => {
+            command.decoded() == b"create-acl".as_slice() || command.decoded() == b"acl".as_slice()
+        }
+        _ => false,
+    }
+}
+
+fn are_foreign(words: &[Word<'_>]) -> bool
+    ensures { result ≡ are_foreign (Ok words.now) }
+{
+    match words {
+        [] => false,
+        [first, ..] => !(is_setting(first) || is_creation(words)),
+    }
+}
+
+/// Whether the line is of no form.
+#[tactic(auto, unfolding(crate::specs::Lines::is_foreign))]
+fn is_foreign(alloc: Global, line: &[u8]) -> Result<bool, AllocError>
+    ensures { IfOk result (λ foreign. foreign ≡ is_foreign line.now) }
+{
+    if is_listed(line) || tool_arguments(line).is_some() {
+        return Ok(false);
+    }
+    match words_of(alloc, line) {
+        Ok(words) => Ok(are_foreign(&words)),
+        Err(LineError::Memory(refused)) => Err(refused),
+        Err(LineError::Fault(_)) => Ok(true),
+    }
+}
+
+#[tactic(auto, unfolding(crate::specs::Lines::is_skipped))]
+fn is_skipped(alloc: Global, has_list: bool, line: &[u8]) -> Result<bool, AllocError>
+    ensures { IfOk result (λ skipped. skipped ≡ is_skipped has_list line.now) }
+{
+    if is_other_property(line) {
+        return Ok(true);
+    }
+    if !has_list {
+        return Ok(false);
+    }
+    is_foreign(alloc, line)
+}
+
+fn items_in(alloc: Global, skipped: bool, line: &[u8]) -> Result<Vec<Item>, LineError>
+    ensures { MayGive (λ items. items.items) result (SaysIn skipped line.now) }
+{
+    if skipped {
+        return one(alloc, Item::Skipped);
+    }
+    trimmed_items(alloc, line)
+}
+
+/// What a line says, above every heading of its file or not. The options of `kafka-acls` and of `acl`
+/// are read by `clap`.
+pub fn items_of(
+    alloc: Global,
+    above: bool,
+    has_list: bool,
+    line: &[u8],
+) -> Result<Vec<Item>, LineError>
+    ensures { MayGive (λ items. items.items) result (SaysAt above has_list line.now) }
+{
+    let line = trimmed(line);
+    let skipped = above && is_skipped(alloc, has_list, line)?;
+    items_in(alloc, skipped, line)
 }

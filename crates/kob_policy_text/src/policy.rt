@@ -1,8 +1,10 @@
 //! The policy that files make.
 
-ghost use Rattle.std.specs.Prelude.{◌≡◌, ◌<◌, IfOk, OnOk, codes, length};
+ghost use Rattle.std.specs.Prelude.{◌≡◌, ◌<◌, IfOk, OnOk, codes, is_none, length};
 ghost use Rattle.kob_policy_text.specs.Outcomes.{MayGive};
 ghost use Rattle.kob_policy_text.specs.Policy.{FileMakes, IsRead, LineMakes, at_file, binding_of};
+ghost use Rattle.kob_policy_text.specs.Policy.{unmarked, with_skipped};
+ghost use Rattle.kob_policy_text.specs.Lines.{has_heading};
 ghost use Rattle.kob_policy_text.specs.Policy.{closing_of, draft_under, empty_policy, fault_at};
 ghost use Rattle.kob_policy_text.specs.Policy.{has_bad_heading, has_bad_name, with_binding};
 ghost use Rattle.kob_policy_text.specs.Policy.{with_closing, with_draft, with_draft_left_out};
@@ -11,7 +13,7 @@ ghost use Rattle.kob_policy_text.specs.Policy.{with_omission};
 ghost use Rattle.kob_script.specs.Words.{Gives, GivesSeen};
 
 use crate::item::{Grant, Item, LeftOut, Target};
-use crate::lines::items_of;
+use crate::lines::{is_heading_line, items_of};
 use crate::origin::{Omission, Origin};
 use crate::users::left_out_of;
 use bstr::ByteSlice;
@@ -34,6 +36,8 @@ pub struct Policy {
     origins: Vec<Origin>,
     closings: Vec<Binding>,
     omissions: Vec<Omission>,
+    skipped: Vec<Origin>,
+    has_list: bool,
     heading: Option<Option<Target>>,
 }
 
@@ -49,6 +53,8 @@ impl Model for Policy {
       origins = policy.origins.items;
       closings = policy.closings.items;
       omissions = policy.omissions.items;
+      skipped = policy.skipped.items;
+      has_list = policy.has_list;
       heading = policy.heading;
     } };
 }
@@ -77,6 +83,8 @@ impl Policy {
             origins: Vec::new(alloc),
             closings: Vec::new(alloc),
             omissions: Vec::new(alloc),
+            skipped: Vec::new(alloc),
+            has_list: false,
             heading: None,
         }
     }
@@ -123,6 +131,36 @@ impl Policy {
         self.omissions.as_slice()
     }
 
+    /// The lines that say nothing of rules: other settings of a broker, and what is printed above a
+    /// list.
+    pub fn skipped(&self) -> &[Origin]
+        ensures { result.now ≡ self.now.skipped }
+    {
+        self.skipped.as_slice()
+    }
+
+    /// Whether no heading of the file was read yet.
+    fn is_above(&self) -> bool
+        ensures { result ≡ is_none self.now.heading }
+    {
+        self.heading.is_none()
+    }
+
+    /// Whether the file has a heading.
+    fn has_list(&self) -> bool
+        ensures { result ≡ self.now.has_list }
+    {
+        self.has_list
+    }
+
+    fn add_skipped(&mut self, alloc: Global, origin: &Origin) -> Result<(), AllocError>
+        ensures { OnOk result (self.new ≡ with_skipped self.old origin.now) }
+    {
+        let origin = origin.copy(alloc)?;
+        self.skipped.push(origin)?;
+        Ok(())
+    }
+
     fn add_omission(
         &mut self,
         alloc: Global,
@@ -133,11 +171,12 @@ impl Policy {
         ensures { OnOk result (self.new ≡ with_omission self.old origin.now what denies) }
     {
         let origin = origin.copy(alloc)?;
-        self.omissions.push(Omission {
+        let omission = Omission {
             origin,
             what,
             denies,
-        })?;
+        };
+        self.omissions.push(omission)?;
         Ok(())
     }
 
@@ -246,19 +285,21 @@ impl Policy {
             }
             Item::Resource(target) => self.add_heading(target),
             Item::Grant(grant) => self.add_grant(alloc, origin, grant),
+            Item::Skipped => Ok(self.add_skipped(alloc, origin)?),
             Item::LeftOut(what) => Ok(self.add_omission(alloc, origin, what, false)?),
         }
     }
 
     /// No heading is above the first line of a file.
-    fn begin_file(&mut self)
-        ensures { self.new ≡ at_file self.old }
+    fn begin_file(&mut self, text: &[u8])
+        ensures { self.new ≡ at_file text.now self.old }
     {
+        self.has_list = has_heading(text);
         self.heading = None;
     }
 }
 
-/// Reads a file after those that were read before. Lines end with a line feed, before which one
+/// Reads a file after those that were read before. A byte order mark of UTF-8 is skipped. Lines end with a line feed, before which one
 /// carriage return is dropped. The error is the first line with a fault, or out of memory; the
 /// policy then holds what the lines before it say, and maybe a part of that line. `BadName` is a
 /// pattern's name that no binding may have, `NoResource` a listed binding without a heading.
@@ -270,7 +311,8 @@ pub fn read_file(
 ) -> Result<(), ScriptError>
     ensures { IsRead result policy.new (FileMakes file.now text.now policy.old) }
 {
-    policy.begin_file();
+    let text = unmarked(text);
+    policy.begin_file(text);
     let mut number: u64 = 0;
     for line in text.lines() {
         number += 1;
@@ -292,9 +334,32 @@ fn add_line(
 ) -> Result<(), LineError>
     ensures { MayGive (λ _. policy.new) result (LineMakes file.now policy.old line text.now) }
 {
-    let items = items_of(alloc, text)?;
+    let items = items_of(alloc, policy.is_above(), policy.has_list(), text)?;
     let file = file.copy(alloc)?;
     add_items(alloc, policy, &Origin { file, line }, items)
+}
+
+/// The text without the byte order mark of UTF-8.
+fn unmarked(text: &[u8]) -> &[u8]
+    ensures { result.now ≡ unmarked text.entry.now }
+{
+    if text.starts_with(&[0xef, 0xbb, 0xbf]) {
+        &text[3..]
+    } else {
+        text
+    }
+}
+
+/// Whether some line is a heading.
+fn has_heading(text: &[u8]) -> bool
+    ensures { result ≡ has_heading text.now }
+{
+    for line in text.lines() {
+        if is_heading_line(line) {
+            return true;
+        }
+    }
+    false
 }
 
 fn add_items(

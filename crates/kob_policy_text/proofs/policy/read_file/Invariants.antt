@@ -5,6 +5,6 @@ use Rattle.kob_policy_text.proofs.policy.read_file.Given as goal
 
 abbrev pub invariant-loop-line : goal.invariant-loop-line
 invariant-loop-line l = record {
-  few : l.number + length l.line-iterator ≤ length l.fn.text;
+  few : l.number + length l.line-iterator ≤ length l.text;
   leads : Leads l.fn.file l.fn.text l.fn.policy l.policy (l.number + 1) l.line-iterator;
 }
