@@ -1,19 +1,7 @@
 -- Lists of lines that grow at their ends.
-use Rattle.kob_policy_text.proofs.Words.{List, Policy, answer_line, append-nil, append_assoc, arith, drop, drop_more, drop_of_length-le, get_or, length, nat_tests, sym, ℕ, ◌++◌, ◌+◌, ◌<◌, ◌≡◌, ◌≤◌}
-use Rattle.kob_policy_text.specs.Answers.{lines_up_to}
+use Rattle.kob_policy_text.proofs.Words.{List, Policy, answer_line, append-nil, append_assoc, arith, drop, drop_more, drop_of_length-le, get_or, length, nat_tests, ℕ, ◌++◌, ◌+◌, ◌<◌, ◌≡◌, ◌≤◌}
 use Rattle.kob_policy_text.specs.Review.{answers_text}
 use Rattle.kob_policy_text.specs.declared.question.Question as of_text
-
--- no line stands behind what was there
-pub begins : (start : List ℕ) (line : ℕ → List ℕ) → start ≡ start ++ lines_up_to line 0
-unfolding lines_up_to
-begins start line = sym (append-nil start)
-
--- a line more stands behind
-pub grows : (start out new : List ℕ) (line : ℕ → List ℕ) (place : ℕ)
-    → out ≡ start ++ lines_up_to line place → new ≡ out ++ line place → new ≡ start ++ lines_up_to line (place + 1)
-unfolding lines_up_to
-grows start out new line place was more = grind (arith, nat_tests, append_assoc)
 
 -- the answer to the first of the questions that are left stands behind
 pub answered_more : (policy : Policy) (topics : List (List ℕ)) (number : ℕ) (questions : List of_text.Question)

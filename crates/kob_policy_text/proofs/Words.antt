@@ -1,8 +1,8 @@
 -- The names that the lemmas cite, passed on from one place.
 pub use Rattle.kob_authorizer.specs.Decide.{question_of}
-pub use Rattle.kob_policy_text.specs.Answers.{lines_up_to, omission_line, seen_text, shadowed_line, who_line}
+pub use Rattle.kob_policy_text.specs.Answers.{omission_line, seen_text, who_line}
 pub use Rattle.kob_policy_text.specs.Review.{answer_line, answers_text}
-pub use Rattle.kob_policy_text.specs.AtHand.{asked_by, asked_from, asked_on, operations, topic_target, with_bindings}
+pub use Rattle.kob_policy_text.specs.AtHand.{with_principal, with_text}
 pub use Rattle.kob_acl_cli.specs.Lines.{texts}
 pub use Rattle.kob_policy_text.specs.Lines.{SaysAt, has_heading, is_heading_line, super_item}
 pub use Rattle.kob_policy_text.specs.Options.{held_at, held_options, next_place, rule_items}
@@ -21,7 +21,7 @@ pub use Rattle.kob_script.specs.Script.{lines_in}
 pub use Rattle.kob_script.specs.declared.fault.FaultKind.{FaultKind}
 pub use Rattle.kob_script.specs.declared.fault.LineError.{LineError}
 pub use Rattle.kob_script.specs.declared.fault.LineError.TheVariants.{Fault, Memory}
-pub use Rattle.std.proofs.Common.{Bool, Err, is_none, List, None, Ok, Result, [], ap, append-nil, append_assoc, arith, drop, drop_of_length-le, false, flat_map, get_or, length, map, nat_lt, Option, refl, rules, suc, sym, take, tests, true, ℕ, ◌++◌, ◌+◌, ◌<◌, ◌==◌, ◌∙◌, ◌∷◌, ◌≡◌, ◌≤◌}
+pub use Rattle.std.proofs.Common.{Bool, Err, is_none, List, None, Ok, Result, [], ap, append-nil, append_assoc, arith, drop, drop_of_length-le, false, flat_map, get_or, length, map, nat_lt, Option, refl, rules, suc, sym, take, tests, true, ℕ, ◌++◌, ◌+◌, ◌<◌, ◌==◌, ◌∙◌, ◌∷◌, ◌≡◌, ◌≤◌, codes, fold}
 pub use Rattle.std.proofs.lemmas.Bool.Decides.{nat_tests}
 pub use Rattle.std.proofs.lemmas.Iterator.Consumers.{YieldsList-at, YieldsList-from_filter, map_from_collect}
 pub use Rattle.std.proofs.lemmas.Iterator.Splits.{YieldsList-from_slice_split}

@@ -1,31 +1,25 @@
 -- How answers are printed.
-use Rattle.std.specs.Prelude.{◌+◌, ◌&&◌, ◌||◌, not, ℕ, zero, suc, Bool, true, false, List, [], ◌∷◌, ◌++◌, flat_map, length, Option, Some, None, codes, slice_get, unwrap_or, if◌then◌else◌}
+use Rattle.std.specs.Prelude.{◌+◌, ℕ, Bool, true, false, List, [], ◌∷◌, ◌++◌, flat_map, Option, Some, None, codes, slice_get, unwrap_or, if◌then◌else◌}
 use Rattle.std.specs.Fmt.{decimal}
 use Rattle.std.specs.List.{list_all, list_any}
-use Rattle.kob_authorizer.specs.Decide.{is_hit, question_of}
+use Rattle.kob_authorizer.specs.Decide.{question_of}
 use Rattle.kob_authorizer.specs.Decide as authorizer
 use Rattle.kob_names.specs.Binding.{Binding, is_granted}
 use Rattle.kob_names.specs.declared.kinds.Operation.TheVariants.{Describe}
-use Rattle.kob_names.specs.declared.kinds.Permission.TheVariants.{Allow}
 use Rattle.kob_names.specs.declared.kinds.ResourceKind.TheVariants.{Topic}
 use Rattle.kob_names.specs.declared.verdict.Verdict.{Verdict}
-use Rattle.kob_names.specs.declared.verdict.Verdict.TheVariants as verdict
-use Rattle.kob_names.specs.Same.{same_permission}
 use Rattle.kob_rights.specs.Table.{Check, rights}
 use Rattle.kob_rights.specs.declared.event.Event.{Event}
 use Rattle.kob_script.specs.Printed.{verdict_text}
 use Rattle.kob_words.specs.Words.{operation_name, resource_name, bytes_text, binding_text}
-use Rattle.kob_policy_text.specs.AtHand.{AtHand, asked_at_hand, others_at_hand, with_bindings}
+use Rattle.kob_policy_text.specs.AtHand.{principals_at_hand}
 use Rattle.kob_policy_text.specs.declared.item.LeftOut.{LeftOut}
 use Rattle.kob_policy_text.specs.declared.item.LeftOut.TheVariants as left_out
 use Rattle.kob_policy_text.specs.declared.origin.Omission.{Omission}
 use Rattle.kob_policy_text.specs.declared.origin.Origin.{Origin}
 use Rattle.kob_policy_text.specs.declared.question.Asker.{Asker}
-use Rattle.kob_policy_text.specs.declared.question.Question.{Question}
-use Rattle.kob_policy_text.specs.declared.question.Question.TheVariants.{May, Ask, Who, Sees, Unused, Shadowed}
 use Rattle.kob_policy_text.specs.declared.question.Right.{Right}
 use Rattle.kob_policy_text.specs.Policy.{deciding, is_yes, may, place_of, serials_of, Policy}
-use Rattle.kob_policy_text.specs.Questions.{Questions}
 
 -- FILE:LINE
 abbrev pub origin_text : Origin → List ℕ
@@ -125,21 +119,16 @@ request_text policy event =
     yes_or_no (are_met policy event.principal event.host (rights event.request)) ++ codes "\n"
     ++ clauses_text policy 1 event.principal event.host (rights event.request)
 
--- what is at hand of a policy
-abbrev pub hand_of : Policy → List (List ℕ) → AtHand
-hand_of policy topics = with_bindings (others_at_hand topics) policy.bindings
-
 unfoldable pub who_line : Policy → Right → List ℕ → List ℕ → List ℕ
 who_line policy right host principal =
     codes "  " ++ bytes_text principal ++ codes " " ++ reason_text policy
     (may policy (question_of principal host right.operation right.resource right.name))
     ++ codes "\n"
 
--- without a host, from one that no binding names
-abbrev pub who_text : Policy → Right → Option (List ℕ) → List ℕ
-who_text policy right host =
-    codes "who\n"
-    ++ flat_map (who_line policy right (unwrap_or host (codes "*"))) (hand_of policy []).principals
+-- the answer from a host to each principal at hand
+abbrev pub from_text : Policy → Right → List ℕ → List ℕ
+from_text policy right host =
+    flat_map (who_line policy right host) (principals_at_hand policy.bindings)
 
 -- a principal may describe a topic
 abbrev pub is_seen : Policy → Asker → List ℕ → Bool
@@ -156,61 +145,6 @@ seen_text policy asker topic = if is_seen policy asker topic then topic_text top
 abbrev pub sees_text : Policy → List (List ℕ) → Asker → List ℕ
 sees_text policy topics asker =
     codes "topics" ++ flat_map (seen_text policy asker) topics ++ codes "\n"
-
--- an allow is beaten where a deny decides, and does nothing for a super user
-abbrev pub is_beaten : Verdict → Bool
-is_beaten (verdict.DeniedBy serial) = true
-is_beaten verdict.Super = true
-is_beaten _ = false
-
-abbrev pub is_beaten_at : Policy → Binding → authorizer.Question → Bool
-is_beaten_at policy binding asked =
-    not (is_hit Allow asked (0, binding)) || is_beaten (may policy asked)
-
--- a deny decides what the allow speaks of
-abbrev pub is_denied : Verdict → Bool
-is_denied (verdict.DeniedBy serial) = true
-is_denied _ = false
-
-abbrev pub is_denied_at : Policy → Binding → authorizer.Question → Bool
-is_denied_at policy binding asked =
-    is_hit Allow asked (0, binding) && is_denied (may policy asked)
-
--- every question at hand of which the allow speaks is one where it is beaten
-abbrev pub is_always_beaten : Policy → List authorizer.Question → Binding → Bool
-is_always_beaten policy asked binding = list_all (is_beaten_at policy binding) asked
-
--- in one of them by a deny
-abbrev pub is_ever_denied : Policy → List authorizer.Question → Binding → Bool
-is_ever_denied policy asked binding = list_any (is_denied_at policy binding) asked
-
-abbrev pub is_shadowed : Policy → List authorizer.Question → Binding → Bool
-is_shadowed policy asked binding =
-    same_permission binding.permission Allow
-    && (is_always_beaten policy asked binding && is_ever_denied policy asked binding)
-
--- the lines of the first places
-unfoldable pub lines_up_to : (ℕ → List ℕ) → ℕ → List ℕ
-lines_up_to line zero = []
-lines_up_to line (suc place) = lines_up_to line place ++ line place
-
-abbrev pub is_shadowed_one : Policy → List authorizer.Question → Option Binding → Bool
-is_shadowed_one policy asked None = false
-is_shadowed_one policy asked (Some binding) = is_shadowed policy asked binding
-
--- the binding at a place is shadowed
-unfoldable pub is_shadowed_at : Policy → List authorizer.Question → ℕ → Bool
-is_shadowed_at policy asked place =
-    is_shadowed_one policy asked (slice_get policy.bindings place)
-
--- the line of a shadowed binding
-abbrev pub shadowed_line : Policy → List authorizer.Question → ℕ → List ℕ
-shadowed_line policy asked place =
-    if is_shadowed_at policy asked place then line_at policy (Some place) else []
-
-abbrev pub shadowed_text : Policy → List authorizer.Question → List ℕ
-shadowed_text policy asked =
-    codes "shadowed\n" ++ lines_up_to (shadowed_line policy asked) (length policy.bindings)
 
 abbrev pub left_out_word : LeftOut → List ℕ
 left_out_word left_out.Resource = codes "resource"

@@ -1,24 +1,31 @@
 -- How answers over all principals, hosts and names are printed, and all answers in their order.
-use Rattle.std.specs.Prelude.{ℕ, ◌+◌, Bool, true, false, List, [], ◌∷◌, ◌++◌, Option, Some, None, codes, flat_map, if◌then◌else◌}
+use Rattle.std.specs.Prelude.{ℕ, ◌+◌, ◌&&◌, ◌||◌, not, Bool, true, false, List, [], ◌∷◌, ◌++◌, Option, Some, None, codes, flat_map, if◌then◌else◌}
 use Rattle.std.specs.Fmt.{decimal}
 use Rattle.kob_authorizer.specs.Decide.{is_super, question_of}
-use Rattle.kob_policy_review.specs.Difference.{changes_of}
+use Rattle.kob_names.specs.Binding.{is_granted}
+use Rattle.kob_policy_review.specs.Classes.{target}
+use Rattle.kob_policy_review.specs.Difference.{changes_of, names_all}
+use Rattle.kob_policy_review.specs.Granting.{answers_on}
 use Rattle.kob_policy_review.specs.Redundancy.{unused_in}
+use Rattle.kob_policy_review.specs.Shadows.{shadowed_in}
 use Rattle.kob_policy_review.specs.declared.class.Class.{Class}
 use Rattle.kob_policy_review.specs.declared.class.Names.{Names}
 use Rattle.kob_policy_review.specs.declared.class.Names.TheVariants.{Exactly, Below}
+use Rattle.kob_policy_review.specs.declared.class.Target.{Target}
+use Rattle.kob_policy_review.specs.declared.granting.Answer.{Answer}
 use Rattle.kob_policy_review.specs.declared.difference.Change.{Change}
 use Rattle.kob_policy_review.specs.declared.difference.Outcome.{Outcome}
 use Rattle.kob_policy_review.specs.declared.difference.Outcome.TheVariants.{Same, Gained, Lost}
 use Rattle.kob_policy_review.specs.declared.redundant.Reason.{Reason}
 use Rattle.kob_policy_review.specs.declared.redundant.Reason.TheVariants.{CoveredBy, DeniedBy, Super, Together}
 use Rattle.kob_policy_review.specs.declared.redundant.Unneeded.{Unneeded}
-use Rattle.kob_policy_text.specs.Answers.{hand_of, line_at, may_text, request_text, sees_text, shadowed_text, who_text}
-use Rattle.kob_policy_text.specs.AtHand.{asked_at_hand}
-use Rattle.kob_policy_text.specs.Policy.{Policy, contents_of, may, place_of}
+use Rattle.kob_policy_text.specs.Answers.{from_text, line_by, may_text, reason_text, request_text, sees_text}
+use Rattle.kob_policy_text.specs.AtHand.{each_once}
+use Rattle.kob_policy_text.specs.Policy.{Policy, contents_of, may}
 use Rattle.kob_policy_text.specs.Questions.{Questions}
 use Rattle.kob_policy_text.specs.declared.question.Question.{Question}
 use Rattle.kob_policy_text.specs.declared.question.Question.TheVariants.{May, Ask, Who, Sees, Unused, Shadowed}
+use Rattle.kob_policy_text.specs.declared.question.Right.{Right}
 use Rattle.kob_words.specs.Words.{bytes_text, operation_name, resource_name}
 
 -- why no answer needs a binding
@@ -41,6 +48,14 @@ abbrev pub unused_text : Policy → List ℕ
 unused_text policy =
     codes "unused\n" ++ flat_map (unneeded_text policy) (unused_in (contents_of policy))
 
+-- an allow that a deny always beats
+unfoldable pub shadowed_line : Policy → ℕ → List ℕ
+shadowed_line policy serial = line_by policy (Some serial)
+
+abbrev pub shadowed_text : Policy → List ℕ
+shadowed_text policy =
+    codes "shadowed\n" ++ flat_map (shadowed_line policy) (shadowed_in (contents_of policy))
+
 -- a principal or a host, or all that no binding names
 abbrev pub party_text : List ℕ → Option (List ℕ) → List ℕ
 party_text all None = all
@@ -50,6 +65,44 @@ party_text all (Some party) = bytes_text party
 abbrev pub names_text : Names → List ℕ
 names_text (Exactly name) = bytes_text name
 names_text (Below start) = bytes_text start ++ codes "* (others)"
+
+-- a super user, to whom all is granted from every host
+unfoldable pub super_grant : List ℕ → List ℕ
+super_grant user = codes "  " ++ bytes_text user ++ codes " yes super\n"
+
+-- the names of the right alone
+abbrev pub target_at : Right → Target
+target_at right = target right.resource (Exactly right.name)
+
+-- the words for all ask as all others do
+abbrev pub is_told : Answer → Bool
+is_told answer =
+    is_granted answer.verdict
+    && not (names_all (codes "User:*") answer.principal || names_all (codes "*") answer.host)
+
+-- what is granted to a principal at a host, and by which binding
+unfoldable pub grant_line : Policy → Answer → List ℕ
+grant_line policy answer =
+    codes "  " ++ party_text (codes "User:* (others)") answer.principal ++ codes " "
+    ++ party_text (codes "* (others)") answer.host ++ codes " "
+    ++ reason_text policy answer.verdict ++ codes "\n"
+
+abbrev pub grant_if_told : Policy → Answer → List ℕ
+grant_if_told policy answer = if is_told answer then grant_line policy answer else []
+
+-- super users first, and then all principals and hosts to which the right is granted
+abbrev pub granted_text : Policy → Right → List ℕ
+granted_text policy right =
+    flat_map super_grant (each_once policy.supers)
+    ++ flat_map (grant_if_told policy)
+    (answers_on (contents_of policy) right.operation (target_at right))
+
+abbrev pub who_by : Policy → Right → Option (List ℕ) → List ℕ
+who_by policy right (Some host) = from_text policy right host
+who_by policy right None = granted_text policy right
+
+abbrev pub who_text : Policy → Right → Option (List ℕ) → List ℕ
+who_text policy right host = codes "who\n" ++ who_by policy right host
 
 -- who asks, and from where
 unfoldable pub asker_text : Class → List ℕ
@@ -102,7 +155,7 @@ question_text policy topics (Ask event) = request_text policy event
 question_text policy topics (Who right host) = who_text policy right host
 question_text policy topics (Sees asker) = sees_text policy topics asker
 question_text policy topics Unused = unused_text policy
-question_text policy topics Shadowed = shadowed_text policy (asked_at_hand (hand_of policy topics))
+question_text policy topics Shadowed = shadowed_text policy
 
 -- an answer behind its number
 abbrev pub answer_line : Policy → List (List ℕ) → ℕ → Question → List ℕ

@@ -44,7 +44,7 @@ fn push_question(
         Question::Who(right, host) => push_who(alloc, out, judge, right, host),
         Question::Sees(asker) => push_sees(out, judge, topics, asker),
         Question::Unused => push_unused(alloc, out, judge),
-        Question::Shadowed => push_shadowed(alloc, out, judge, topics),
+        Question::Shadowed => push_shadowed(alloc, out, judge),
     }
 }
 

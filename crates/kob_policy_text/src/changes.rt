@@ -12,7 +12,8 @@ use kob_policy_review::{Change, Class, Names, Outcome, changes};
 use kob_words::{operation_name, push_bytes, resource_name};
 use std::alloc::{AllocError, Global};
 
-fn push_party(out: &mut Vec<u8>, all: &[u8], party: &Option<Text>) -> Result<(), AllocError>
+/// A principal or a host, or the word for all others.
+pub fn push_party(out: &mut Vec<u8>, all: &[u8], party: &Option<Text>) -> Result<(), AllocError>
     ensures { OnOk result (out.new.items ≡ out.old.items ++ party_text all.now party.now) }
 {
     match party {

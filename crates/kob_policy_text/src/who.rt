@@ -1,15 +1,21 @@
 //! Who may do what, and which topics a principal sees.
 
-ghost use Rattle.std.specs.Prelude.{◌≡◌, ◌++◌, OnOk, flat_map};
-ghost use Rattle.kob_policy_text.specs.Answers.{is_seen, seen_text, sees_text, topic_text};
-ghost use Rattle.kob_policy_text.specs.Answers.{who_line, who_text};
+ghost use Rattle.std.specs.Prelude.{◌≡◌, ◌++◌, IfOk, OnOk, codes, flat_map};
+ghost use Rattle.kob_words.specs.Words.{bytes_text};
+ghost use Rattle.kob_policy_review.specs.Difference.{names_all};
+ghost use Rattle.kob_policy_text.specs.Answers.{from_text, is_seen, seen_text, sees_text};
+ghost use Rattle.kob_policy_text.specs.Answers.{topic_text, who_line};
+ghost use Rattle.kob_policy_text.specs.Review.{grant_if_told, grant_line, granted_text, is_told};
+ghost use Rattle.kob_policy_text.specs.Review.{super_grant, target_at, who_text};
 
 use crate::asked::Asked;
-use crate::at_hand::{every_host, hand_of};
+use crate::at_hand::{each_once, principals_at_hand};
+use crate::changes::push_party;
 use crate::judge::Judge;
 use crate::printed::push_reason;
 use crate::question::{Asker, Right};
-use kob_names::{Host, Operation, Principal, ResourceKind, Text};
+use kob_names::{Host, Operation, PlainValue, Principal, ResourceKind, Text};
+use kob_policy_review::{Answer, Names, Target, who};
 use kob_words::push_bytes;
 use std::alloc::{AllocError, Global};
 
@@ -54,6 +60,115 @@ fn push_who_lines(
     Ok(())
 }
 
+fn push_from(
+    alloc: Global,
+    out: &mut Vec<u8>,
+    judge: &Judge,
+    right: &Right,
+    host: &Host,
+) -> Result<(), AllocError>
+    ensures { OnOk result
+        (out.new.items ≡ out.old.items ++ from_text judge.now right.now host.now) }
+{
+    let principals = principals_at_hand(alloc, judge.policy().bindings())?;
+    push_who_lines(out, judge, right, host, principals.as_slice())
+}
+
+#[tactic(auto, using(kob_words::proofs::Appending::appending))]
+fn push_user(out: &mut Vec<u8>, user: &Principal, what: &[u8]) -> Result<(), AllocError>
+    ensures { OnOk result (out.new.items
+        ≡ out.old.items ++ (codes "  " ++ bytes_text user.now ++ what.now)) }
+{
+    out.extend_from_slice(b"  ")?;
+    push_bytes(out, user.as_str().as_bytes())?;
+    out.extend_from_slice(what)
+}
+
+#[tactic(auto, unfolding(crate::specs::Review::super_grant))]
+fn push_super(out: &mut Vec<u8>, user: &Principal) -> Result<(), AllocError>
+    ensures { OnOk result (out.new.items ≡ out.old.items ++ super_grant user.now) }
+{
+    push_user(out, user, b" yes super\n")
+}
+
+fn push_supers(out: &mut Vec<u8>, supers: &[Principal]) -> Result<(), AllocError>
+    ensures { OnOk result (out.new.items ≡ out.old.items ++ flat_map super_grant supers.now) }
+{
+    for user in supers {
+        push_super(out, user)?;
+    }
+    Ok(())
+}
+
+fn target_at(alloc: Global, right: &Right) -> Result<Target, AllocError>
+    ensures { IfOk result (λ made. made ≡ target_at right.now) }
+{
+    let names = Names::Exactly(right.name.copy(alloc)?);
+    Ok(Target {
+        resource: right.resource,
+        names,
+    })
+}
+
+fn names_all(all: &str, party: &Option<Text>) -> bool
+    ensures { result ≡ names_all all.now party.now }
+{
+    match party {
+        Some(party) => party.as_str() == all,
+        None => false,
+    }
+}
+
+fn is_told(answer: &Answer) -> bool
+    ensures { result ≡ is_told answer.now }
+{
+    answer.verdict.is_granted()
+        && !(names_all("User:*", &answer.principal) || names_all("*", &answer.host))
+}
+
+#[tactic(auto, using(kob_words::proofs::Appending::appending), unfolding(crate::specs::Review::grant_line))]
+fn push_grant(out: &mut Vec<u8>, judge: &Judge, answer: &Answer) -> Result<(), AllocError>
+    ensures { OnOk result (out.new.items ≡ out.old.items ++ grant_line judge.now answer.now) }
+{
+    out.extend_from_slice(b"  ")?;
+    push_party(out, b"User:* (others)", &answer.principal)?;
+    out.extend_from_slice(b" ")?;
+    push_party(out, b"* (others)", &answer.host)?;
+    out.extend_from_slice(b" ")?;
+    push_reason(out, judge, answer.verdict)?;
+    out.extend_from_slice(b"\n")
+}
+
+fn push_grants(out: &mut Vec<u8>, judge: &Judge, answers: &[Answer]) -> Result<(), AllocError>
+    ensures { OnOk result (out.new.items
+        ≡ out.old.items ++ flat_map (grant_if_told judge.now) answers.now) }
+{
+    for answer in answers {
+        if is_told(answer) {
+            push_grant(out, judge, answer)?;
+        }
+    }
+    Ok(())
+}
+
+/// Super users, and then each principal and host to which the right is granted.
+#[tactic(auto, using(kob_words::proofs::Appending::appending))]
+fn push_granted(
+    alloc: Global,
+    out: &mut Vec<u8>,
+    judge: &Judge,
+    right: &Right,
+) -> Result<(), AllocError>
+    ensures { OnOk result (out.new.items ≡ out.old.items ++ granted_text judge.now right.now) }
+{
+    let target = target_at(alloc, right)?;
+    let found = who(alloc, judge.authorizer(), right.operation, &target)?;
+    let supers = each_once(alloc, judge.policy().supers())?;
+    push_supers(out, supers.as_slice())?;
+    push_grants(out, judge, found.as_slice())
+}
+
+/// Prints who may do this: from every host, or the answer from one host to each principal.
 #[tactic(auto, using(kob_words::proofs::Appending::appending))]
 pub fn push_who(
     alloc: Global,
@@ -66,13 +181,10 @@ pub fn push_who(
         (out.new.items ≡ out.old.items ++ who_text judge.now right.now host.now) }
 {
     out.extend_from_slice(b"who\n")?;
-    let hand = hand_of(alloc, judge.policy(), &[])?;
-    let every = every_host(alloc)?;
-    let host = match host {
-        Some(host) => host,
-        None => &every,
-    };
-    push_who_lines(out, judge, right, host, hand.principals())
+    match host {
+        Some(host) => push_from(alloc, out, judge, right, host),
+        None => push_granted(alloc, out, judge, right),
+    }
 }
 
 fn is_seen(judge: &Judge, asker: &Asker, topic: &Text) -> bool
