@@ -29,6 +29,7 @@ use std::io::Write;
 
 /// Plays a scene, one step after another, and writes the answers in this form and nothing else. The
 /// fault is `WriteFailed`, or `Memory` before the first step.
+#[tactic(auto, using(crate::proofs::Played::scene_clean, crate::proofs::Played::scene_stopped))]
 pub fn play<W: Write>(
     alloc: Global,
     shown: &Shown,
