@@ -11,7 +11,7 @@ use Rattle.kob_script.specs.Printed.{stopped_text}
 use Rattle.kob_script.specs.Script.{lines_in}
 use Rattle.kob_shared.specs.declared.journal.Entry.{Entry}
 use Rattle.std.specs.Fmt.{decimal}
-use Rattle.std.specs.Prelude.{ℕ, zero, suc, ◌-◌, ◌==◌, List, [], ◌∷◌, ◌++◌, Option, Some, None, codes, get_or, if◌then◌else◌, length, slice_get}
+use Rattle.std.specs.Prelude.{ℕ, zero, suc, ◌-◌, ◌==◌, List, [], ◌++◌, Option, Some, None, codes, get_or, if◌then◌else◌, length, slice_get}
 
 -- the trace has the lines of the text
 abbrev pub shown_by : Form → List ℕ → Shown

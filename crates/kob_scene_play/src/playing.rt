@@ -105,9 +105,10 @@ fn play_steps<W: Write>(
     page: &mut Page,
     writer: &mut W,
 ) -> Result<Option<PlayFault>, PlayFault>
-    ensures { IfOk result (EndsSteps (shown_text showing.entry.shown.now showing.entry.lines.now) steps.now
-        stage.old stage.new page.old.told page.new.told (W.contents writer.old)
-        page.old.text.items (W.contents writer.new) page.new.text.items) }
+    ensures { IfOk result
+        (EndsSteps (shown_text showing.entry.shown.now showing.entry.lines.now) steps.now
+            stage.old stage.new page.old.told page.new.told (W.contents writer.old)
+            page.old.text.items (W.contents writer.new) page.new.text.items) }
 {
     let mut out = Output::new(alloc);
     for place in 0..steps.len() {
@@ -132,8 +133,8 @@ fn show_step(
     page: &mut Page,
 ) -> Result<(), PlayFault>
     ensures shown { OnOk result (Tells
-        (IsShown (shown_text showing.entry.shown.now showing.entry.lines.now) place step.now stage.old stage.new
-            page.old.told page.new.told)
+        (IsShown (shown_text showing.entry.shown.now showing.entry.lines.now) place step.now
+            stage.old stage.new page.old.told page.new.told)
         page.old.text.items page.new.text.items) }
     ensures stopped { OnErr result (Tells (Leaves step.now page.old.told page.new.told)
         page.old.text.items page.new.text.items) }
