@@ -5,6 +5,10 @@ _kob() {
         mapfile -t COMPREPLY < <(compgen -W "play export policy help --help --version" -- "$word")
     elif [ "$task" = help ]; then
         mapfile -t COMPREPLY < <(compgen -W "play export policy scene" -- "$word")
+    elif [ "$task" = play ] && [[ $word == -* ]]; then
+        mapfile -t COMPREPLY < <(compgen -W "--trace --json --help" -- "$word")
+    elif [ "$task" = export ] && [[ $word == -* ]]; then
+        mapfile -t COMPREPLY < <(compgen -W "--help" -- "$word")
     elif [ "$task" = policy ] && [[ $word == -* ]]; then
         mapfile -t COMPREPLY < <(compgen -W "--policy --questions --topics --before --after --skip --next --help" -- "$word")
     else

@@ -4,7 +4,7 @@
 pub static HELP: &str = "\
 Kafka's access rules and the transactional outbox, tried with a proved broker.
 
-usage: kob play [FILE]...              plays scenes and scripts; - or none: standard input
+usage: kob play [OPTION]... [FILE]...  plays scenes and scripts; - or none: standard input
        kob export [FILE]...            prints the final state of scenes for Kafka and Debezium
        kob policy [OPTION]... [QUESTION]...
                                        answers questions about access rules
@@ -19,9 +19,12 @@ Status: 0 all was done, 1 a fault, or something could not be read or written, 2 
 pub static HELP_PLAY: &str = "\
 Plays scenes: scripts with services, consumers and their steps.
 
-usage: kob play [FILE]...
+usage: kob play [--trace | --json] [FILE]...
 
   FILE              plays FILE; - or none: standard input. With several, == FILE comes before each
+  --trace           prints > and each line before its answers, and what a denied request needs;
+                    the default on a terminal
+  --json            prints an object for each line of an answer, with the line of the scene
   -h, --help        prints this page; kob help scene prints the language of scenes
 
 Each answer has its number. A text with a fault prints only fault line LINE KIND; standard error has

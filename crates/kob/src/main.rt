@@ -13,10 +13,16 @@ mod report;
 mod running;
 mod standing;
 mod version;
+mod watched;
 
-use crate::running::run;
+use crate::running::{Terminals, run};
+use std::io::IsTerminal;
 use std::process::ExitCode;
 
 fn main(rt: HostRuntime) -> ExitCode {
-    ExitCode::from(run(&rt).status())
+    let terminals = Terminals {
+        output: rt.stdout().is_terminal(),
+        error: rt.stderr().is_terminal(),
+    };
+    ExitCode::from(run(&rt, terminals).status())
 }

@@ -3,13 +3,15 @@
 use crate::help::{HELP, HELP_EXPORT, HELP_PLAY};
 use crate::policy_options::command as policy_command;
 use clap::{Arg, ArgAction, ArgMatches, Command, Error};
+use kob_scene_play::Form;
 use std::alloc::{AllocError, Global};
 
 /// What the program is to do.
 #[derive(Drop)]
 pub enum Task {
-    /// Plays scenes and scripts; without a file, standard input.
-    Play(Vec<String>),
+    /// Plays scenes and scripts, and writes the answers in a form that is asked for; without a file,
+    /// standard input.
+    Play(Option<Form>, Vec<String>),
     /// Exports the final state of scenes.
     Export(Vec<String>),
     /// Answers questions about lists of bindings, by the words after `policy`.
@@ -37,7 +39,10 @@ fn command<'a>(alloc: Global) -> Result<Command<'a>, AllocError> {
         .override_help(HELP)
         .disable_help_subcommand(true);
     let made = made.arg(flag(alloc, "version").short('V'))?;
-    let made = made.subcommand(files_command(alloc, "play", HELP_PLAY)?)?;
+    let played = files_command(alloc, "play", HELP_PLAY)?;
+    let played = played.arg(flag(alloc, "trace"))?;
+    let played = played.arg(flag(alloc, "json").conflicts_with("trace")?)?;
+    let made = made.subcommand(played)?;
     let made = made.subcommand(files_command(alloc, "export", HELP_EXPORT)?)?;
     let made = made.subcommand(policy_command(alloc)?)?;
     let subject = Arg::new(alloc, "SUBJECT").action(ArgAction::Set);
@@ -68,7 +73,7 @@ fn files_command<'a>(
 
 fn task_in(alloc: Global, matches: &ArgMatches<'_>) -> Result<Task, AllocError> {
     match matches.subcommand() {
-        Some(("play", used)) => Ok(Task::Play(values_of(alloc, used, "FILE")?)),
+        Some(("play", used)) => Ok(Task::Play(form_in(used), values_of(alloc, used, "FILE")?)),
         Some(("export", used)) => Ok(Task::Export(values_of(alloc, used, "FILE")?)),
         Some(("policy", _)) => Ok(Task::Policy),
         Some((_, used)) => match used.get_str("SUBJECT") {
@@ -77,6 +82,17 @@ fn task_in(alloc: Global, matches: &ArgMatches<'_>) -> Result<Task, AllocError> 
         },
         None if matches.get_flag("version") => Ok(Task::Version),
         None => Ok(Task::Help(None)),
+    }
+}
+
+/// The form of the answers that is asked for.
+fn form_in(matches: &ArgMatches<'_>) -> Option<Form> {
+    if matches.get_flag("json") {
+        Some(Form::Json)
+    } else if matches.get_flag("trace") {
+        Some(Form::Trace)
+    } else {
+        None
     }
 }
 

@@ -4,22 +4,25 @@ use crate::ending::{Ending, ending_of_play};
 use crate::export::export_scene;
 use crate::input::{Kind, text_of};
 use crate::report;
+use crate::watched::Watched;
 use kob_broker::OpenFault;
 use kob_mistakes::mistake_in;
-use kob_scene_play::{Ended, PlayFault, play_text};
+use kob_scene_play::{Ended, Form, PlayFault, play_text, push_json_string};
 use kob_scene_text::{Scene, SceneError, SceneFault, print_scene_fault, read_scene};
+use std::alloc::AllocError;
 use std::io::{self, Write};
-use std::rt::Files;
+use std::rt::{Clock, Files};
 
 /// What is done with a text.
 #[derive(Clone, Copy)]
 pub enum Work {
-    Play,
+    /// Plays it. The answers have this form, and long work is reported if it is watched.
+    Play { form: Form, is_watched: bool },
     Export,
 }
 
 /// Does the work on each file, or on standard input if none is named. Returns the worst end.
-pub fn do_files<R: AllocGlobal + Files + Input + Print + Eprint>(
+pub fn do_files<R: AllocGlobal + Clock + Files + Input + Print + Eprint>(
     rt: &R,
     work: Work,
     files: &[String],
@@ -35,20 +38,48 @@ pub fn do_files<R: AllocGlobal + Files + Input + Print + Eprint>(
 }
 
 /// Plays or exports one of the files, after a line with its name if there are several.
-fn do_headed<R: AllocGlobal + Files + Input + Print + Eprint>(
+fn do_headed<R: AllocGlobal + Clock + Files + Input + Print + Eprint>(
     rt: &R,
     work: Work,
     file: &str,
     headed: bool,
 ) -> Ending {
-    if headed && println!(rt; "== {file}").is_err() {
-        report::stopped(rt, file, PlayFault::WriteFailed);
-        return Ending::Failed;
+    if headed {
+        let heading = write_heading(rt, work, file);
+        if heading != Ending::Whole {
+            return heading;
+        }
     }
     do_file(rt, work, file)
 }
 
-fn do_file<R: AllocGlobal + Files + Input + Print + Eprint>(
+/// A line with the name of a file: `== FILE`, or an object of JSON.
+fn write_heading<R: AllocGlobal + Print + Eprint>(rt: &R, work: Work, file: &str) -> Ending {
+    let mut out = Vec::new(rt.alloc());
+    match push_heading(&mut out, work, file) {
+        Ok(()) => write(rt, file, &out),
+        Err(_) => report::out_of_memory(rt, file),
+    }
+}
+
+fn push_heading(out: &mut Vec<u8>, work: Work, file: &str) -> Result<(), AllocError> {
+    match work {
+        Work::Play {
+            form: Form::Json, ..
+        } => {
+            out.extend_from_slice(b"{\"file\":")?;
+            push_json_string(out, file.as_bytes())?;
+            out.extend_from_slice(b"}\n")
+        }
+        _ => {
+            out.extend_from_slice(b"== ")?;
+            out.extend_from_slice(file.as_bytes())?;
+            out.extend_from_slice(b"\n")
+        }
+    }
+}
+
+fn do_file<R: AllocGlobal + Clock + Files + Input + Print + Eprint>(
     rt: &R,
     work: Work,
     file: &str,
@@ -59,15 +90,29 @@ fn do_file<R: AllocGlobal + Files + Input + Print + Eprint>(
     }
 }
 
-fn do_text<R: AllocGlobal + Print + Eprint>(rt: &R, work: Work, name: &str, text: &[u8]) -> Ending {
+fn do_text<R: AllocGlobal + Clock + Print + Eprint>(
+    rt: &R,
+    work: Work,
+    name: &str,
+    text: &[u8],
+) -> Ending {
     match work {
-        Work::Play => play(rt, name, text),
+        Work::Play { form, is_watched } => {
+            let mut writer = Watched::new(rt, name, is_watched);
+            let played = play_text(rt.alloc(), form, text, &mut writer);
+            report_play(rt, name, text, played)
+        }
         Work::Export => export(rt, name, text),
     }
 }
 
-fn play<R: AllocGlobal + Print + Eprint>(rt: &R, name: &str, text: &[u8]) -> Ending {
-    let played = play_text(rt.alloc(), text, &mut io::writer(rt));
+/// Reports what went wrong with a scene, and returns how it ended.
+fn report_play<R: AllocGlobal + Eprint>(
+    rt: &R,
+    name: &str,
+    text: &[u8],
+    played: Result<Ended, PlayFault>,
+) -> Ending {
     match played {
         Ok(Ended::Clean) => {}
         Ok(Ended::Fault(fault)) => say_fault(rt, name, text, fault),

@@ -1,5 +1,8 @@
 //! What the command line asks for, done.
 
+ghost use Rattle.std.specs.Prelude.{◌≡◌};
+ghost use Rattle.kob.specs.Input.{default_form};
+
 use crate::ending::Ending;
 use crate::help::help_on;
 use crate::options::{Task, task_of};
@@ -9,14 +12,25 @@ use crate::report;
 use crate::version::VERSION;
 use clap::Error;
 use clap::error::ErrorKind;
+use kob_scene_play::Form;
 use std::alloc::AllocError;
 use std::io::{self, Write};
-use std::rt::{Env, Files};
+use std::rt::{Clock, Env, Files};
 
-/// Does what the command line asks for.
-pub fn run<R: AllocGlobal + Env + Files + Input + Print + Eprint>(rt: &R) -> Ending {
+/// Whether standard output and standard error are terminals.
+#[derive(Clone, Copy)]
+pub struct Terminals {
+    pub output: bool,
+    pub error: bool,
+}
+
+/// Does what the command line asks for. On a terminal, answers are traced.
+pub fn run<R: AllocGlobal + Clock + Env + Files + Input + Print + Eprint>(
+    rt: &R,
+    terminals: Terminals,
+) -> Ending {
     match words_of(rt) {
-        Ok(words) => run_words(rt, &words),
+        Ok(words) => run_words(rt, &words, terminals),
         Err(error) => report::refused(rt, "the command line", &error),
     }
 }
@@ -29,14 +43,35 @@ fn words_of<R: AllocGlobal + Env>(rt: &R) -> io::Result<Vec<String>> {
     Ok(words)
 }
 
-fn run_words<R: AllocGlobal + Files + Input + Print + Eprint>(rt: &R, words: &[String]) -> Ending {
+fn run_words<R: AllocGlobal + Clock + Files + Input + Print + Eprint>(
+    rt: &R,
+    words: &[String],
+    terminals: Terminals,
+) -> Ending {
     match task_of(rt.alloc(), words) {
-        Ok(Task::Play(files)) => do_files(rt, Work::Play, &files),
+        Ok(Task::Play(form, files)) => {
+            let work = Work::Play {
+                form: form.unwrap_or(default_form(terminals.output)),
+                is_watched: terminals.error,
+            };
+            do_files(rt, work, &files)
+        }
         Ok(Task::Export(files)) => do_files(rt, Work::Export, &files),
         Ok(Task::Policy) => answer(rt, words.get(2..).unwrap_or(&[])),
         Ok(Task::Help(subject)) => help(rt, subject.as_ref()),
         Ok(Task::Version) => show(rt, VERSION),
         Err(refused) => say(rt, &refused),
+    }
+}
+
+/// The form of answers for which no option asks.
+fn default_form(is_terminal: bool) -> Form
+    ensures { result ≡ default_form is_terminal }
+{
+    if is_terminal {
+        Form::Trace
+    } else {
+        Form::Plain
     }
 }
 

@@ -1,31 +1,38 @@
 -- The steps of a scene, one after another.
-use Rattle.kob_scene_play.proofs.Words.{Appends, Appends-trans, ArePlayed, ConsumerKeeps, ConsumerStep, Err, IsAnswered, IsConsumerStep, IsOpened, IsRead, IsServed, IsServiceStep, IsStep, List, Ok, OnOk, Option, OthersStay, PlayedConsumer, PlayedService, Result, Scene, ServiceKeeps, ServiceStep, Some, Stage, Step, Tells, Writes, WritesAll, WritesSteps, [], ap, append-nil, append_assoc, declared_consumer, declared_service, map, named_consumer, named_service, one_more, refl, set, slice_get, subst, sym, ℕ, ◌++◌, ◌∙◌, ◌∷◌, ◌≡◌}
+use Rattle.kob_scene_play.proofs.Words.{Appends, Appends-trans, ArePlayed, ConsumerKeeps, ConsumerStep, EndsAs, EndsScene, EndsSteps, Entry, Err, IfOk, IsAnswered, IsConsumerStep, IsRead, IsReady, IsServed, IsServiceStep, IsShown, IsStep, Leaves, List, None, Ok, OnOk, Option, OthersStay, PlayFault, PlayedConsumer, PlayedService, Result, Scene, ServiceKeeps, ServiceStep, Show, Shown, Some, Stage, Step, StopsIn, Tells, Writes, WritesSteps, [], ap, append-nil, append_assoc, arith, inl, inr, length, one_more, refl, set, show_of, slice_get, stopped_shown, subst, suc, sym, ℕ, ◌++◌, ◌+◌, ◌∙◌, ◌∷◌, ◌≡◌}
 use Rattle.kob_scene_play.proofs.Places.{put_at}
+use Rattle.kob_scene_play.specs.declared.text.Ended.TheVariants as ended
 use Rattle.kob_scene_text.specs.declared.scene.Step.TheVariants as steps
 
 -- one step more behind others
-played_behind : (before : List Step) (step : Step) (old mid new : Stage) (told mid_told then_told : ℕ)
-    (front back : List ℕ) → ArePlayed before old mid told mid_told front
-    → IsStep step mid new mid_told then_told back
-    → ArePlayed (before ++ step ∷ []) old new told then_told (front ++ back)
-played_behind [] step old mid new told mid_told then_told front back (same, none, empty) is = (
-  new,
-  then_told,
-  back,
-  [],
-  subst (λ (from : Stage). IsStep step from new told then_told back) same
-      (subst (λ n. IsStep step mid new n then_told back) none is),
-  (refl, refl, refl),
-  ap (λ xs. xs ++ back) empty ∙ sym (append-nil back),
-)
-played_behind (first ∷ before) step old mid new told mid_told then_told front back
-    (between, between_told, text, rest, is, are, joined) last = (
+played_behind : (show : Show) (place : ℕ) (before : List Step) (step : Step) (old mid new : Stage)
+    (told mid_told then_told : ℕ) (front back : List ℕ) → ArePlayed show place before old mid told mid_told front
+    → IsShown show (place + length before) step mid new mid_told then_told back
+    → ArePlayed show place (before ++ step ∷ []) old new told then_told (front ++ back)
+played_behind show place [] step old mid new told mid_told then_told front back (same, none, empty) is =
+    let here : place + 0 ≡ place = omega arith in
+    (
+      new,
+      then_told,
+      back,
+      [],
+      subst (λ n. IsShown show n step old new told then_told back) here
+          (subst (λ (from : Stage). IsShown show (place + 0) step from new told then_told back) same
+          (subst (λ n. IsShown show (place + 0) step mid new n then_told back) none is)),
+      (refl, refl, refl),
+      ap (λ xs. xs ++ back) empty ∙ sym (append-nil back),
+    )
+played_behind show place (first ∷ before) step old mid new told mid_told then_told front back
+    (between, between_told, text, rest, is, are, joined) last =
+    let there : place + suc (length before) ≡ (place + 1) + length before = omega arith in
+    (
       between,
       between_told,
       text,
       rest ++ back,
       is,
-      played_behind before step between mid new between_told mid_told then_told rest back are last,
+      played_behind show (place + 1) before step between mid new between_told mid_told then_told rest back are
+          (subst (λ n. IsShown show n step mid new mid_told then_told back) there last),
       ap (λ xs. xs ++ back) joined ∙ append_assoc text rest back,
     )
 
@@ -42,43 +49,121 @@ written_both a b c held mid then_mid then_held one two (front, is_front, appende
 )
 
 -- one step more
-pub one_step_more : (before : List Step) (step : Step) (old mid new : Stage) (told mid_told then_told : ℕ)
-    (first second third : Option (List ℕ)) (held mid_held then_mid_held then_held : List ℕ)
-    → WritesSteps before old mid told mid_told first held second mid_held
-    → Tells (IsStep step mid new mid_told then_told) mid_held then_mid_held
+pub one_step_more : (show : Show) (place : ℕ) (before : List Step) (step : Step) (old mid new : Stage)
+    (told mid_told then_told : ℕ) (first second third : Option (List ℕ)) (held mid_held then_mid_held then_held : List ℕ)
+    → length before ≡ place
+    → WritesSteps show before old mid told mid_told first held second mid_held
+    → Tells (IsShown show place step mid new mid_told then_told) mid_held then_mid_held
     → Writes second then_mid_held third then_held []
-    → WritesSteps (before ++ step ∷ []) old new told then_told first held third then_held
-one_step_more before step old mid new told mid_told then_told first second third held mid_held then_mid_held then_held
-    (front, are, written) (back, is, more) then_written = (
+    → WritesSteps show (before ++ step ∷ []) old new told then_told first held third then_held
+one_step_more show place before step old mid new told mid_told then_told first second third held mid_held then_mid_held
+    then_held here (front, are, written) (back, is, more) then_written =
+    let behind : place ≡ 0 + length before = omega (arith, here) in
+    (
       front ++ back,
-      played_behind before step old mid new told mid_told then_told front back are is,
+      played_behind show 0 before step old mid new told mid_told then_told front back are
+          (subst (λ n. IsShown show n step mid new mid_told then_told back) behind is),
       written_both first second third held mid_held then_mid_held then_held front back written more then_written,
     )
 
--- all steps were played, and what was held is written
-pub all_played : {E : Type 0} (result : Result (Unit {0}) E) (scene : Scene) (opened closed : Stage) (told then_told : ℕ)
-    (first second third : Option (List ℕ)) (held mid_held : List ℕ) → told ≡ 0 → held ≡ []
-    → IsOpened scene.settings opened
-    → map named_service opened.services.items ≡ map declared_service scene.services.items
-    → map named_consumer opened.consumers.items ≡ map declared_consumer scene.consumers.items
-    → WritesSteps scene.steps.items opened closed told then_told first held second mid_held
-    → OnOk result (Appends second third mid_held) → OnOk result (WritesAll scene first third)
-all_played (Ok done) scene opened closed told then_told first second third held mid_held none empty fresh services consumers
-    (text, are, (front, is, appended)) rest = (
+-- a step that stopped
+pub one_step_stops : (show : Show) (all before later : List Step) (step : Step) (old mid new : Stage)
+    (told mid_told then_told : ℕ) (first second : Option (List ℕ)) (held mid_held then_held : List ℕ) (fault : PlayFault)
+    → all ≡ before ++ step ∷ later
+    → WritesSteps show before old mid told mid_told first held second mid_held
+    → Tells (Leaves step mid_told then_told) mid_held then_held
+    → EndsSteps show all old new told then_told first held second then_held (Some fault)
+one_step_stops show all before later step old mid new told mid_told then_told first second held mid_held then_held fault
+    split (front, are, (ahead, is_front, appended)) (back, leaves, more) = (
+      front ++ back,
+      (before, later, step, mid, mid_told, front, back, split, are, leaves, refl),
+      (
+        ahead,
+        sym (append_assoc held front back) ∙ ap (λ xs. xs ++ back) is_front ∙ append_assoc ahead mid_held back
+            ∙ ap (λ xs. ahead ++ xs) (sym more),
+        appended,
+      ),
+    )
+
+-- the answers to a step are shown behind what was held
+pub step_shown : (show : Show) (place before : ℕ) (step : Step) (old new : Stage) (journal : List Entry)
+    (told begun then_told shown_told : ℕ) (begin answers held then_held : List ℕ) → begun ≡ told → begin ≡ []
+    → before ≡ length old.recorded.journal → journal ≡ new.recorded.journal
+    → Tells (IsStep step old new begun then_told) begin answers → shown_told ≡ then_told
+    → then_held ≡ held ++ show place before journal answers
+    → Tells (IsShown show place step old new told shown_told) held then_held
+step_shown show place before step old new journal told begun then_told shown_told begin answers held then_held counted empty
+    entries now (text, is, printed) same added =
+    let whole : text ≡ answers = sym (printed ∙ ap (λ xs. xs ++ text) empty) in
+    let first = subst (λ n. IsStep step old new n then_told text) counted is in
+    let last = subst (λ n. IsStep step old new told n text) (sym same) first in
+    (
+      show place (length old.recorded.journal) new.recorded.journal answers,
+      (answers, subst (λ xs. IsStep step old new told shown_told xs) whole last, refl),
+      added ∙ ap (λ n. held ++ show place n journal answers) entries
+          ∙ ap (λ entries. held ++ show place (length old.recorded.journal) entries answers) now,
+    )
+
+-- a scene whose stage was not opened
+pub scene_unopened : (shown : Shown) (scene : Scene) (told : ℕ) (first : Option (List ℕ)) (held : List ℕ)
+    (fault : PlayFault) → told ≡ 0 → held ≡ [] → Appends first first []
+    → EndsScene shown scene told first first held (Some fault)
+scene_unopened shown scene told first held fault none empty nothing = ([], inl (none, refl), ([], sym empty, nothing))
+
+-- the steps of a scene
+pub scene_played : {E : Type 0} (result : Result (Option PlayFault) E) (shown : Shown) (scene : Scene)
+    (opened closed : Stage) (told then_told : ℕ) (first second : Option (List ℕ)) (held then_held : List ℕ)
+    → told ≡ 0 → held ≡ [] → IsReady scene opened
+    → IfOk result (EndsSteps (show_of shown scene) scene.steps.items opened closed told then_told first held second then_held)
+    → IfOk result (EndsScene shown scene then_told first second then_held)
+scene_played (Ok None) shown scene opened closed told then_told first second held then_held none empty ready
+    (text, are, written) = (
       text,
       (
         opened,
         closed,
         then_told,
-        fresh,
-        services,
-        consumers,
-        subst (λ n. ArePlayed scene.steps.items opened closed n then_told text) none are,
+        ready,
+        subst (λ n. ArePlayed (show_of shown scene) 0 scene.steps.items opened closed n then_told text) none are,
       ),
-      subst (λ xs. Appends first third xs) (sym is ∙ ap (λ xs. xs ++ text) empty)
-          (Appends-trans first second third front mid_held appended rest),
+      subst (λ xs. Writes first xs second then_held text) empty written,
     )
-all_played (Err fault) scene opened closed told then_told first second third held mid_held none empty fresh services consumers all rest = rest
+scene_played (Ok (Some fault)) shown scene opened closed told then_told first second held then_held none empty ready
+    (text, stops, written) = (
+      text,
+      inr
+          (
+            opened,
+            ready,
+            subst (λ n. StopsIn (show_of shown scene) scene.steps.items opened n then_told text) none stops,
+          ),
+      subst (λ xs. Writes first xs second then_held text) empty written,
+    )
+scene_played (Err fault) shown scene opened closed told then_told first second held then_held none empty ready ends = tt
+
+-- what was held is written at the end
+pub scene_clean : {E : Type 0} (result : Result (Unit {0}) E) (shown : Shown) (scene : Scene) (told : ℕ)
+    (first second third : Option (List ℕ)) (held : List ℕ) → EndsScene shown scene told first second held None
+    → OnOk result (Appends second third held) → OnOk result (EndsAs shown scene first third ended.Clean)
+scene_clean (Ok done) shown scene told first second third held (text, is, (front, split, appended)) rest =
+    (text, is, subst (λ xs. Appends first third xs) (sym split) (Appends-trans first second third front held appended rest))
+scene_clean (Err fault) shown scene told first second third held ends rest = tt
+
+-- and after it that the scene stopped
+pub scene_stopped : {E : Type 0} (result : Result (Unit {0}) E) (shown : Shown) (scene : Scene) (told : ℕ)
+    (first second third : Option (List ℕ)) (held last : List ℕ) (fault : PlayFault)
+    → EndsScene shown scene told first second held (Some fault) → last ≡ stopped_shown shown told
+    → OnOk result (Appends second third (held ++ last)) → OnOk result (EndsAs shown scene first third (ended.Stopped fault))
+scene_stopped (Ok done) shown scene told first second third held last fault (text, is, (front, split, appended)) says rest =
+    (
+      told,
+      text,
+      is,
+      subst (λ xs. Appends first third xs)
+          (sym (append_assoc front held last) ∙ ap (λ xs. xs ++ last) (sym split) ∙ ap (λ xs. text ++ xs) says)
+          (Appends-trans first second third front (held ++ last) appended rest),
+    )
+scene_stopped (Err fault) shown scene told first second third held last other ends says rest = tt
 
 -- a step of a service
 pub service_played : {E : Type 0} (result : Result (Unit {0}) E) (which : ℕ) (step : ServiceStep) (old new : Stage)

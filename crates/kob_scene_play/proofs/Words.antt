@@ -21,25 +21,26 @@ pub use Rattle.kob_router.specs.Tick.{IsFirst, hand_of}
 pub use Rattle.kob_router.specs.declared.line.Call.{Call}
 pub use Rattle.kob_scene_play.specs.Stages.{line_of, IsOpened, declared_consumer, declared_service, named_consumer, named_service, IsAnswered, IsLaw, law_text}
 pub use Rattle.kob_scene_play.specs.Steps.{Tells, Writes, AllGoOn, AreTicks, EndsRun, IsConsumerStep, IsServiceStep, IsTold, Records, Consumer, Consumes, Does, IsConsumerTick, IsSameConsumer, IsServiceTick, LosesFirst, Service}
-pub use Rattle.kob_scene_play.specs.Scenes.{ArePlayed, ConsumerKeeps, IsRead, IsServed, IsStep, OthersStay, ServiceKeeps, EndsAs, IsWritten, WritesAll, WritesSteps}
+pub use Rattle.kob_scene_play.specs.Scenes.{ArePlayed, ConsumerKeeps, EndsAs, EndsScene, EndsSteps, IsRead, IsReady, IsServed, IsShown, IsStep, IsWritten, Leaves, OthersStay, ServiceKeeps, Show, StopsIn, WritesSteps, show_of}
+pub use Rattle.kob_scene_play.specs.Forms.{fault_shown, shown_by, shown_text, stopped_shown}
+pub use Rattle.kob_scene_play.specs.declared.form.Form.{Form}
+pub use Rattle.kob_scene_play.specs.declared.form.Shown.{Shown}
 pub use Rattle.kob_scene_play.specs.declared.fault.PlayFault.{PlayFault}
 pub use Rattle.kob_scene_play.specs.declared.stage.PlayedConsumer.{PlayedConsumer}
 pub use Rattle.kob_scene_play.specs.declared.stage.PlayedService.{PlayedService}
 pub use Rattle.kob_scene_play.specs.declared.stage.Stage.{Stage}
 pub use Rattle.kob_scene_play.specs.declared.text.Ended.{Ended}
-pub use Rattle.kob_scene_text.specs.Reading.{scene_fault_text}
 pub use Rattle.kob_scene_text.specs.PrintedRows.{service_tick_text}
-pub use Rattle.kob_scene_text.specs.Scenes.{MayRead}
+pub use Rattle.kob_scene_text.specs.Scenes.{HasLines, MayRead, seen}
 pub use Rattle.kob_scene_text.specs.declared.fault.SceneFault.{SceneFault}
 pub use Rattle.kob_scene_text.specs.declared.scene.ConsumerStep.{ConsumerStep}
 pub use Rattle.kob_scene_text.specs.declared.scene.Scene.{Scene}
 pub use Rattle.kob_scene_text.specs.declared.scene.ServiceStep.{ServiceStep}
 pub use Rattle.kob_scene_text.specs.declared.scene.Step.{Step}
-pub use Rattle.kob_script.specs.Printed.{stopped_text}
 pub use Rattle.kob_shared.specs.declared.journal.Entry.{Entry}
-pub use Rattle.std.proofs.Common.{Bool, List, [], ap, append-nil, append_assoc, arith, codes, false, inl, inr, length, map, refl, rules, set, subst, suc, sym, take, true, zero, ℕ, ◌++◌, ◌+◌, ◌<◌, ◌∙◌, ◌∷◌, ◌≡◌, ◌≤◌}
+pub use Rattle.std.proofs.Common.{Bool, List, [], ap, append-nil, append_assoc, arith, codes, drop, false, inl, inr, length, map, refl, rules, set, subst, suc, sym, take, true, zero, ℕ, ◌++◌, ◌+◌, ◌<◌, ◌∙◌, ◌∷◌, ◌≡◌, ◌≤◌}
 pub use Rattle.std.proofs.KnownBytes.{Appends-trans}
-pub use Rattle.std.proofs.lemmas.List.{flat_map_more, length-take-le, take_all, take_more}
+pub use Rattle.std.proofs.lemmas.List.{flat_map_more, length-take-le, take-append-drop, take_all, take_more}
 pub use Rattle.std.proofs.lemmas.Option.{get_or_from_slice_get, none-some, slice_get_read}
 pub use Rattle.std.specs.Fmt.{decimal}
 pub use Rattle.std.specs.Io.KnownBytes.{Appends}

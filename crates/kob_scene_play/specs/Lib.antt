@@ -1,4 +1,7 @@
 pub mod Faults
+pub mod Forms
+pub mod Json
+pub mod Needs
 pub mod Scenes
 pub mod Stages
 pub mod Steps

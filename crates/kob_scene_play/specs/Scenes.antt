@@ -1,5 +1,5 @@
 -- What a step of a scene changes and prints, and what a whole scene does.
-use Rattle.std.specs.Prelude.{◌≡◌, ◌≢◌, ℕ, List, [], ◌∷◌, ◌++◌, Some, map, slice_get, Option, Ok, Err}
+use Rattle.std.specs.Prelude.{◌≡◌, ◌≢◌, ◌⊎◌, ◌+◌, ℕ, List, [], ◌∷◌, ◌++◌, Some, None, Bool, true, false, length, map, slice_get, Option, Ok, Err}
 use Rattle.kob_router.specs.Line.{one_more}
 use Rattle.kob_scene_play.specs.Stages.{journal_text, IsOpened, declared_consumer, declared_service, named_consumer, named_service, IsAnswered}
 use Rattle.kob_scene_play.specs.Steps.{IsConsumerStep, IsServiceStep, Writes}
@@ -12,10 +12,14 @@ use Rattle.kob_scene_text.specs.declared.scene.ServiceStep.{ServiceStep}
 use Rattle.kob_scene_text.specs.declared.scene.Step.{Step}
 use Rattle.kob_script.specs.Printed.{reply_text}
 use Rattle.kob_shared.specs.Journals.{after_event, outcome_of}
+use Rattle.kob_shared.specs.declared.journal.Entry.{Entry}
 use Rattle.std.specs.Io.KnownBytes.{Appends}
 use Rattle.kob_scene_play.specs.declared.text.Ended.{Ended}
-use Rattle.kob_scene_text.specs.Reading.{scene_fault_text}
-use Rattle.kob_scene_text.specs.Scenes.{MayRead}
+use Rattle.kob_scene_play.specs.Forms.{fault_shown, shown_by, shown_text, stopped_shown}
+use Rattle.kob_scene_play.specs.declared.fault.PlayFault.{PlayFault}
+use Rattle.kob_scene_play.specs.declared.form.Form.{Form}
+use Rattle.kob_scene_play.specs.declared.form.Shown.{Shown}
+use Rattle.kob_scene_text.specs.Scenes.{HasLines, MayRead, seen}
 use Rattle.kob_scene_text.specs.declared.scene.ConsumerStep.TheVariants as consumer_steps
 use Rattle.kob_scene_text.specs.declared.scene.ServiceStep.TheVariants as service_steps
 use Rattle.kob_scene_text.specs.declared.scene.Step.TheVariants as steps
@@ -87,50 +91,120 @@ IsStep (steps.Law service consumer) old new told then_told text =
     × (then_told ≡ one_more told)
     × IsAnswered service consumer old told text
 
--- steps, each from where the one before it ended: what they change, how many answers are printed,
--- and what they print, one text behind the other
-abbrev pub ArePlayed : List Step → Stage → Stage → ℕ → ℕ → List ℕ → Type 0
-ArePlayed [] old new told then_told text = (new ≡ old) × (then_told ≡ told) × (text ≡ [])
-ArePlayed (step ∷ later) old new told then_told text =
+-- how the answers to the step at a place are shown, by the number of entries of the journal before
+-- it, and by the journal after it
+abbrev pub Show : Type 0
+Show = ℕ → ℕ → List Entry → List ℕ → List ℕ
+
+-- a step as it is shown
+abbrev pub IsShown : Show → ℕ → Step → Stage → Stage → ℕ → ℕ → List ℕ → Type 0
+IsShown show place step old new told then_told text =
+    (answers : List ℕ)
+    × IsStep step old new told then_told answers
+    × (text ≡ show place (length old.recorded.journal) new.recorded.journal answers)
+
+-- steps from a place on, each from where the one before it ended: what they change, how many answers
+-- are printed, and what is shown of them, one text behind the other
+abbrev pub ArePlayed : Show → ℕ → List Step → Stage → Stage → ℕ → ℕ → List ℕ → Type 0
+ArePlayed show place [] old new told then_told text =
+    (new ≡ old) × (then_told ≡ told) × (text ≡ [])
+ArePlayed show place (step ∷ later) old new told then_told text =
     (mid : Stage) × (mid_told : ℕ) × (front back : List ℕ)
-    × IsStep step old mid told mid_told front
-    × ArePlayed later mid new mid_told then_told back
+    × IsShown show place step old mid told mid_told front
+    × ArePlayed show (place + 1) later mid new mid_told then_told back
     × (text ≡ front ++ back)
 
--- all steps of a scene, from a stage where none was made: each declared worker is there in its order
-abbrev pub IsPlayed : Scene → List ℕ → Type 0
-IsPlayed scene text =
-    (opened closed : Stage) × (told : ℕ)
-    × IsOpened scene.settings opened
+-- a run has an answer for each of its ticks
+abbrev pub is_run : Step → Bool
+is_run (steps.Service which service_steps.Run) = true
+is_run (steps.Consumer which consumer_steps.Run) = true
+is_run step = false
+
+-- a step that stopped added no answer, unless it is a run, which can have added some
+abbrev pub Leaves : Step → ℕ → ℕ → List ℕ → Type 0
+Leaves step told then_told text =
+    (is_run step ≡ true) ⊎ ((then_told ≡ told) × (text ≡ []))
+
+-- steps were played up to one that stopped
+abbrev pub StopsIn : Show → List Step → Stage → ℕ → ℕ → List ℕ → Type 0
+StopsIn show all old told then_told text =
+    (done later : List Step) × (step : Step) × (mid : Stage) × (mid_told : ℕ)
+    × (front back : List ℕ)
+    × (all ≡ done ++ step ∷ later)
+    × ArePlayed show 0 done old mid told mid_told front
+    × Leaves step mid_told then_told back
+    × (text ≡ front ++ back)
+
+-- a stage where no step was made: each declared worker is there in its order
+abbrev pub IsReady : Scene → Stage → Type 0
+IsReady scene opened =
+    IsOpened scene.settings opened
     × (map named_service opened.services.items ≡ map declared_service scene.services.items)
     × (map named_consumer opened.consumers.items ≡ map declared_consumer scene.consumers.items)
-    × ArePlayed scene.steps.items opened closed 0 told text
+
+-- all steps of a scene
+abbrev pub IsPlayed : Show → Scene → List ℕ → Type 0
+IsPlayed show scene text =
+    (opened closed : Stage) × (told : ℕ)
+    × IsReady scene opened
+    × ArePlayed show 0 scene.steps.items opened closed 0 told text
+
+-- a scene that stopped after so many answers: before its first step, or at one of its steps
+abbrev pub IsCut : Show → Scene → ℕ → List ℕ → Type 0
+IsCut show scene told text =
+    ((told ≡ 0) × (text ≡ []))
+    ⊎ ((opened : Stage) × IsReady scene opened × StopsIn show scene.steps.items opened 0 told text)
 
 -- What is written for the text of a scene.
 
--- steps were played, and what they print was written, but for what is held
-abbrev pub WritesSteps : List Step → Stage → Stage → ℕ → ℕ → Option (List ℕ) → List ℕ
+-- steps were played, and what is shown of them was written, but for what is held
+abbrev pub WritesSteps : Show → List Step → Stage → Stage → ℕ → ℕ → Option (List ℕ) → List ℕ
     → Option (List ℕ) → List ℕ → Type 0
-WritesSteps steps old new told then_told before held now then_held =
+WritesSteps show steps old new told then_told before held now then_held =
     (text : List ℕ)
-    × ArePlayed steps old new told then_told text
+    × ArePlayed show 0 steps old new told then_told text
     × Writes before held now then_held text
 
--- all steps of a scene were played, and what they print was written
-abbrev pub WritesAll : Scene → Option (List ℕ) → Option (List ℕ) → Type 0
-WritesAll scene before now = (text : List ℕ) × IsPlayed scene text × Appends before now text
+-- the same of steps that stopped, if there is a fault
+abbrev pub EndsSteps : Show → List Step → Stage → Stage → ℕ → ℕ → Option (List ℕ) → List ℕ
+    → Option (List ℕ) → List ℕ → Option PlayFault → Type 0
+EndsSteps show steps old new told then_told before held now then_held None =
+    WritesSteps show steps old new told then_told before held now then_held
+EndsSteps show steps old new told then_told before held now then_held (Some fault) =
+    (text : List ℕ)
+    × StopsIn show steps old told then_told text
+    × Writes before held now then_held text
 
--- how the playing of a scene ended, and what was written; of a scene that stopped nothing is said
-abbrev pub EndsAs : Scene → Option (List ℕ) → Option (List ℕ) → Ended → Type 0
-EndsAs scene before now ended.Clean = WritesAll scene before now
-EndsAs scene before now (ended.Fault fault) = ⊥
-EndsAs scene before now (ended.Stopped fault) = Unit {0}
+abbrev pub show_of : Shown → Scene → Show
+show_of shown scene = shown_text shown scene.lines.items
+
+-- a scene was played, or stopped after so many answers, and what is shown of it was written, but for
+-- what is held
+abbrev pub EndsScene : Shown → Scene → ℕ → Option (List ℕ) → Option (List ℕ) → List ℕ
+    → Option PlayFault → Type 0
+EndsScene shown scene told before now held None =
+    (text : List ℕ) × IsPlayed (show_of shown scene) scene text × Writes before [] now held text
+EndsScene shown scene told before now held (Some fault) =
+    (text : List ℕ) × IsCut (show_of shown scene) scene told text × Writes before [] now held text
+
+-- How the playing of a scene ended, and what was written. Where it stopped, the answers before are
+-- written, and then their number.
+abbrev pub EndsAs : Shown → Scene → Option (List ℕ) → Option (List ℕ) → Ended → Type 0
+EndsAs shown scene before now ended.Clean =
+    (text : List ℕ) × IsPlayed (show_of shown scene) scene text × Appends before now text
+EndsAs shown scene before now (ended.Fault fault) = ⊥
+EndsAs shown scene before now (ended.Stopped fault) =
+    (told : ℕ) × (text : List ℕ)
+    × IsCut (show_of shown scene) scene told text
+    × Appends before now (text ++ stopped_shown shown told)
 
 -- what was written for a text, by how it ended
-abbrev pub IsWritten : List ℕ → Option (List ℕ) → Option (List ℕ) → Ended → Type 0
-IsWritten source before now ended.Clean =
-    (scene : Scene) × MayRead source (Ok scene) × EndsAs scene before now ended.Clean
-IsWritten source before now (ended.Fault fault) =
-    MayRead source (Err (scene_error.Fault fault)) × Appends before now (scene_fault_text fault)
-IsWritten source before now (ended.Stopped fault) =
-    (scene : Scene) × MayRead source (Ok scene) × EndsAs scene before now (ended.Stopped fault)
+abbrev pub IsWritten : Form → List ℕ → Option (List ℕ) → Option (List ℕ) → Ended → Type 0
+IsWritten form source before now ended.Clean =
+    (scene : Scene) × MayRead source (Ok scene) × HasLines source (seen scene) scene.lines.items
+    × EndsAs (shown_by form source) scene before now ended.Clean
+IsWritten form source before now (ended.Fault fault) =
+    MayRead source (Err (scene_error.Fault fault)) × Appends before now (fault_shown form fault)
+IsWritten form source before now (ended.Stopped fault) =
+    (scene : Scene) × MayRead source (Ok scene) × HasLines source (seen scene) scene.lines.items
+    × EndsAs (shown_by form source) scene before now (ended.Stopped fault)

@@ -5,10 +5,14 @@
 mod consumer_steps;
 mod consumer_worker;
 mod fault;
+mod form;
 mod journal;
+mod json;
 mod law;
+mod needs;
 mod order;
 mod output;
+mod page;
 mod playing;
 mod service_steps;
 mod service_worker;
@@ -17,6 +21,8 @@ mod text;
 
 pub use consumer_worker::ConsumerWorker;
 pub use fault::PlayFault;
+pub use form::{Form, Shown};
+pub use json::push_json_string;
 pub use playing::play;
 pub use service_worker::ServiceWorker;
 pub use stage::{PlayedConsumer, PlayedService, Stage};

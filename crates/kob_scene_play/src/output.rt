@@ -1,45 +1,40 @@
-//! The output of a scene, written in pieces.
+//! The answers to a step.
 
 ghost use Rattle.std.specs.Fmt.{decimal};
-ghost use Rattle.std.specs.Prelude.{◌≡◌, ◌++◌, [], IfOk, OnOk, take};
-ghost use Rattle.std.specs.Io.KnownBytes.{Appends};
+ghost use Rattle.std.specs.Prelude.{◌≡◌, ◌++◌, [], OnOk, take};
 ghost use Rattle.kob_router.specs.Line.{one_more};
-ghost use Rattle.kob_scene_play.specs.Steps.{Writes};
-ghost use Rattle.kob_script.specs.Printed.{stopped_text};
 
-use crate::fault::PlayFault;
 use kob_words::push_number;
 use std::alloc::{AllocError, Global};
-use std::io::Write;
 
-/// What was printed is written once it has this number of bytes.
-const PIECE: usize = 65_536;
-
-/// The maximum length of the last line of an output.
-const LAST_LINE: usize = 64;
-
-/// What was printed and not yet written, and the number of results that were printed. The result of
-/// each request and of each step has the next number.
+/// The answers to a step, and the number of answers with those to the steps before. The answer to
+/// each request and to each step has the next number.
 #[derive(Drop)]
 pub(crate) struct Output {
-    /// What was printed. Its first bytes are whole lines; the line of a result may follow.
+    /// What was printed. Its first bytes are whole lines; the line of an answer may follow.
     pub(crate) text: Vec<u8>,
     whole: usize,
-    told: u64,
+    pub(crate) told: u64,
 }
 
 impl Output {
-    /// An output with nothing printed. The error is out of memory.
-    pub(crate) fn open(alloc: Global) -> Result<Output, AllocError>
-        ensures text { IfOk result (λ output. output.text.items ≡ []) }
-        ensures told { IfOk result (λ output. output.told ≡ 0) }
-    {
-        let text = Vec::with_capacity(alloc, PIECE + LAST_LINE)?;
-        Ok(Output {
-            text,
+    /// An output with nothing printed. Does not allocate.
+    pub(crate) fn new(alloc: Global) -> Output {
+        Output {
+            text: Vec::new(alloc),
             whole: 0,
             told: 0,
-        })
+        }
+    }
+
+    /// Begins a step, before which there were so many answers.
+    pub(crate) fn begin(&mut self, told: u64)
+        ensures text { self.new.text.items ≡ [] }
+        ensures told { self.new.told ≡ told }
+    {
+        self.text.clear();
+        self.whole = 0;
+        self.told = told;
     }
 
     /// The number of the next result.
@@ -66,49 +61,13 @@ impl Output {
         self.whole = self.text.len();
     }
 
-    /// Writes what was printed, once there is enough of it.
-    pub(crate) fn write_piece<W: Write>(&mut self, writer: &mut W) -> Result<(), PlayFault>
-        ensures written { OnOk result (Writes (W.contents writer.old) self.old.text.items
-            (W.contents writer.new) self.new.text.items []) }
+    /// Drops the line that was begun.
+    pub(crate) fn cut(&mut self)
+        ensures text { self.new.text.items ≡ take self.old.whole self.old.text.items }
         ensures told { self.new.told ≡ self.old.told }
-    {
-        if self.text.len() < PIECE {
-            return Ok(());
-        }
-        self.write(writer)
-    }
-
-    /// Writes what was printed.
-    pub(crate) fn write<W: Write>(&mut self, writer: &mut W) -> Result<(), PlayFault>
-        ensures written { OnOk result (Appends (W.contents writer.old) (W.contents writer.new)
-            self.old.text.items) }
-        ensures empty { OnOk result (self.new.text.items ≡ []) }
-        ensures told { self.new.told ≡ self.old.told }
-    {
-        if writer.write_all(&self.text).is_err() {
-            return Err(PlayFault::WriteFailed);
-        }
-        self.text.clear();
-        self.whole = 0;
-        Ok(())
-    }
-
-    /// Writes the whole lines, and `stopped after M` with the number of the last result.
-    pub(crate) fn stop<W: Write>(&mut self, writer: &mut W) -> Result<(), PlayFault>
-        ensures { OnOk result (Appends (W.contents writer.old) (W.contents writer.new)
-            (take self.old.whole self.old.text.items ++ stopped_text self.old.told)) }
     {
         self.text.truncate(self.whole);
-        self.write(writer)?;
-        print_stopped(&mut self.text, self.told)?;
-        self.write(writer)
     }
-}
-
-fn print_stopped(out: &mut Vec<u8>, told: u64) -> Result<(), AllocError>
-    ensures { OnOk result (out.new.items ≡ out.old.items ++ stopped_text told) }
-{
-    push_counted(out, b"stopped after ", told, b"\n")
 }
 
 /// A number between two texts.

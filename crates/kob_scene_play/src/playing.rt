@@ -1,19 +1,22 @@
 //! The playing of a scene.
 
-ghost use Rattle.std.specs.Prelude.{◌≡◌, ◌++◌, [], IfOk, OnOk};
+ghost use Rattle.std.specs.Prelude.{◌≡◌, ◌++◌, [], IfOk, OnErr, OnOk};
 ghost use Rattle.kob_router.specs.Line.{one_more};
+ghost use Rattle.kob_scene_play.specs.Forms.{shown_text};
 ghost use Rattle.kob_scene_play.specs.Steps.{Tells};
-ghost use Rattle.kob_scene_play.specs.Scenes.{ConsumerKeeps, IsRead, IsServed, IsStep};
-ghost use Rattle.kob_scene_play.specs.Scenes.{OthersStay, ServiceKeeps};
-ghost use Rattle.kob_scene_play.specs.Scenes.{EndsAs, WritesAll, WritesSteps};
+ghost use Rattle.kob_scene_play.specs.Scenes.{ConsumerKeeps, IsRead, IsServed, IsShown, IsStep};
+ghost use Rattle.kob_scene_play.specs.Scenes.{Leaves, OthersStay, ServiceKeeps, is_run};
+ghost use Rattle.kob_scene_play.specs.Scenes.{EndsAs, EndsScene, EndsSteps};
 ghost use Rattle.kob_script.specs.Printed.{reply_text};
 ghost use Rattle.kob_shared.specs.Journals.{after_event, outcome_of};
 
 use crate::consumer_steps::play_consumer;
 use crate::fault::PlayFault;
+use crate::form::{Showing, Shown};
 use crate::journal::show_journal;
 use crate::law::show_law;
 use crate::output::Output;
+use crate::page::Page;
 use crate::service_steps::play_service;
 use crate::stage::Stage;
 use crate::text::Ended;
@@ -24,78 +27,141 @@ use kob_shared::Recorded;
 use std::alloc::Global;
 use std::io::Write;
 
-/// Plays a scene, one step after another, and writes the result of each and nothing else. The fault
-/// is `WriteFailed`, or `Memory` before the first step.
-pub fn play<W: Write>(alloc: Global, scene: Scene, writer: &mut W) -> Result<Ended, PlayFault>
-    ensures { IfOk result (EndsAs scene (W.contents writer.old) (W.contents writer.new)) }
+/// Plays a scene, one step after another, and writes the answers in this form and nothing else. The
+/// fault is `WriteFailed`, or `Memory` before the first step.
+#[tactic(auto, using(crate::proofs::Played::scene_clean, crate::proofs::Played::scene_stopped))]
+pub fn play<W: Write>(
+    alloc: Global,
+    shown: &Shown,
+    scene: Scene,
+    writer: &mut W,
+) -> Result<Ended, PlayFault>
+    ensures { IfOk result
+        (EndsAs shown.now scene (W.contents writer.old) (W.contents writer.new)) }
 {
-    let mut out = match Output::open(alloc) {
-        Ok(out) => out,
+    let mut page = match Page::open(alloc) {
+        Ok(page) => page,
         Err(refused) => {
             drop(scene);
             return Err(PlayFault::Memory(refused));
         }
     };
-    match play_scene(alloc, scene, &mut out, writer) {
-        Ok(()) => Ok(Ended::Clean),
-        Err(PlayFault::WriteFailed) => Err(PlayFault::WriteFailed),
-        Err(fault) => {
-            out.stop(writer)?;
+    match play_scene(alloc, shown, scene, &mut page, writer)? {
+        None => {
+            page.write(writer)?;
+            Ok(Ended::Clean)
+        }
+        Some(fault) => {
+            page.stop(shown, writer)?;
             Ok(Ended::Stopped(fault))
         }
     }
 }
 
-/// Plays a scene into an output with nothing printed. After a fault, the results of the steps
-/// before it are printed.
+/// Plays a scene from an empty page on. Returns the fault that stopped it; the only error is
+/// `WriteFailed`.
 fn play_scene<W: Write>(
     alloc: Global,
+    shown: &Shown,
     scene: Scene,
-    out: &mut Output,
+    page: &mut Page,
     writer: &mut W,
-) -> Result<(), PlayFault>
-    requires text { out.old.text.items ≡ [] }
-    requires told { out.old.told ≡ 0 }
-    ensures { OnOk result (WritesAll scene (W.contents writer.old) (W.contents writer.new)) }
+) -> Result<Option<PlayFault>, PlayFault>
+    requires text { page.old.text.items ≡ [] }
+    requires told { page.old.told ≡ 0 }
+    ensures { IfOk result (EndsScene shown.now scene page.new.told (W.contents writer.old)
+        (W.contents writer.new) page.new.text.items) }
 {
     let Scene {
         settings,
         services,
         consumers,
         steps,
+        lines,
     } = scene;
     let mut stage = match Stage::open(alloc, settings, services, consumers) {
         Ok(stage) => stage,
         Err(fault) => {
             drop(steps);
-            return Err(fault);
+            return Ok(Some(fault));
         }
     };
-    let played = play_steps(alloc, &mut stage, &steps, out, writer);
+    let showing = Showing {
+        shown,
+        lines: &lines,
+    };
+    let played = play_steps(alloc, showing, &mut stage, &steps, page, writer);
     drop(stage);
     drop(steps);
-    match played {
-        Ok(()) => out.write(writer),
-        Err(fault) => Err(fault),
+    played
+}
+
+/// Plays the steps, up to one that stops.
+fn play_steps<W: Write>(
+    alloc: Global,
+    showing: Showing<'_>,
+    stage: &mut Stage,
+    steps: &[Step],
+    page: &mut Page,
+    writer: &mut W,
+) -> Result<Option<PlayFault>, PlayFault>
+    ensures { IfOk result
+        (EndsSteps (shown_text showing.entry.shown.now showing.entry.lines.now) steps.now
+            stage.old stage.new page.old.told page.new.told (W.contents writer.old)
+            page.old.text.items (W.contents writer.new) page.new.text.items) }
+{
+    let mut out = Output::new(alloc);
+    for place in 0..steps.len() {
+        let step = &steps[place];
+        match show_step(alloc, showing, stage, steps, place, step, &mut out, page) {
+            Ok(()) => page.write_piece(writer)?,
+            Err(fault) => return Ok(Some(fault)),
+        }
+    }
+    Ok(None)
+}
+
+/// Plays the step at this place of the scene, and shows its answers.
+fn show_step(
+    alloc: Global,
+    showing: Showing<'_>,
+    stage: &mut Stage,
+    steps: &[Step],
+    place: usize,
+    step: &Step,
+    out: &mut Output,
+    page: &mut Page,
+) -> Result<(), PlayFault>
+    ensures shown { OnOk result (Tells
+        (IsShown (shown_text showing.entry.shown.now showing.entry.lines.now) place step.now
+            stage.old stage.new page.old.told page.new.told)
+        page.old.text.items page.new.text.items) }
+    ensures stopped { OnErr result (Tells (Leaves step.now page.old.told page.new.told)
+        page.old.text.items page.new.text.items) }
+{
+    out.begin(page.told);
+    let before = stage.recorded.journal().len();
+    match play_step(alloc, stage, steps, place, step, out) {
+        Ok(()) => Ok(page.show(alloc, showing, place, before, stage.recorded.journal(), out)?),
+        Err(fault) => {
+            if is_run(step) {
+                out.cut();
+                let _ = page.show(alloc, showing, place, before, stage.recorded.journal(), out);
+            }
+            Err(fault)
+        }
     }
 }
 
-/// Plays all steps.
-fn play_steps<W: Write>(
-    alloc: Global,
-    stage: &mut Stage,
-    steps: &[Step],
-    out: &mut Output,
-    writer: &mut W,
-) -> Result<(), PlayFault>
-    ensures { OnOk result (WritesSteps steps.now stage.old stage.new out.old.told out.new.told
-        (W.contents writer.old) out.old.text.items (W.contents writer.new) out.new.text.items) }
+/// Whether a step is ticks, each with an answer.
+fn is_run(step: &Step) -> bool
+    ensures { result ≡ is_run step.now }
 {
-    for place in 0..steps.len() {
-        play_step(alloc, stage, steps, place, &steps[place], out)?;
-        out.write_piece(writer)?;
+    match step {
+        Step::Service(_, ServiceStep::Run) => true,
+        Step::Consumer(_, ConsumerStep::Run) => true,
+        _ => false,
     }
-    Ok(())
 }
 
 /// Plays a step, which is at this place of the scene.

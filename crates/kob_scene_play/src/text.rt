@@ -4,12 +4,14 @@ ghost use Rattle.std.specs.Prelude.{◌≡◌, IfOk, OnOk};
 ghost use Rattle.std.specs.Io.KnownBytes.{Appends};
 ghost use Rattle.kob_scene_play.specs.Scenes.{IsWritten};
 ghost use Rattle.kob_scene_play.specs.declared.text.Ended.TheVariants as ended;
-ghost use Rattle.kob_scene_text.specs.Reading.{scene_fault_text};
+ghost use Rattle.kob_scene_play.specs.Forms.{fault_shown};
 
 use crate::fault::PlayFault;
+use crate::form::{Form, Shown};
+use crate::json::push_json;
 use crate::playing::play;
 use kob_scene_text::{SceneError, SceneFault, print_scene_fault, read_scene};
-use std::alloc::Global;
+use std::alloc::{AllocError, Global};
 use std::io::Write;
 
 /// How a scene ended, once its output was written.
@@ -23,32 +25,55 @@ pub enum Ended {
     Stopped(PlayFault),
 }
 
-/// Reads a scene, plays it, and writes its output and nothing else. The fault is `WriteFailed`, or
-/// `Memory` before the first step.
+/// Reads a scene, plays it, and writes its answers in this form and nothing else. The fault is
+/// `WriteFailed`, or `Memory` before the first step.
 #[tactic(auto, using(crate::proofs::Written::scene_written, crate::proofs::Written::fault_written))]
-pub fn play_text<W: Write>(alloc: Global, text: &[u8], writer: &mut W) -> Result<Ended, PlayFault>
-    ensures { IfOk result (IsWritten text.now (W.contents writer.old) (W.contents writer.new)) }
+pub fn play_text<W: Write>(
+    alloc: Global,
+    form: Form,
+    text: &[u8],
+    writer: &mut W,
+) -> Result<Ended, PlayFault>
+    ensures { IfOk result
+        (IsWritten form text.now (W.contents writer.old) (W.contents writer.new)) }
 {
+    let shown = Shown::of(alloc, form, text)?;
     match read_scene(alloc, text) {
-        Ok(scene) => play(alloc, scene, writer),
+        Ok(scene) => play(alloc, &shown, scene, writer),
         Err(SceneError::Memory(refused)) => Err(PlayFault::Memory(refused)),
-        Err(SceneError::Fault(fault)) => write_fault(alloc, fault, writer),
+        Err(SceneError::Fault(fault)) => write_fault(alloc, form, fault, writer),
     }
 }
 
 fn write_fault<W: Write>(
     alloc: Global,
+    form: Form,
     fault: SceneFault,
     writer: &mut W,
 ) -> Result<Ended, PlayFault>
     ensures ended { IfOk result (λ end. end ≡ ended.Fault fault) }
     ensures written { OnOk result (Appends (W.contents writer.old) (W.contents writer.new)
-        (scene_fault_text fault)) }
+        (fault_shown form fault)) }
 {
-    let mut line = Vec::new(alloc);
-    print_scene_fault(&mut line, fault)?;
+    let line = fault_line(alloc, form, fault)?;
     match writer.write_all(&line) {
         Ok(()) => Ok(Ended::Fault(fault)),
         Err(_) => Err(PlayFault::WriteFailed),
+    }
+}
+
+fn fault_line(alloc: Global, form: Form, fault: SceneFault) -> Result<Vec<u8>, AllocError>
+    ensures { IfOk result (λ line. line.items ≡ fault_shown form fault) }
+{
+    let mut line = Vec::new(alloc);
+    print_scene_fault(&mut line, fault)?;
+    match form {
+        Form::Plain => Ok(line),
+        Form::Trace => Ok(line),
+        Form::Json => {
+            let mut object = Vec::new(alloc);
+            push_json(&mut object, fault.line, &line)?;
+            Ok(object)
+        }
     }
 }

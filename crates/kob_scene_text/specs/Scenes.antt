@@ -1,5 +1,5 @@
 -- A scene: settings, workers, and steps, a line each.
-use Rattle.std.specs.Prelude.{ℕ, ◌+◌, Bool, ◌&&◌, ◌==◌, List, [], ◌∷◌, ◌++◌, Option, Some, Result, Ok, Err, length, map, if◌then◌else◌, ◌≡◌, true, false, None}
+use Rattle.std.specs.Prelude.{ℕ, ◌+◌, ◌-◌, Bool, ◌&&◌, ◌==◌, List, [], ◌∷◌, ◌++◌, Option, Some, Result, Ok, Err, length, map, replicate, if◌then◌else◌, ◌≡◌, true, false, None}
 use Rattle.kob_acl_cli.specs.declared.args.CliArgs.{CliArgs}
 use Rattle.kob_names.specs.declared.settings.Settings.{Settings}
 use Rattle.kob_rights.specs.declared.event.Event.{Event}
@@ -222,6 +222,21 @@ abbrev pub MayRead : List ℕ → Result Scene SceneError → Type 0
 MayRead text (Ok scene) = ReadsAs text (Ok (seen scene))
 MayRead text (Err (scene_error.Memory e)) = Unit {0}
 MayRead text (Err (scene_error.Fault fault)) = ReadsAs text (Err fault)
+
+-- The line of each step.
+
+-- the steps that a line adds are of that line; lines are counted from the number that is given
+unfoldable pub LinesFollow : Seen → ℕ → List (List ℕ) → Seen → List ℕ → Type 0
+LinesFollow s number [] read numbers = (read ≡ s) × (numbers ≡ [])
+LinesFollow s number (line ∷ lines) read numbers =
+    (next : Seen) × (later : List ℕ)
+    × LineReadsAs s line (Ok next)
+    × LinesFollow next (number + 1) lines read later
+    × (numbers ≡ replicate (length next.steps - length s.steps) number ++ later)
+
+-- The bytes may be read as this scene, whose steps are of these lines, counted from 1.
+abbrev pub HasLines : List ℕ → Seen → List ℕ → Type 0
+HasLines text read numbers = LinesFollow nothing_yet 1 (lines_in text) read numbers
 
 -- what was wrong, with the number of its line
 abbrev pub fault_at : ℕ → StepError → SceneError

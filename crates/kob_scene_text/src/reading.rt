@@ -1,13 +1,14 @@
 //! The reader of a scene. Every line is read before the first step is played.
 
-ghost use Rattle.kob_scene_text.specs.Scenes.{MayRead};
+ghost use Rattle.std.specs.Prelude.{◌≡◌, ◌++◌, IfOk, OnOk, replicate};
+ghost use Rattle.kob_scene_text.specs.Scenes.{HasLines, MayRead, fault_at};
 
 use crate::fault::{SceneError, SceneFault, StepError};
 use crate::line::read_line;
 use crate::scene::{Consumer, Scene, Service, Step};
 use bstr::ByteSlice;
 use kob_names::{Items, Principal, Settings, sum_of};
-use std::alloc::Global;
+use std::alloc::{AllocError, Global};
 
 /// What was read of a scene so far.
 #[derive(Drop)]
@@ -23,7 +24,8 @@ pub(crate) struct Reading {
 /// the first line with a fault, or out of memory. The words of an `acl` line are read by `clap`;
 /// for some words the contract of its port allows more than one result.
 pub fn read_scene(alloc: Global, text: &[u8]) -> Result<Scene, SceneError>
-    ensures { MayRead text.now result }
+    ensures read { MayRead text.now result }
+    ensures lines { IfOk result (λ scene. HasLines text.now (seen scene) scene.lines.items) }
 {
     let mut reading = Reading {
         supers: Vec::new(alloc),
@@ -32,19 +34,30 @@ pub fn read_scene(alloc: Global, text: &[u8]) -> Result<Scene, SceneError>
         consumers: Vec::new(alloc),
         steps: Vec::new(alloc),
     };
+    let mut lines = Vec::new(alloc);
     let mut number = 0;
     for line in text.lines() {
         number = sum_of(number, 1).map_err(SceneError::Memory)?;
+        let before = reading.steps.len();
         match read_line(alloc, &mut reading, line) {
             Ok(()) => {}
             Err(error) => return Err(fault_at(error, number as u64)),
         }
+        let added = reading.steps.len().saturating_sub(before);
+        push_times(&mut lines, number as u64, added).map_err(SceneError::Memory)?;
     }
-    Ok(reading.finished(alloc))
+    Ok(reading.finished(alloc, lines))
 }
 
-ghost use Rattle.std.specs.Prelude.{◌≡◌};
-ghost use Rattle.kob_scene_text.specs.Scenes.{fault_at};
+/// Appends a number so many times.
+fn push_times(lines: &mut Vec<u64>, number: u64, times: usize) -> Result<(), AllocError>
+    ensures { OnOk result (lines.new.items ≡ lines.old.items ++ replicate times number) }
+{
+    for _ in 0..times {
+        lines.push(number)?;
+    }
+    Ok(())
+}
 
 fn fault_at(error: StepError, line: u64) -> SceneError
     ensures { result ≡ fault_at line error }
@@ -58,8 +71,9 @@ fn fault_at(error: StepError, line: u64) -> SceneError
 ghost use Rattle.kob_scene_text.specs.Scenes.{seen, so_far};
 
 impl Reading {
-    fn finished(self, alloc: Global) -> Scene
-        ensures { seen result ≡ so_far self }
+    fn finished(self, alloc: Global, lines: Vec<u64>) -> Scene
+        ensures seen { seen result ≡ so_far self }
+        ensures lines { result.lines ≡ lines }
     {
         let Reading {
             supers,
@@ -77,6 +91,7 @@ impl Reading {
             services,
             consumers,
             steps,
+            lines,
         }
     }
 }

@@ -9,7 +9,8 @@ use kob_rights::Event;
 use kob_router::{Route, RouteSettings, Target};
 use std::marker::Model;
 
-/// A scene: the settings of its broker, which open no bindings, its workers, and its steps.
+/// A scene: the settings of its broker, which open no bindings, its workers, its steps, and the line
+/// of the text that each step is of, from 1 on. A line `acl` can have several steps.
 ///
 /// Workers have numbers from 1 on in the order of their declaration, services and consumers counted
 /// together; requests of a principal are worker 0's.
@@ -19,6 +20,7 @@ pub struct Scene {
     pub services: Vec<Service>,
     pub consumers: Vec<Consumer>,
     pub steps: Vec<Step>,
+    pub lines: Vec<u64>,
 }
 
 /// How a service's rows are routed: 1 to 1,000 partitions for every topic.

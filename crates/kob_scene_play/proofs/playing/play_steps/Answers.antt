@@ -1,5 +1,5 @@
-use Rattle.kob_scene_play.proofs.Words.{[], ap, sym, take, take_all, take_more, ◌++◌, ◌∙◌, ◌∷◌}
-use Rattle.kob_scene_play.proofs.Played.{one_step_more}
+use Rattle.kob_scene_play.proofs.Words.{[], ap, append_assoc, arith, drop, length-take-le, shown_text, sym, take, take-append-drop, take_all, take_more, ◌++◌, ◌+◌, ◌∙◌, ◌∷◌}
+use Rattle.kob_scene_play.proofs.Played.{one_step_more, one_step_stops}
 use Rattle.kob_scene_play.proofs.playing.play_steps.Goals as goal
 
 pub loop-place-preserved : goal.loop-place-preserved
@@ -10,11 +10,29 @@ loop-place-preserved g c =
     let more =
     take_more steps c.loop-place.place step c.loop-place-test.true
     ∙ ap (λ next. before ++ next ∷ []) (sym c.index-steps-place.is) in
-    rw more (rw c.in_ok-write_piece.ensures.told (one_step_more before step c.args.stage.now c.loop-place.stage
-    c.play_step.new.stage c.args.out.now.told c.loop-place.out.told c.play_step.new.out.told _ _ _
-    c.args.out.now.text.items c.loop-place.out.text.items c.play_step.new.out.text.items
-    c.write_piece.new.self.text.items c.loop-place.invariant c.in_ok-play_step.ensures
-    c.in_ok-write_piece.ensures.written))
+    rw more (rw c.in_ok-write_piece-in-Ok.ensures.told (one_step_more
+    (shown_text c.args.showing.shown.now c.args.showing.lines.now) c.loop-place.place before step c.args.stage.now
+    c.loop-place.stage c.show_step.new.stage c.args.page.now.told c.loop-place.page.told c.show_step.new.page.told _ _ _
+    c.args.page.now.text.items c.loop-place.page.text.items c.show_step.new.page.text.items
+    c.write_piece.new.self.text.items (length-take-le c.loop-place.place steps (omega (arith, c.loop-place-test.true)))
+    c.loop-place.invariant c.in-Ok.ensures.shown
+    c.in_ok-write_piece-in-Ok.ensures.written))
+
+pub returns-in-Err : goal.returns-in-Err
+returns-in-Err g c =
+    let steps = c.args.steps.now in
+    let place = c.loop-place.place in
+    let before = take place steps in
+    let later = drop (place + 1) steps in
+    let step = c.index-steps-place.result in
+    let more =
+    take_more steps place step c.loop-place-test.true ∙ ap (λ next. before ++ next ∷ []) (sym c.index-steps-place.is) in
+    let split =
+    sym (take-append-drop (place + 1) steps) ∙ ap (λ front. front ++ later) more ∙ append_assoc before (step ∷ []) later in
+    one_step_stops (shown_text c.args.showing.shown.now c.args.showing.lines.now) steps before later step c.args.stage.now
+    c.loop-place.stage c.show_step.new.stage c.args.page.now.told c.loop-place.page.told c.show_step.new.page.told _ _
+    c.args.page.now.text.items c.loop-place.page.text.items c.show_step.new.page.text.items c.in-Err.fault split
+    c.loop-place.invariant c.in-Err.ensures.stopped
 
 pub returns : goal.returns
 returns g c =

@@ -1,0 +1,75 @@
+//! Standard output while a text is played, and how far it is on standard error.
+
+use std::io::{self, Write};
+use std::rt::Clock;
+use std::time::{Duration, Instant};
+
+/// The seconds after which work is reported, and then again.
+const PATIENCE: u64 = 2;
+
+/// Standard output, the name of the text that is played, and how many bytes of answers were written.
+#[derive(Drop)]
+pub struct Watched<'a, R> {
+    rt: &'a R,
+    name: &'a str,
+    bytes: u64,
+    /// When the playing began or was last reported; none if it is not to be reported.
+    reported: Option<Instant>,
+}
+
+impl<'a, R: Clock> Watched<'a, R> {
+    /// Standard output for the answers of a text, which are reported if `is_watched`.
+    pub fn new(rt: &'a R, name: &'a str, is_watched: bool) -> Watched<'a, R> {
+        Watched {
+            rt,
+            name,
+            bytes: 0,
+            reported: now_if(rt, is_watched),
+        }
+    }
+}
+
+fn now_if<R: Clock>(rt: &R, is_watched: bool) -> Option<Instant> {
+    if is_watched {
+        Instant::now(rt).ok()
+    } else {
+        None
+    }
+}
+
+impl<R: Clock + Eprint> Watched<'_, R> {
+    /// Counts bytes that are written, and reports after two seconds.
+    fn count(&mut self, written: &[u8]) {
+        self.bytes = self.bytes.saturating_add(written.len() as u64);
+        if let Some(since) = self.reported {
+            if let Ok(now) = Instant::now(self.rt) {
+                if now.duration_since(since) >= Duration::from_secs(PATIENCE) {
+                    self.report();
+                    self.reported = Some(now);
+                }
+            }
+        }
+    }
+
+    fn report(&self) {
+        let name = self.name;
+        let bytes = self.bytes;
+        let _ = eprintln!(self.rt; "kob: {name}: playing, {bytes} bytes of answers so far");
+    }
+}
+
+impl<R: Clock + Print + Eprint> Write for Watched<'_, R> {
+    fn write(&mut self, buf: &[u8]) -> io::Result<usize> {
+        self.count(buf);
+        io::writer(self.rt).write(buf)
+    }
+
+    fn flush(&mut self) -> io::Result<()> {
+        Ok(())
+    }
+
+    fn write_all(&mut self, buf: &[u8]) -> io::Result<()> {
+        self.count(buf);
+        io::writer(self.rt).write_all(buf)
+    }
+}

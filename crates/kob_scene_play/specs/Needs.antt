@@ -1,0 +1,38 @@
+-- The right that a denied request lacked.
+use Rattle.kob_rights.specs.Reason.{code_number}
+use Rattle.kob_rights.specs.Table.{Check, code_on_last, rights}
+use Rattle.kob_rights.specs.declared.code.Code.{Code}
+use Rattle.kob_rights.specs.declared.code.Code.TheVariants.{TopicAuthorizationFailed}
+use Rattle.kob_rights.specs.declared.reply.Reply.{Reply}
+use Rattle.kob_rights.specs.declared.reply.Reply.TheVariants.{Denied, Refused, Done}
+use Rattle.kob_rights.specs.declared.request.Request.{Request}
+use Rattle.kob_words.specs.Words.{bytes_text, operation_name, resource_name}
+use Rattle.std.specs.Prelude.{ℕ, ◌==◌, Bool, List, [], ◌∷◌, ◌++◌, codes, if◌then◌else◌}
+
+abbrev pub has_code : Code → List Check → Bool
+has_code code clause = code_number (code_on_last TopicAuthorizationFailed clause) == code_number code
+
+-- the alternatives of which none is granted: the first ones whose denial has this code
+abbrev pub lacked : Code → List (List Check) → List Check
+lacked code [] = []
+lacked code (clause ∷ clauses) = if has_code code clause then clause else lacked code clauses
+
+-- OPERATION RESOURCE NAME
+abbrev pub check_text : Check → List ℕ
+check_text check =
+    operation_name check.operation ++ codes " " ++ resource_name check.resource
+    ++ codes " " ++ bytes_text check.name
+
+abbrev pub others_text : List Check → List ℕ
+others_text [] = codes "\n"
+others_text (check ∷ checks) = codes " or " ++ check_text check ++ others_text checks
+
+abbrev pub needs_text : List Check → List ℕ
+needs_text [] = []
+needs_text (check ∷ checks) = codes "> # needs " ++ check_text check ++ others_text checks
+
+-- what the trace says below the answer to a request
+abbrev pub needs_of : Request → Reply → List ℕ
+needs_of request (Denied code verdicts) = needs_text (lacked code (rights request))
+needs_of request (Refused code reason) = []
+needs_of request (Done body) = []
