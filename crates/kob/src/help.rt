@@ -63,17 +63,18 @@ usage: kob policy [FILE]... [--skip] [QUESTION]...
   -h, --help        prints this page
 
 A list has lines of kafka-acls --list (1.x, 2.x and 3.x), kafka-acls --add .., lines
-create-acl and acl of scripts, super USER, everyone on or off, super.users=.., and
-allow.everyone.if.no.acl.found=.. . Lines that begin with # are skipped.
+create-acl and acl of scripts, super USER, everyone on or off, and the lines of a broker's
+server.properties. Lines that begin with # are skipped.
 
 Questions, each one word of the command line or one line:
   may PRINCIPAL HOST OPERATION RESOURCE NAME
   may PRINCIPAL HOST produce TOPIC [idempotent]
   may PRINCIPAL HOST consume TOPIC GROUP
   may PRINCIPAL HOST REQUEST ..         a request as in a script
-  who OPERATION RESOURCE NAME [HOST]    each principal that a binding names
+  who OPERATION RESOURCE NAME           super users, and each principal and host that is granted
+  who OPERATION RESOURCE NAME HOST      yes or no for each principal that a binding names
   sees PRINCIPAL HOST                   the topics that it may describe
-  topic NAME                            a topic for sees and shadowed
+  topic NAME                            a topic for sees
   unused                                bindings that no answer needs, and why
   shadowed                              allows that a deny always beats
 
