@@ -223,6 +223,7 @@ fn open_judge<R: AllocGlobal + Eprint>(
     policy: Policy,
 ) -> Result<Judge, Stop> {
     print_omissions(out, &policy)?;
+    report::skipped(rt, policy.skipped().len());
     if !options.skip && !policy.omissions().is_empty() {
         return Err(Stop(Ending::Failed));
     }

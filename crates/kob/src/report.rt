@@ -37,6 +37,13 @@ pub fn stopped(rt: &impl Eprint, name: &str, fault: PlayFault) {
     let _ = eprintln!(rt; "kob: {name}: {fault}");
 }
 
+/// Lines above the first heading of a list, and other settings of a broker, that were skipped.
+pub fn skipped(rt: &impl Eprint, count: usize) {
+    if count > 0 {
+        let _ = eprintln!(rt; "kob: skipped lines that hold no access rule: {count}");
+    }
+}
+
 /// More bindings than can be in force.
 pub fn too_many(rt: &impl Eprint) -> Ending {
     let _ = eprintln!(rt; "kob: more than 100,000 different bindings");

@@ -19,9 +19,9 @@ use Rattle.kob_policy_review.specs.declared.difference.Outcome.TheVariants.{Same
 use Rattle.kob_policy_review.specs.declared.redundant.Reason.{Reason}
 use Rattle.kob_policy_review.specs.declared.redundant.Reason.TheVariants.{CoveredBy, DeniedBy, Super, Together}
 use Rattle.kob_policy_review.specs.declared.redundant.Unneeded.{Unneeded}
-use Rattle.kob_policy_text.specs.Answers.{from_text, line_by, may_text, reason_text, request_text, sees_text}
+use Rattle.kob_policy_text.specs.Answers.{from_text, line_at, line_by, may_text, reason_text, request_text, sees_text}
 use Rattle.kob_policy_text.specs.AtHand.{each_once}
-use Rattle.kob_policy_text.specs.Policy.{Policy, contents_of, may}
+use Rattle.kob_policy_text.specs.Policy.{Policy, contents_of, may, place_of}
 use Rattle.kob_policy_text.specs.Questions.{Questions}
 use Rattle.kob_policy_text.specs.declared.question.Question.{Question}
 use Rattle.kob_policy_text.specs.declared.question.Question.TheVariants.{May, Ask, Who, Sees, Unused, Shadowed}
