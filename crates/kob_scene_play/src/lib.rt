@@ -7,6 +7,7 @@ mod consumer_worker;
 mod fault;
 mod journal;
 mod law;
+mod line;
 mod order;
 mod output;
 mod playing;

@@ -3,8 +3,7 @@
 ghost use Rattle.std.specs.Prelude.{◌≡◌, ◌++◌, [], IfOk, OnOk};
 ghost use Rattle.kob_router.specs.Line.{one_more};
 ghost use Rattle.kob_scene_play.specs.Steps.{Tells};
-ghost use Rattle.kob_scene_play.specs.Scenes.{ConsumerKeeps, IsRead, IsServed, IsStep};
-ghost use Rattle.kob_scene_play.specs.Scenes.{OthersStay, ServiceKeeps};
+ghost use Rattle.kob_scene_play.specs.Scenes.{IsRead, IsServed, IsStep, OthersStay};
 ghost use Rattle.kob_scene_play.specs.Scenes.{EndsAs, WritesAll, WritesSteps};
 ghost use Rattle.kob_script.specs.Printed.{reply_text};
 ghost use Rattle.kob_shared.specs.Journals.{after_event, outcome_of};
@@ -81,10 +80,10 @@ fn play_scene<W: Write>(
 }
 
 /// Plays all steps.
-fn play_steps<W: Write>(
+fn play_steps<'s, W: Write>(
     alloc: Global,
-    stage: &mut Stage,
-    steps: &[Step],
+    stage: &mut Stage<'s>,
+    steps: &'s [Step],
     out: &mut Output,
     writer: &mut W,
 ) -> Result<(), PlayFault>
@@ -92,19 +91,17 @@ fn play_steps<W: Write>(
         (W.contents writer.old) out.old.text.items (W.contents writer.new) out.new.text.items) }
 {
     for place in 0..steps.len() {
-        play_step(alloc, stage, steps, place, &steps[place], out)?;
+        play_step(alloc, stage, &steps[place], out)?;
         out.write_piece(writer)?;
     }
     Ok(())
 }
 
-/// Plays a step, which is at this place of the scene.
-fn play_step(
+/// Plays a step.
+fn play_step<'s>(
     alloc: Global,
-    stage: &mut Stage,
-    steps: &[Step],
-    place: usize,
-    step: &Step,
+    stage: &mut Stage<'s>,
+    step: &'s Step,
     out: &mut Output,
 ) -> Result<(), PlayFault>
     ensures { OnOk result (Tells (IsStep step.now stage.old stage.new out.old.told out.new.told)
@@ -112,33 +109,31 @@ fn play_step(
 {
     match step {
         Step::Request(event) => play_request(alloc, &mut stage.recorded, event, out),
-        Step::Service(which, step) => play_service_at(alloc, stage, *which, place, step, out),
+        Step::Service(which, step) => play_service_at(alloc, stage, *which, step, out),
         Step::Consumer(which, step) => play_consumer_at(alloc, stage, *which, step, out),
         Step::Journal => show_journal(stage, out),
-        Step::Law { service, consumer } => {
-            show_law(alloc, stage, steps, *service, *consumer, out)
-        }
+        Step::Law { service, consumer } => show_law(alloc, stage, *service, *consumer, out),
     }
 }
 
 /// Plays a step of the service at this place of the stage.
-fn play_service_at(
+fn play_service_at<'s>(
     alloc: Global,
-    stage: &mut Stage,
+    stage: &mut Stage<'s>,
     which: usize,
-    place: usize,
-    step: &ServiceStep,
+    step: &'s ServiceStep,
     out: &mut Output,
 ) -> Result<(), PlayFault>
     ensures consumers { stage.new.consumers ≡ stage.old.consumers }
-    ensures journal { OnOk result
-        (ServiceKeeps step.now stage.old.recorded stage.new.recorded) }
     ensures others { OthersStay which stage.old.services.items stage.new.services.items }
     ensures done { OnOk result (Tells (IsServed which step.now stage.old.services.items
-        stage.new.services.items out.old.told out.new.told) out.old.text.items out.new.text.items) }
+        stage.new.services.items stage.old.recorded stage.new.recorded out.old.told
+        out.new.told) out.old.text.items out.new.text.items) }
 {
     match stage.services.get_mut(which) {
-        Some(played) => play_service(alloc, &mut stage.recorded, played, place, step, out),
+        Some(played) => {
+            play_service(alloc, &mut stage.recorded, &mut played.service, step, out)
+        }
         None => Err(PlayFault::NoWorker),
     }
 }
@@ -146,18 +141,16 @@ fn play_service_at(
 /// Plays a step of the consumer at this place of the stage.
 fn play_consumer_at(
     alloc: Global,
-    stage: &mut Stage,
+    stage: &mut Stage<'_>,
     which: usize,
     step: &ConsumerStep,
     out: &mut Output,
 ) -> Result<(), PlayFault>
     ensures services { stage.new.services ≡ stage.old.services }
-    ensures journal { OnOk result
-        (ConsumerKeeps step.now stage.old.recorded stage.new.recorded) }
     ensures others { OthersStay which stage.old.consumers.items stage.new.consumers.items }
     ensures done { OnOk result (Tells (IsRead which step.now stage.old.consumers.items
-        stage.new.consumers.items out.old.told out.new.told) out.old.text.items
-        out.new.text.items) }
+        stage.new.consumers.items stage.old.recorded stage.new.recorded out.old.told
+        out.new.told) out.old.text.items out.new.text.items) }
 {
     match stage.consumers.get_mut(which) {
         Some(played) => {
