@@ -1,7 +1,9 @@
 -- The steps of a scene, one after another.
-use Rattle.kob_scene_play.proofs.Words.{Appends, Appends-trans, ArePlayed, ConsumerKeeps, ConsumerStep, EndsAs, EndsScene, EndsSteps, Entry, Err, IfOk, IsAnswered, IsConsumerStep, IsRead, IsReady, IsServed, IsServiceStep, IsShown, IsStep, Leaves, List, None, Ok, OnOk, Option, OthersStay, PlayFault, PlayedConsumer, PlayedService, Result, Scene, ServiceKeeps, ServiceStep, Show, Shown, Some, Stage, Step, StopsIn, Tells, Writes, WritesSteps, [], ap, append-nil, append_assoc, arith, inl, inr, length, one_more, refl, set, show_of, slice_get, stopped_shown, subst, suc, sym, ℕ, ◌++◌, ◌+◌, ◌∙◌, ◌∷◌, ◌≡◌}
+use Rattle.kob_scene_play.proofs.Words.{Appends, Appends-trans, ArePlayed, Consumer, ConsumerStep, EndsAs, EndsScene, EndsSteps, Entry, Err, IfOk, IsAnswered, IsConsumerChange, IsConsumerStep, IsRead, IsReady, IsServed, IsServiceChange, IsServiceStep, IsShown, IsStep, Leaves, List, None, Ok, OnOk, Option, OthersStay, PlayFault, PlayedConsumer, PlayedService, Record, Result, Scene, Service, ServiceStep, Show, Shown, Some, Stage, Step, StopsIn, Tells, Writes, WritesSteps, [], ap, append-nil, append_assoc, arith, declared_consumer, declared_service, inl, inr, length, map, named_consumer, named_service, one_more, refl, set, show_of, slice_get, stopped_shown, subst, suc, sym, ℕ, ◌++◌, ◌+◌, ◌∙◌, ◌∷◌, ◌≡◌}
 use Rattle.kob_scene_play.proofs.Places.{put_at}
 use Rattle.kob_scene_play.specs.declared.text.Ended.TheVariants as ended
+use Rattle.kob_scene_text.specs.declared.scene.ConsumerStep.TheVariants as consumer_steps
+use Rattle.kob_scene_text.specs.declared.scene.ServiceStep.TheVariants as service_steps
 use Rattle.kob_scene_text.specs.declared.scene.Step.TheVariants as steps
 
 -- one step more behind others
@@ -168,22 +170,24 @@ scene_stopped (Err fault) shown scene told first second third held last other en
 -- a step of a service
 pub service_played : {E : Type 0} (result : Result (Unit {0}) E) (which : ℕ) (step : ServiceStep) (old new : Stage)
     (told then_told : ℕ) (held then_held : List ℕ) → new.consumers ≡ old.consumers
-    → OnOk result (ServiceKeeps step old.recorded new.recorded) → OthersStay which old.services.items new.services.items
-    → OnOk result (Tells (IsServed which step old.services.items new.services.items told then_told) held then_held)
+    → OthersStay which old.services.items new.services.items
+    → OnOk result (Tells (IsServed which step old.services.items new.services.items old.recorded new.recorded told
+    then_told) held then_held)
     → OnOk result (Tells (IsStep (steps.Service which step) old new told then_told) held then_held)
-service_played (Ok done) which step old new told then_told held then_held consumers kept others (text, made, prints) =
-    (text, (consumers, kept, others, made), prints)
-service_played (Err fault) which step old new told then_told held then_held consumers kept others made = tt
+service_played (Ok done) which step old new told then_told held then_held consumers others (text, made, prints) =
+    (text, (consumers, others, made), prints)
+service_played (Err fault) which step old new told then_told held then_held consumers others made = tt
 
 -- a step of a consumer
 pub consumer_played : {E : Type 0} (result : Result (Unit {0}) E) (which : ℕ) (step : ConsumerStep) (old new : Stage)
     (told then_told : ℕ) (held then_held : List ℕ) → new.services ≡ old.services
-    → OnOk result (ConsumerKeeps step old.recorded new.recorded) → OthersStay which old.consumers.items new.consumers.items
-    → OnOk result (Tells (IsRead which step old.consumers.items new.consumers.items told then_told) held then_held)
+    → OthersStay which old.consumers.items new.consumers.items
+    → OnOk result (Tells (IsRead which step old.consumers.items new.consumers.items old.recorded new.recorded told
+    then_told) held then_held)
     → OnOk result (Tells (IsStep (steps.Consumer which step) old new told then_told) held then_held)
-consumer_played (Ok done) which step old new told then_told held then_held services kept others (text, made, prints) =
-    (text, (services, kept, others, made), prints)
-consumer_played (Err fault) which step old new told then_told held then_held services kept others made = tt
+consumer_played (Ok done) which step old new told then_told held then_held services others (text, made, prints) =
+    (text, (services, others, made), prints)
+consumer_played (Err fault) which step old new told then_told held then_held services others made = tt
 
 -- a question about the laws
 pub law_played : {E : Type 0} (result : Result (Unit {0}) E) (service consumer : ℕ) (old new : Stage) (told then_told : ℕ)
@@ -197,20 +201,52 @@ law_played (Err fault) service consumer old new told then_told held then_held re
 
 -- the service at a place made its step
 pub served_at : {E : Type 0} (result : Result (Unit {0}) E) (which : ℕ) (step : ServiceStep) (old : List PlayedService)
-    (was is : PlayedService) (told then_told : ℕ) (held then_held : List ℕ) → slice_get old which ≡ Some was
-    → is.name ≡ was.name
-    → OnOk result (Tells (IsServiceStep step was.service is.service told then_told) held then_held)
-    → OnOk result (Tells (IsServed which step old (set old which is) told then_told) held then_held)
-served_at (Ok done) which step old was is told then_told held then_held stood name (text, made, prints) =
+    (was is : PlayedService) (before after : Record) (told then_told : ℕ) (held then_held : List ℕ)
+    → slice_get old which ≡ Some was → is.name ≡ was.name
+    → OnOk result (Tells (IsServiceStep step was.service is.service before after told then_told) held then_held)
+    → OnOk result (Tells (IsServed which step old (set old which is) before after told then_told) held then_held)
+served_at (Ok done) which step old was is before after told then_told held then_held stood name (text, made, prints) =
     (text, (was, is, stood, put_at old which was is stood, name, made), prints)
-served_at (Err fault) which step old was is told then_told held then_held stood name made = tt
+served_at (Err fault) which step old was is before after told then_told held then_held stood name made = tt
 
 -- the consumer at a place made its step
 pub read_at : {E : Type 0} (result : Result (Unit {0}) E) (which : ℕ) (step : ConsumerStep) (old : List PlayedConsumer)
-    (was is : PlayedConsumer) (told then_told : ℕ) (held then_held : List ℕ) → slice_get old which ≡ Some was
-    → is.name ≡ was.name
-    → OnOk result (Tells (IsConsumerStep step was.consumer is.consumer told then_told) held then_held)
-    → OnOk result (Tells (IsRead which step old (set old which is) told then_told) held then_held)
-read_at (Ok done) which step old was is told then_told held then_held stood name (text, made, prints) =
+    (was is : PlayedConsumer) (before after : Record) (told then_told : ℕ) (held then_held : List ℕ)
+    → slice_get old which ≡ Some was → is.name ≡ was.name
+    → OnOk result (Tells (IsConsumerStep step was.consumer is.consumer before after told then_told) held then_held)
+    → OnOk result (Tells (IsRead which step old (set old which is) before after told then_told) held then_held)
+read_at (Ok done) which step old was is before after told then_told held then_held stood name (text, made, prints) =
     (text, (was, is, stood, put_at old which was is stood, name, made), prints)
-read_at (Err fault) which step old was is told then_told held then_held stood name made = tt
+read_at (Err fault) which step old was is before after told then_told held then_held stood name made = tt
+
+-- a step of a service that makes no tick, where the journal stays
+pub service_changed : {E : Type 0} (result : Result (Unit {0}) E) (step : ServiceStep) (old new : Service)
+    (r : Record) (told then_told : ℕ) (held then_held : List ℕ)
+    → OnOk result (Tells (IsServiceChange step old new told then_told) held then_held)
+    → OnOk result (Tells (IsServiceStep step old new r r told then_told) held then_held)
+service_changed (Ok done) (service_steps.Record change event) old new r told then_told held then_held (text, is, prints) =
+    (text, (refl, is), prints)
+service_changed (Ok done) (service_steps.Tick lost) old new r told then_told held then_held (text, is, prints) = absurd is
+service_changed (Ok done) service_steps.Run old new r told then_told held then_held (text, is, prints) = absurd is
+service_changed (Ok done) service_steps.Restart old new r told then_told held then_held (text, is, prints) =
+    (text, (refl, is), prints)
+service_changed (Ok done) service_steps.Sweep old new r told then_told held then_held (text, is, prints) =
+    (text, (refl, is), prints)
+service_changed (Ok done) service_steps.Outbox old new r told then_told held then_held (text, is, prints) =
+    (text, (refl, is), prints)
+service_changed (Ok done) (service_steps.Business kind key) old new r told then_told held then_held (text, is, prints) =
+    (text, (refl, is), prints)
+service_changed (Err fault) step old new r told then_told held then_held made = tt
+
+-- and one of a consumer
+pub consumer_changed : {E : Type 0} (result : Result (Unit {0}) E) (step : ConsumerStep) (old new : Consumer)
+    (r : Record) (told then_told : ℕ) (held then_held : List ℕ)
+    → OnOk result (Tells (IsConsumerChange step old new told then_told) held then_held)
+    → OnOk result (Tells (IsConsumerStep step old new r r told then_told) held then_held)
+consumer_changed (Ok done) (consumer_steps.Tick lost) old new r told then_told held then_held (text, is, prints) = absurd is
+consumer_changed (Ok done) consumer_steps.Run old new r told then_told held then_held (text, is, prints) = absurd is
+consumer_changed (Ok done) consumer_steps.Restart old new r told then_told held then_held (text, is, prints) =
+    (text, (refl, is), prints)
+consumer_changed (Ok done) consumer_steps.Inbox old new r told then_told held then_held (text, is, prints) =
+    (text, (refl, is), prints)
+consumer_changed (Err fault) step old new r told then_told held then_held made = tt

@@ -10,6 +10,7 @@ mod journal;
 mod json;
 mod law;
 mod needs;
+mod line;
 mod order;
 mod output;
 mod page;
