@@ -2,7 +2,6 @@
 use Rattle.kob_scene_play.proofs.Words.{Consumer, IsConsumerStep, IsConsumerTick, IsReadOnce, Left, List, None, Option, Record, Some, Tells, ap, consumer_goes_on, consumer_tick_text, idle_in_row, idle_with, is_some, left_after, length, option_and_then, refl, subst, sym, ℕ, ◌+◌, ◌∙◌, ◌∷◌, ◌≡◌}
 use Rattle.kob_scene_play.proofs.Running.{HasRun}
 use Rattle.kob_scene_play.proofs.Running as running
-use Rattle.kob_inbox.specs.declared.tick.Tick.{Tick as ConsumerAnswer}
 use Rattle.kob_lines.specs.declared.lossy.Loss.TheVariants as losses
 use Rattle.kob_scene_text.specs.declared.scene.ConsumerStep.TheVariants as consumer_steps
 
@@ -16,6 +15,7 @@ pub record HasTaken (partitions : ℕ) (old now : Consumer) (before after : Reco
 -- none at first
 pub none_at_first : (partitions : ℕ) (consumer : Consumer) (r : Record) (told : ℕ) (held : List ℕ)
     → HasTaken partitions consumer consumer r r told told held held 0 0
+unfolding running.none_at_first
 none_at_first partitions consumer r told held = record {
   run = running.none_at_first (IsConsumerTick losses.None) consumer_tick_text (consumer_goes_on partitions) consumer r told held;
   in_row = refl;
@@ -29,15 +29,16 @@ module _ (partitions : ℕ) (old mid now : Consumer) (before between after : Rec
   next : idle_in_row partitions (ticked.0 ∷ taken.run.ticks) ≡ more
   next =
       ap (option_and_then (idle_with partitions (left_after ticked.0))) taken.in_row
-      ∙ ap (λ (l : Left). idle_with partitions l idle) (sym ticked.1.0) ∙ sym given
+      ∙ ap (λ (l : Left). idle_with partitions l idle) (sym ticked.1) ∙ sym given
 
   -- one more
   pub one_tick_more : (in_row : ℕ) → more ≡ Some in_row
       → HasTaken partitions old now before after told then_told held then_held (count + 1) in_row
+  unfolding running.one_tick_more
   one_tick_more in_row so = record {
     run =
         running.one_tick_more (IsConsumerTick losses.None) consumer_tick_text (consumer_goes_on partitions) old mid now before
-        between after told mid_told then_told held mid_held then_held count taken.run ticked.0 ticked.1.1
+        between after told mid_told then_told held mid_held then_held count taken.run ticked.0 ticked.2
         (ap is_some (next ∙ so));
     in_row = next ∙ so;
   }
@@ -49,7 +50,7 @@ module _ (partitions : ℕ) (old mid now : Consumer) (before between after : Rec
       subst (λ n. Tells (running.Ran (IsConsumerTick losses.None) consumer_tick_text (consumer_goes_on n) old now before after told
       then_told) held then_held) all
       (running.last_tick (IsConsumerTick losses.None) consumer_tick_text (consumer_goes_on partitions) old mid now before
-      between after told mid_told then_told held mid_held then_held count taken.run ticked.0 ticked.1.1
+      between after told mid_told then_told held mid_held then_held count taken.run ticked.0 ticked.2
       (ap is_some (next ∙ so)))
 
 -- and the 1,000,000th

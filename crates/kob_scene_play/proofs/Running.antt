@@ -1,10 +1,9 @@
 -- A run of ticks, one tick after another.
-use Rattle.kob_scene_play.proofs.Words.{AllGoOn, AreTicks, Bool, EndsRun, IsPrinted, IsServiceTick, IsTold, List, None, Record, Service, Tells, [], ap, append-nil, append_assoc, arith, false, inl, inr, length, refl, service_goes_on, service_tick_text, sym, true, ℕ, ◌++◌, ◌+◌, ◌∙◌, ◌∷◌, ◌≡◌}
+use Rattle.kob_scene_play.proofs.Words.{AllGoOn, AreTicks, Bool, EndsRun, IsPrinted, IsServiceTick, List, Record, Service, Tells, [], ap, append-nil, append_assoc, arith, false, inl, inr, length, refl, service_goes_on, service_tick_text, sym, true, ℕ, ◌++◌, ◌+◌, ◌∙◌, ◌∷◌, ◌≡◌}
 use Rattle.kob_lines.specs.declared.lossy.Loss.TheVariants as losses
-use Rattle.kob_router.specs.declared.tick.Tick.{Tick as RouterAnswer}
 
 -- one text behind another
-joined : (held mid now one two : List ℕ) → mid ≡ held ++ one → now ≡ mid ++ two → now ≡ held ++ (one ++ two)
+pub joined : (held mid now one two : List ℕ) → mid ≡ held ++ one → now ≡ mid ++ two → now ≡ held ++ (one ++ two)
 joined held mid now one two first second = second ∙ ap (λ xs. xs ++ two) first ∙ append_assoc held one two
 
 module _ {Worker Answer : Type 0} (IsTick : Worker → Worker → Record → Record → Answer → Type 0) (line : Answer → List ℕ)
@@ -29,7 +28,7 @@ module _ {Worker Answer : Type 0} (IsTick : Worker → Worker → Record → Rec
       (ticks : List Answer) × AreTicks IsTick line ticks old new before after told then_told text × EndsRun goes_on ticks
 
   -- none at first
-  pub none_at_first : (worker : Worker) (r : Record) (told : ℕ) (held : List ℕ)
+  unfoldable pub none_at_first : (worker : Worker) (r : Record) (told : ℕ) (held : List ℕ)
       → HasRun worker worker r r told told held held 0
   none_at_first worker r told held = record {
     ticks = [];
@@ -44,15 +43,15 @@ module _ {Worker Answer : Type 0} (IsTick : Worker → Worker → Record → Rec
       (count : ℕ) (run : HasRun old mid before between told mid_told held mid_held count) (tick : Answer)
       (ticked : Tells (Ticked tick mid now between after mid_told then_told) mid_held then_held) where
     -- one more after which it goes on
-    pub one_tick_more : goes_on (tick ∷ run.ticks) ≡ true
+    unfoldable pub one_tick_more : goes_on (tick ∷ run.ticks) ≡ true
         → HasRun old now before after told then_told held then_held (count + 1)
     one_tick_more so = record {
       ticks = tick ∷ run.ticks;
       text = run.text ++ ticked.0;
       all_go_on = (so, run.all_go_on);
       counted = let e = run.counted in omega arith;
-      are = (mid, between, mid_told, run.text, ticked.0, run.are, ticked.1.0.0, ticked.1.0.1, refl);
-      printed = joined held mid_held then_held run.text ticked.0 run.printed ticked.1.1;
+      are = (mid, between, mid_told, run.text, ticked.0, run.are, ticked.1.0, ticked.1.1, refl);
+      printed = joined held mid_held then_held run.text ticked.0 run.printed ticked.2;
     }
 
     -- one after which it does not go on ends the run
@@ -62,10 +61,10 @@ module _ {Worker Answer : Type 0} (IsTick : Worker → Worker → Record → Rec
       run.text ++ ticked.0,
       (
         tick ∷ run.ticks,
-        (mid, between, mid_told, run.text, ticked.0, run.are, ticked.1.0.0, ticked.1.0.1, refl),
+        (mid, between, mid_told, run.text, ticked.0, run.are, ticked.1.0, ticked.1.1, refl),
         (run.all_go_on, inl so),
       ),
-      joined held mid_held then_held run.text ticked.0 run.printed ticked.1.1,
+      joined held mid_held then_held run.text ticked.0 run.printed ticked.2,
     )
 
   ended : (ticks : List Answer) → AllGoOn goes_on ticks → length ticks ≡ 1000000 → EndsRun goes_on ticks

@@ -1,5 +1,5 @@
 use Rattle.kob_scene_play.proofs.Words.{IsServiceTick, rules, service_goes_on, service_tick_text, sym, ◌∙◌}
-use Rattle.kob_scene_play.proofs.Running.{last_tick, none_at_first, one_tick_more, spent}
+use Rattle.kob_scene_play.proofs.Running.{last_tick, one_tick_more}
 use Rattle.kob_lines.specs.declared.lossy.Loss.TheVariants as losses
 use Rattle.kob_scene_play.proofs.service_steps.run.Goals as goal
 
@@ -9,7 +9,7 @@ returns-then-not-branch c =
     last_tick (IsServiceTick losses.None) service_tick_text service_goes_on c.args.service.now c.loop.service
     c.tick.new.service c.args.recorded.now c.loop.recorded c.tick.new.recorded c.args.out.now.told c.loop.out.told
     c.tick.new.out.told c.args.out.now.text.items c.loop.out.text.items c.tick.new.out.text.items c.loop.counter
-    c.loop.invariant ticked.0 ticked.1.1 (sym ticked.1.0 ∙ search rules)
+    c.loop.invariant ticked.0 ticked.2 (sym ticked.1 ∙ search rules)
 
 pub loop-preserved : goal.loop-preserved
 loop-preserved c =
@@ -17,4 +17,4 @@ loop-preserved c =
     one_tick_more (IsServiceTick losses.None) service_tick_text service_goes_on c.args.service.now c.loop.service
     c.tick.new.service c.args.recorded.now c.loop.recorded c.tick.new.recorded c.args.out.now.told c.loop.out.told
     c.tick.new.out.told c.args.out.now.text.items c.loop.out.text.items c.tick.new.out.text.items c.loop.counter
-    c.loop.invariant ticked.0 ticked.1.1 (sym ticked.1.0 ∙ search rules)
+    c.loop.invariant ticked.0 ticked.2 (sym ticked.1 ∙ search rules)
