@@ -2,7 +2,6 @@
 use Rattle.kob_scene_play.proofs.Words.{Consumer, IsConsumerStep, IsConsumerTick, IsReadOnce, Left, List, None, Option, Record, Some, Tells, ap, consumer_goes_on, consumer_tick_text, idle_in_row, idle_with, is_some, left_after, length, option_and_then, refl, subst, sym, ℕ, ◌+◌, ◌∙◌, ◌∷◌, ◌≡◌}
 use Rattle.kob_scene_play.proofs.Running.{HasRun}
 use Rattle.kob_scene_play.proofs.Running as running
-use Rattle.kob_inbox.specs.declared.tick.Tick.{Tick as ConsumerAnswer}
 use Rattle.kob_lines.specs.declared.lossy.Loss.TheVariants as losses
 use Rattle.kob_scene_text.specs.declared.scene.ConsumerStep.TheVariants as consumer_steps
 

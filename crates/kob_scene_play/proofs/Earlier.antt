@@ -31,7 +31,6 @@ rest_more : {A : Type 0} (xs : List A) (k : ℕ) (x : A) → k < length xs → x
     → drop k xs ≡ x ∷ drop (k + 1) xs
 rest_more xs k x below is = drop_more xs k x below ∙ ap (λ y. y ∷ drop (k + 1) xs) (sym is)
 
-
 looked_up : (events : List OutboxEvent) (rows : List InboxRow) (row : InboxRow) (id : ℕ) (test other : Bool)
     → id ≡ number_of row.id → test ≡ is_missing rows (id_before id events) → test ≡ other
     → is_missing rows (id_before (number_of row.id) events) ≡ other

@@ -1,5 +1,5 @@
 -- Ticks over a line of their own.
-use Rattle.kob_scene_play.proofs.Words.{ArePassedOn, AreServed, Call, Consumer, IsConsumerTick, IsJournaled, IsSameConsumer, IsSameService, IsServiceTick, Journals, List, LosesFirst, Loss, None, PassesCallsOn, Record, Served, Service, Ticks, [], inl, inr, point_of, served_in, subst, sym, ℕ, map, ◌++◌, ◌∙◌, ◌∷◌, ◌≡◌, ap, refl}
+use Rattle.kob_scene_play.proofs.Words.{ArePassedOn, AreServed, Call, Consumer, IsConsumerTick, IsJournaled, IsSameConsumer, IsSameService, IsServiceTick, Journals, List, LosesFirst, Loss, PassesCallsOn, Record, Served, Service, Ticks, [], inl, inr, point_of, served_in, subst, sym, ℕ, map, ◌++◌, ◌∙◌, ◌∷◌, ◌≡◌, ap}
 use Rattle.kob_inbox.specs.declared.tick.Tick.{Tick as ConsumerAnswer}
 use Rattle.kob_router.specs.Run.{dispatch_of}
 use Rattle.kob_router.specs.Tick as router_ticks

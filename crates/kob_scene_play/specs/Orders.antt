@@ -26,8 +26,8 @@ abbrev pub id_before : ℕ → List OutboxEvent → Option ℕ
 id_before id [] = None
 id_before id (event ∷ before) =
     if number_of event.id == id
-      then last_of (string_bytes event.aggregate_type) (string_bytes event.aggregate_id) before
-      else id_before id before
+    then last_of (string_bytes event.aggregate_type) (string_bytes event.aggregate_id) before
+    else id_before id before
 
 -- there is such an event, and none of these rows is its row
 abbrev pub is_missing : List InboxRow → Option ℕ → Bool
@@ -40,8 +40,8 @@ abbrev pub first_early : List OutboxEvent → List InboxRow → List InboxRow �
 first_early events rows [] = None
 first_early events rows (row ∷ later) =
     if is_missing rows (id_before (number_of row.id) events)
-      then Some row.place
-      else first_early events (row ∷ rows) later
+    then Some row.place
+    else first_early events (row ∷ rows) later
 
 -- the place of the first row of an inbox that is out of order; events and rows are in order
 abbrev pub first_misplaced : List OutboxEvent → List InboxRow → Option ℕ

@@ -9,8 +9,8 @@ ghost use Rattle.kob_scene_play.specs.Faults.{stop_of_consumer};
 ghost use Rattle.kob_scene_play.specs.Steps.{Consumes, IsConsumerTick, consumer_state};
 
 use crate::fault::{PlayFault, line_fault, loses_first, unless};
-use kob_inbox::{Consumer, Inbox, InboxFault, InboxRow, StopReason, Subscription, Tick};
 use crate::line::take_over;
+use kob_inbox::{Consumer, Inbox, InboxFault, InboxRow, StopReason, Subscription, Tick};
 use kob_lines::{Calls, Loss, Lossy, RecordedLine};
 use kob_names::{Host, PlainValue, Principal};
 use kob_shared::Recorded;

@@ -197,9 +197,7 @@ fn play_service_at<'s>(
         out.new.told) out.old.text.items out.new.text.items) }
 {
     match stage.services.get_mut(which) {
-        Some(played) => {
-            play_service(alloc, &mut stage.recorded, &mut played.service, step, out)
-        }
+        Some(played) => { play_service(alloc, &mut stage.recorded, &mut played.service, step, out) }
         None => Err(PlayFault::NoWorker),
     }
 }

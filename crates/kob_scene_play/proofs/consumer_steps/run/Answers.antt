@@ -1,5 +1,5 @@
-use Rattle.kob_scene_play.proofs.Words.{ap, length, rules, ◌∙◌}
-use Rattle.kob_scene_play.proofs.ConsumerRunning.{last_tick, one_tick_more, spent}
+use Rattle.kob_scene_play.proofs.Words.{ap, length, ◌∙◌}
+use Rattle.kob_scene_play.proofs.ConsumerRunning.{last_tick, one_tick_more}
 use Rattle.kob_scene_play.proofs.consumer_steps.run.Goals as goal
 
 pub loop-preserved : goal.loop-preserved

@@ -1,4 +1,4 @@
-use Rattle.std.proofs.Common.{◌≡◌, ◌&&◌, map, ℕ, List, None, nat_eq, bytes_eq, unwrap_or, reverse, take}
+use Rattle.std.proofs.Common.{◌≡◌, ◌&&◌, map, ℕ, None, nat_eq, bytes_eq, unwrap_or, reverse, take}
 use Rattle.std.specs.HashMap.{get}
 use Rattle.kob_scene_play.specs.Orders.{id_before, last_of}
 use Rattle.kob_scene_play.proofs.order.earlier_ids.Given as goal

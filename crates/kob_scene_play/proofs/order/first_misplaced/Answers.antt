@@ -14,9 +14,9 @@ pub loop-row-preserved : goal.loop-row-preserved
 loop-row-preserved c =
     let before = reverse (take c.loop-row.row-index c.args.rows.now) in (
       λ id. row_is_taken c.args.rows.now c.loop-row.row-index c.row-item.result c.as_u128-id.result id _ _ c.loop-row-test.true c.row-item.is
-      c.as_u128-id.ensures (c.in_ok-insert.ensures.updates.0 id) (c.loop-row.invariant.0 id),
+          c.as_u128-id.ensures (c.in_ok-insert.ensures.updates.0 id) (c.loop-row.invariant.0 id),
       row_is_in_order (reverse (map (λ event. event.now) c.args.events.now)) c.args.rows.now c.loop-row.row-index
-    c.row-item.result c.as_u128-id.result c.is_missing.result c.loop-row-test.true c.row-item.is c.as_u128-id.ensures
-    (rw (c.in_ok-earlier.ensures c.as_u128-id.result) at (rw c.get.ensures.value at (c.is_missing.ensures before c.loop-row.invariant.0)))
-    c.if-is_missing.false c.loop-row.invariant.1
+          c.row-item.result c.as_u128-id.result c.is_missing.result c.loop-row-test.true c.row-item.is c.as_u128-id.ensures
+          (rw (c.in_ok-earlier.ensures c.as_u128-id.result) at (rw c.get.ensures.value at (c.is_missing.ensures before c.loop-row.invariant.0)))
+          c.if-is_missing.false c.loop-row.invariant.1,
     )

@@ -1,5 +1,5 @@
 use Rattle.kob_scene_play.proofs.Words.{IsServiceTick, rules, service_goes_on, service_tick_text, sym, ◌∙◌}
-use Rattle.kob_scene_play.proofs.Running.{last_tick, none_at_first, one_tick_more, spent}
+use Rattle.kob_scene_play.proofs.Running.{last_tick, one_tick_more}
 use Rattle.kob_lines.specs.declared.lossy.Loss.TheVariants as losses
 use Rattle.kob_scene_play.proofs.service_steps.run.Goals as goal
 
