@@ -12,8 +12,7 @@ played_behind : (show : Show) (place : ℕ) (before : List Step) (step : Step) (
     → IsShown show (place + length before) step mid new mid_told then_told back
     → ArePlayed show place (before ++ step ∷ []) old new told then_told (front ++ back)
 played_behind show place [] step old mid new told mid_told then_told front back (same, none, empty) is =
-    let here : place + 0 ≡ place = omega arith in
-    (
+    let here : place + 0 ≡ place = omega arith in (
       new,
       then_told,
       back,
@@ -26,8 +25,7 @@ played_behind show place [] step old mid new told mid_told then_told front back 
     )
 played_behind show place (first ∷ before) step old mid new told mid_told then_told front back
     (between, between_told, text, rest, is, are, joined) last =
-    let there : place + suc (length before) ≡ (place + 1) + length before = omega arith in
-    (
+    let there : place + suc (length before) ≡ (place + 1) + length before = omega arith in (
       between,
       between_told,
       text,
@@ -60,8 +58,7 @@ pub one_step_more : (show : Show) (place : ℕ) (before : List Step) (step : Ste
     → WritesSteps show (before ++ step ∷ []) old new told then_told first held third then_held
 one_step_more show place before step old mid new told mid_told then_told first second third held mid_held then_mid_held
     then_held here (front, are, written) (back, is, more) then_written =
-    let behind : place ≡ 0 + length before = omega (arith, here) in
-    (
+    let behind : place ≡ 0 + length before = omega (arith, here) in (
       front ++ back,
       played_behind show 0 before step old mid new told mid_told then_told front back are
           (subst (λ n. IsShown show n step mid new mid_told then_told back) behind is),
@@ -98,8 +95,7 @@ step_shown show place before step old new journal told begun then_told shown_tol
     entries now (text, is, printed) same added =
     let whole : text ≡ answers = sym (printed ∙ ap (λ xs. xs ++ text) empty) in
     let first = subst (λ n. IsStep step old new n then_told text) counted is in
-    let last = subst (λ n. IsStep step old new told n text) (sym same) first in
-    (
+    let last = subst (λ n. IsStep step old new told n text) (sym same) first in (
       show place (length old.recorded.journal) new.recorded.journal answers,
       (answers, subst (λ xs. IsStep step old new told shown_told xs) whole last, refl),
       added ∙ ap (λ n. held ++ show place n journal answers) entries
@@ -133,12 +129,11 @@ scene_played (Ok None) shown scene opened closed told then_told first second hel
 scene_played (Ok (Some fault)) shown scene opened closed told then_told first second held then_held none empty ready
     (text, stops, written) = (
       text,
-      inr
-          (
-            opened,
-            ready,
-            subst (λ n. StopsIn (show_of shown scene) scene.steps.items opened n then_told text) none stops,
-          ),
+      inr (
+        opened,
+        ready,
+        subst (λ n. StopsIn (show_of shown scene) scene.steps.items opened n then_told text) none stops,
+      ),
       subst (λ xs. Writes first xs second then_held text) empty written,
     )
 scene_played (Err fault) shown scene opened closed told then_told first second held then_held none empty ready ends = tt
@@ -156,15 +151,14 @@ pub scene_stopped : {E : Type 0} (result : Result (Unit {0}) E) (shown : Shown) 
     (first second third : Option (List ℕ)) (held last : List ℕ) (fault : PlayFault)
     → EndsScene shown scene told first second held (Some fault) → last ≡ stopped_shown shown told
     → OnOk result (Appends second third (held ++ last)) → OnOk result (EndsAs shown scene first third (ended.Stopped fault))
-scene_stopped (Ok done) shown scene told first second third held last fault (text, is, (front, split, appended)) says rest =
-    (
-      told,
-      text,
-      is,
-      subst (λ xs. Appends first third xs)
-          (sym (append_assoc front held last) ∙ ap (λ xs. xs ++ last) (sym split) ∙ ap (λ xs. text ++ xs) says)
-          (Appends-trans first second third front (held ++ last) appended rest),
-    )
+scene_stopped (Ok done) shown scene told first second third held last fault (text, is, (front, split, appended)) says rest = (
+  told,
+  text,
+  is,
+  subst (λ xs. Appends first third xs)
+      (sym (append_assoc front held last) ∙ ap (λ xs. xs ++ last) (sym split) ∙ ap (λ xs. text ++ xs) says)
+      (Appends-trans first second third front (held ++ last) appended rest),
+)
 scene_stopped (Err fault) shown scene told first second third held last other ends says rest = tt
 
 -- a step of a service

@@ -107,8 +107,8 @@ fn play_steps<'s, W: Write>(
 ) -> Result<Option<PlayFault>, PlayFault>
     ensures { IfOk result
         (EndsSteps (shown_text showing.entry.shown.now showing.entry.lines.now) steps.now
-            stage.old stage.new page.old.told page.new.told (W.contents writer.old)
-            page.old.text.items (W.contents writer.new) page.new.text.items) }
+        stage.old stage.new page.old.told page.new.told (W.contents writer.old)
+        page.old.text.items (W.contents writer.new) page.new.text.items) }
 {
     let mut out = Output::new(alloc);
     for place in 0..steps.len() {
@@ -133,7 +133,7 @@ fn show_step<'s>(
 ) -> Result<(), PlayFault>
     ensures shown { OnOk result (Tells
         (IsShown (shown_text showing.entry.shown.now showing.entry.lines.now) place step.now
-            stage.old stage.new page.old.told page.new.told)
+        stage.old stage.new page.old.told page.new.told)
         page.old.text.items page.new.text.items) }
     ensures stopped { OnErr result (Tells (Leaves step.now page.old.told page.new.told)
         page.old.text.items page.new.text.items) }
