@@ -1,20 +1,65 @@
 -- A consumer's run of ticks, one tick after another.
-use Rattle.kob_scene_play.proofs.Words.{Consumer, IsConsumerStep, List, None, Tells, [], append-nil, refl, sym, ℕ, ◌++◌, ◌∷◌}
-use Rattle.kob_scene_play.proofs.Running.{joined}
+use Rattle.kob_scene_play.proofs.Words.{Consumer, IsConsumerStep, IsConsumerTick, IsReadOnce, Left, List, None, Option, Record, Some, Tells, ap, consumer_goes_on, consumer_tick_text, idle_in_row, idle_with, is_some, left_after, length, option_and_then, refl, subst, sym, ℕ, ◌+◌, ◌∙◌, ◌∷◌, ◌≡◌}
+use Rattle.kob_scene_play.proofs.Running.{HasRun}
+use Rattle.kob_scene_play.proofs.Running as running
+use Rattle.kob_lines.specs.declared.lossy.Loss.TheVariants as losses
 use Rattle.kob_scene_text.specs.declared.scene.ConsumerStep.TheVariants as consumer_steps
 
--- none at first
-pub none_at_first : (consumer : Consumer) (told : ℕ) (held : List ℕ)
-    → Tells (IsConsumerStep consumer_steps.Run consumer consumer told told) held held
-none_at_first consumer told held = ([], ([], (refl, refl, refl)), sym (append-nil held))
+-- so many ticks of a consumer with so many partitions, and how many of the last ones were idle in a row
+pub record HasTaken (partitions : ℕ) (old now : Consumer) (before after : Record) (told then_told : ℕ)
+    (held then_held : List ℕ) (count idle : ℕ) : Type 0 where
+  pub run : HasRun (IsConsumerTick losses.None) consumer_tick_text (consumer_goes_on partitions) old now before after
+      told then_told held then_held count
+  pub in_row : idle_in_row partitions run.ticks ≡ Some idle
 
--- one more
-pub one_tick_more : (old mid now : Consumer) (told mid_told then_told : ℕ) (held mid_held then_held : List ℕ)
-    → Tells (IsConsumerStep consumer_steps.Run old mid told mid_told) held mid_held
-    → Tells (IsConsumerStep (consumer_steps.Tick None) mid now mid_told then_told) mid_held then_held
-    → Tells (IsConsumerStep consumer_steps.Run old now told then_told) held then_held
-one_tick_more old mid now told mid_told then_told held mid_held then_held (text, (ticks, are), printed) (line, (tick, is, one), more) = (
-  text ++ line,
-  (tick ∷ ticks, (mid, mid_told, text, line, are, is, one, refl)),
-  joined held mid_held then_held text line printed more,
-)
+-- none at first
+pub none_at_first : (partitions : ℕ) (consumer : Consumer) (r : Record) (told : ℕ) (held : List ℕ)
+    → HasTaken partitions consumer consumer r r told told held held 0 0
+unfolding running.none_at_first
+none_at_first partitions consumer r told held = record {
+  run = running.none_at_first (IsConsumerTick losses.None) consumer_tick_text (consumer_goes_on partitions) consumer r told held;
+  in_row = refl;
+}
+
+module _ (partitions : ℕ) (old mid now : Consumer) (before between after : Record) (told mid_told then_told : ℕ)
+    (held mid_held then_held : List ℕ) (count idle : ℕ) (left : Left) (more : Option ℕ)
+    (taken : HasTaken partitions old mid before between told mid_told held mid_held count idle)
+    (ticked : IsReadOnce None left mid now between after mid_told then_told mid_held then_held)
+    (given : more ≡ idle_with partitions left idle) where
+  next : idle_in_row partitions (ticked.0 ∷ taken.run.ticks) ≡ more
+  next =
+      ap (option_and_then (idle_with partitions (left_after ticked.0))) taken.in_row
+      ∙ ap (λ (l : Left). idle_with partitions l idle) (sym ticked.1) ∙ sym given
+
+  -- one more
+  pub one_tick_more : (in_row : ℕ) → more ≡ Some in_row
+      → HasTaken partitions old now before after told then_told held then_held (count + 1) in_row
+  unfolding running.one_tick_more
+  one_tick_more in_row so = record {
+    run =
+        running.one_tick_more (IsConsumerTick losses.None) consumer_tick_text (consumer_goes_on partitions) old mid now before
+        between after told mid_told then_told held mid_held then_held count taken.run ticked.0 ticked.2
+        (ap is_some (next ∙ so));
+    in_row = next ∙ so;
+  }
+
+  -- the last one
+  pub last_tick : more ≡ None → partitions ≡ length old.fetcher.subscription.assignment
+      → Tells (IsConsumerStep consumer_steps.Run old now before after told then_told) held then_held
+  last_tick so all =
+      subst (λ n. Tells (running.Ran (IsConsumerTick losses.None) consumer_tick_text (consumer_goes_on n) old now before after told
+      then_told) held then_held) all
+      (running.last_tick (IsConsumerTick losses.None) consumer_tick_text (consumer_goes_on partitions) old mid now before
+      between after told mid_told then_told held mid_held then_held count taken.run ticked.0 ticked.2
+      (ap is_some (next ∙ so)))
+
+-- and the 1,000,000th
+pub spent : (partitions : ℕ) (old now : Consumer) (before after : Record) (told then_told : ℕ) (held then_held : List ℕ)
+    (idle : ℕ) → HasTaken partitions old now before after told then_told held then_held 1000000 idle
+    → partitions ≡ length old.fetcher.subscription.assignment
+    → Tells (IsConsumerStep consumer_steps.Run old now before after told then_told) held then_held
+spent partitions old now before after told then_told held then_held idle taken all =
+    subst (λ n. Tells (running.Ran (IsConsumerTick losses.None) consumer_tick_text (consumer_goes_on n) old now before after told
+    then_told) held then_held) all
+    (running.spent (IsConsumerTick losses.None) consumer_tick_text (consumer_goes_on partitions) old now before after told
+    then_told held then_held taken.run)

@@ -1,5 +1,6 @@
 pub mod Answered
 pub mod ConsumerRunning
+pub mod Earlier
 pub mod Kept
 pub mod Listed
 pub mod Places

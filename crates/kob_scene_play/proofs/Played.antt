@@ -1,7 +1,9 @@
 -- The steps of a scene, one after another.
-use Rattle.kob_scene_play.proofs.Words.{Appends, Appends-trans, ArePlayed, ConsumerKeeps, ConsumerStep, EndsAs, EndsScene, EndsSteps, Entry, Err, IfOk, IsAnswered, IsConsumerStep, IsRead, IsReady, IsServed, IsServiceStep, IsShown, IsStep, Leaves, List, None, Ok, OnOk, Option, OthersStay, PlayFault, PlayedConsumer, PlayedService, Result, Scene, ServiceKeeps, ServiceStep, Show, Shown, Some, Stage, Step, StopsIn, Tells, Writes, WritesSteps, [], ap, append-nil, append_assoc, arith, inl, inr, length, one_more, refl, set, show_of, slice_get, stopped_shown, subst, suc, sym, ℕ, ◌++◌, ◌+◌, ◌∙◌, ◌∷◌, ◌≡◌}
+use Rattle.kob_scene_play.proofs.Words.{Appends, Appends-trans, ArePlayed, Consumer, ConsumerStep, EndsAs, EndsScene, EndsSteps, Entry, Err, IfOk, IsAnswered, IsConsumerChange, IsConsumerStep, IsRead, IsReady, IsServed, IsServiceChange, IsServiceStep, IsShown, IsStep, Leaves, List, None, Ok, OnOk, Option, OthersStay, PlayFault, PlayedConsumer, PlayedService, Record, Result, Scene, Service, ServiceStep, Show, Shown, Some, Stage, Step, StopsIn, Tells, Writes, WritesSteps, [], ap, append-nil, append_assoc, arith, declared_consumer, declared_service, inl, inr, length, map, named_consumer, named_service, one_more, refl, set, show_of, slice_get, stopped_shown, subst, suc, sym, ℕ, ◌++◌, ◌+◌, ◌∙◌, ◌∷◌, ◌≡◌}
 use Rattle.kob_scene_play.proofs.Places.{put_at}
 use Rattle.kob_scene_play.specs.declared.text.Ended.TheVariants as ended
+use Rattle.kob_scene_text.specs.declared.scene.ConsumerStep.TheVariants as consumer_steps
+use Rattle.kob_scene_text.specs.declared.scene.ServiceStep.TheVariants as service_steps
 use Rattle.kob_scene_text.specs.declared.scene.Step.TheVariants as steps
 
 -- one step more behind others
@@ -10,8 +12,7 @@ played_behind : (show : Show) (place : ℕ) (before : List Step) (step : Step) (
     → IsShown show (place + length before) step mid new mid_told then_told back
     → ArePlayed show place (before ++ step ∷ []) old new told then_told (front ++ back)
 played_behind show place [] step old mid new told mid_told then_told front back (same, none, empty) is =
-    let here : place + 0 ≡ place = omega arith in
-    (
+    let here : place + 0 ≡ place = omega arith in (
       new,
       then_told,
       back,
@@ -24,8 +25,7 @@ played_behind show place [] step old mid new told mid_told then_told front back 
     )
 played_behind show place (first ∷ before) step old mid new told mid_told then_told front back
     (between, between_told, text, rest, is, are, joined) last =
-    let there : place + suc (length before) ≡ (place + 1) + length before = omega arith in
-    (
+    let there : place + suc (length before) ≡ (place + 1) + length before = omega arith in (
       between,
       between_told,
       text,
@@ -58,8 +58,7 @@ pub one_step_more : (show : Show) (place : ℕ) (before : List Step) (step : Ste
     → WritesSteps show (before ++ step ∷ []) old new told then_told first held third then_held
 one_step_more show place before step old mid new told mid_told then_told first second third held mid_held then_mid_held
     then_held here (front, are, written) (back, is, more) then_written =
-    let behind : place ≡ 0 + length before = omega (arith, here) in
-    (
+    let behind : place ≡ 0 + length before = omega (arith, here) in (
       front ++ back,
       played_behind show 0 before step old mid new told mid_told then_told front back are
           (subst (λ n. IsShown show n step mid new mid_told then_told back) behind is),
@@ -96,8 +95,7 @@ step_shown show place before step old new journal told begun then_told shown_tol
     entries now (text, is, printed) same added =
     let whole : text ≡ answers = sym (printed ∙ ap (λ xs. xs ++ text) empty) in
     let first = subst (λ n. IsStep step old new n then_told text) counted is in
-    let last = subst (λ n. IsStep step old new told n text) (sym same) first in
-    (
+    let last = subst (λ n. IsStep step old new told n text) (sym same) first in (
       show place (length old.recorded.journal) new.recorded.journal answers,
       (answers, subst (λ xs. IsStep step old new told shown_told xs) whole last, refl),
       added ∙ ap (λ n. held ++ show place n journal answers) entries
@@ -131,12 +129,11 @@ scene_played (Ok None) shown scene opened closed told then_told first second hel
 scene_played (Ok (Some fault)) shown scene opened closed told then_told first second held then_held none empty ready
     (text, stops, written) = (
       text,
-      inr
-          (
-            opened,
-            ready,
-            subst (λ n. StopsIn (show_of shown scene) scene.steps.items opened n then_told text) none stops,
-          ),
+      inr (
+        opened,
+        ready,
+        subst (λ n. StopsIn (show_of shown scene) scene.steps.items opened n then_told text) none stops,
+      ),
       subst (λ xs. Writes first xs second then_held text) empty written,
     )
 scene_played (Err fault) shown scene opened closed told then_told first second held then_held none empty ready ends = tt
@@ -154,36 +151,37 @@ pub scene_stopped : {E : Type 0} (result : Result (Unit {0}) E) (shown : Shown) 
     (first second third : Option (List ℕ)) (held last : List ℕ) (fault : PlayFault)
     → EndsScene shown scene told first second held (Some fault) → last ≡ stopped_shown shown told
     → OnOk result (Appends second third (held ++ last)) → OnOk result (EndsAs shown scene first third (ended.Stopped fault))
-scene_stopped (Ok done) shown scene told first second third held last fault (text, is, (front, split, appended)) says rest =
-    (
-      told,
-      text,
-      is,
-      subst (λ xs. Appends first third xs)
-          (sym (append_assoc front held last) ∙ ap (λ xs. xs ++ last) (sym split) ∙ ap (λ xs. text ++ xs) says)
-          (Appends-trans first second third front (held ++ last) appended rest),
-    )
+scene_stopped (Ok done) shown scene told first second third held last fault (text, is, (front, split, appended)) says rest = (
+  told,
+  text,
+  is,
+  subst (λ xs. Appends first third xs)
+      (sym (append_assoc front held last) ∙ ap (λ xs. xs ++ last) (sym split) ∙ ap (λ xs. text ++ xs) says)
+      (Appends-trans first second third front (held ++ last) appended rest),
+)
 scene_stopped (Err fault) shown scene told first second third held last other ends says rest = tt
 
 -- a step of a service
 pub service_played : {E : Type 0} (result : Result (Unit {0}) E) (which : ℕ) (step : ServiceStep) (old new : Stage)
     (told then_told : ℕ) (held then_held : List ℕ) → new.consumers ≡ old.consumers
-    → OnOk result (ServiceKeeps step old.recorded new.recorded) → OthersStay which old.services.items new.services.items
-    → OnOk result (Tells (IsServed which step old.services.items new.services.items told then_told) held then_held)
+    → OthersStay which old.services.items new.services.items
+    → OnOk result (Tells (IsServed which step old.services.items new.services.items old.recorded new.recorded told
+    then_told) held then_held)
     → OnOk result (Tells (IsStep (steps.Service which step) old new told then_told) held then_held)
-service_played (Ok done) which step old new told then_told held then_held consumers kept others (text, made, prints) =
-    (text, (consumers, kept, others, made), prints)
-service_played (Err fault) which step old new told then_told held then_held consumers kept others made = tt
+service_played (Ok done) which step old new told then_told held then_held consumers others (text, made, prints) =
+    (text, (consumers, others, made), prints)
+service_played (Err fault) which step old new told then_told held then_held consumers others made = tt
 
 -- a step of a consumer
 pub consumer_played : {E : Type 0} (result : Result (Unit {0}) E) (which : ℕ) (step : ConsumerStep) (old new : Stage)
     (told then_told : ℕ) (held then_held : List ℕ) → new.services ≡ old.services
-    → OnOk result (ConsumerKeeps step old.recorded new.recorded) → OthersStay which old.consumers.items new.consumers.items
-    → OnOk result (Tells (IsRead which step old.consumers.items new.consumers.items told then_told) held then_held)
+    → OthersStay which old.consumers.items new.consumers.items
+    → OnOk result (Tells (IsRead which step old.consumers.items new.consumers.items old.recorded new.recorded told
+    then_told) held then_held)
     → OnOk result (Tells (IsStep (steps.Consumer which step) old new told then_told) held then_held)
-consumer_played (Ok done) which step old new told then_told held then_held services kept others (text, made, prints) =
-    (text, (services, kept, others, made), prints)
-consumer_played (Err fault) which step old new told then_told held then_held services kept others made = tt
+consumer_played (Ok done) which step old new told then_told held then_held services others (text, made, prints) =
+    (text, (services, others, made), prints)
+consumer_played (Err fault) which step old new told then_told held then_held services others made = tt
 
 -- a question about the laws
 pub law_played : {E : Type 0} (result : Result (Unit {0}) E) (service consumer : ℕ) (old new : Stage) (told then_told : ℕ)
@@ -197,20 +195,52 @@ law_played (Err fault) service consumer old new told then_told held then_held re
 
 -- the service at a place made its step
 pub served_at : {E : Type 0} (result : Result (Unit {0}) E) (which : ℕ) (step : ServiceStep) (old : List PlayedService)
-    (was is : PlayedService) (told then_told : ℕ) (held then_held : List ℕ) → slice_get old which ≡ Some was
-    → is.name ≡ was.name
-    → OnOk result (Tells (IsServiceStep step was.service is.service told then_told) held then_held)
-    → OnOk result (Tells (IsServed which step old (set old which is) told then_told) held then_held)
-served_at (Ok done) which step old was is told then_told held then_held stood name (text, made, prints) =
+    (was is : PlayedService) (before after : Record) (told then_told : ℕ) (held then_held : List ℕ)
+    → slice_get old which ≡ Some was → is.name ≡ was.name
+    → OnOk result (Tells (IsServiceStep step was.service is.service before after told then_told) held then_held)
+    → OnOk result (Tells (IsServed which step old (set old which is) before after told then_told) held then_held)
+served_at (Ok done) which step old was is before after told then_told held then_held stood name (text, made, prints) =
     (text, (was, is, stood, put_at old which was is stood, name, made), prints)
-served_at (Err fault) which step old was is told then_told held then_held stood name made = tt
+served_at (Err fault) which step old was is before after told then_told held then_held stood name made = tt
 
 -- the consumer at a place made its step
 pub read_at : {E : Type 0} (result : Result (Unit {0}) E) (which : ℕ) (step : ConsumerStep) (old : List PlayedConsumer)
-    (was is : PlayedConsumer) (told then_told : ℕ) (held then_held : List ℕ) → slice_get old which ≡ Some was
-    → is.name ≡ was.name
-    → OnOk result (Tells (IsConsumerStep step was.consumer is.consumer told then_told) held then_held)
-    → OnOk result (Tells (IsRead which step old (set old which is) told then_told) held then_held)
-read_at (Ok done) which step old was is told then_told held then_held stood name (text, made, prints) =
+    (was is : PlayedConsumer) (before after : Record) (told then_told : ℕ) (held then_held : List ℕ)
+    → slice_get old which ≡ Some was → is.name ≡ was.name
+    → OnOk result (Tells (IsConsumerStep step was.consumer is.consumer before after told then_told) held then_held)
+    → OnOk result (Tells (IsRead which step old (set old which is) before after told then_told) held then_held)
+read_at (Ok done) which step old was is before after told then_told held then_held stood name (text, made, prints) =
     (text, (was, is, stood, put_at old which was is stood, name, made), prints)
-read_at (Err fault) which step old was is told then_told held then_held stood name made = tt
+read_at (Err fault) which step old was is before after told then_told held then_held stood name made = tt
+
+-- a step of a service that makes no tick, where the journal stays
+pub service_changed : {E : Type 0} (result : Result (Unit {0}) E) (step : ServiceStep) (old new : Service)
+    (r : Record) (told then_told : ℕ) (held then_held : List ℕ)
+    → OnOk result (Tells (IsServiceChange step old new told then_told) held then_held)
+    → OnOk result (Tells (IsServiceStep step old new r r told then_told) held then_held)
+service_changed (Ok done) (service_steps.Record change event) old new r told then_told held then_held (text, is, prints) =
+    (text, (refl, is), prints)
+service_changed (Ok done) (service_steps.Tick lost) old new r told then_told held then_held (text, is, prints) = absurd is
+service_changed (Ok done) service_steps.Run old new r told then_told held then_held (text, is, prints) = absurd is
+service_changed (Ok done) service_steps.Restart old new r told then_told held then_held (text, is, prints) =
+    (text, (refl, is), prints)
+service_changed (Ok done) service_steps.Sweep old new r told then_told held then_held (text, is, prints) =
+    (text, (refl, is), prints)
+service_changed (Ok done) service_steps.Outbox old new r told then_told held then_held (text, is, prints) =
+    (text, (refl, is), prints)
+service_changed (Ok done) (service_steps.Business kind key) old new r told then_told held then_held (text, is, prints) =
+    (text, (refl, is), prints)
+service_changed (Err fault) step old new r told then_told held then_held made = tt
+
+-- and one of a consumer
+pub consumer_changed : {E : Type 0} (result : Result (Unit {0}) E) (step : ConsumerStep) (old new : Consumer)
+    (r : Record) (told then_told : ℕ) (held then_held : List ℕ)
+    → OnOk result (Tells (IsConsumerChange step old new told then_told) held then_held)
+    → OnOk result (Tells (IsConsumerStep step old new r r told then_told) held then_held)
+consumer_changed (Ok done) (consumer_steps.Tick lost) old new r told then_told held then_held (text, is, prints) = absurd is
+consumer_changed (Ok done) consumer_steps.Run old new r told then_told held then_held (text, is, prints) = absurd is
+consumer_changed (Ok done) consumer_steps.Restart old new r told then_told held then_held (text, is, prints) =
+    (text, (refl, is), prints)
+consumer_changed (Ok done) consumer_steps.Inbox old new r told then_told held then_held (text, is, prints) =
+    (text, (refl, is), prints)
+consumer_changed (Err fault) step old new r told then_told held then_held made = tt

@@ -1,70 +1,83 @@
 -- A run of ticks, one tick after another.
-use Rattle.kob_scene_play.proofs.Words.{AllGoOn, AreTicks, Bool, EndsRun, IsServiceStep, IsServiceTick, IsTold, List, None, Service, Tells, [], ap, append-nil, append_assoc, arith, false, inl, inr, length, refl, service_tick_text, sym, true, ℕ, ◌++◌, ◌+◌, ◌∙◌, ◌∷◌, ◌≡◌}
+use Rattle.kob_scene_play.proofs.Words.{AllGoOn, AreTicks, Bool, EndsRun, IsPrinted, IsServiceTick, List, Record, Service, Tells, [], ap, append-nil, append_assoc, arith, false, inl, inr, length, refl, service_goes_on, service_tick_text, sym, true, ℕ, ◌++◌, ◌+◌, ◌∙◌, ◌∷◌, ◌≡◌}
 use Rattle.kob_lines.specs.declared.lossy.Loss.TheVariants as losses
-use Rattle.kob_router.specs.declared.tick.Tick.{Tick as RouterAnswer}
-use Rattle.kob_scene_text.specs.declared.scene.ServiceStep.TheVariants as service_steps
 
 -- one text behind another
 pub joined : (held mid now one two : List ℕ) → mid ≡ held ++ one → now ≡ mid ++ two → now ≡ held ++ (one ++ two)
 joined held mid now one two first second = second ∙ ap (λ xs. xs ++ two) first ∙ append_assoc held one two
 
--- so many ticks that all go on, and what they print
-pub record HasRun (old now : Service) (told then_told : ℕ) (held then_held : List ℕ) (count : ℕ) : Type 0 where
-  pub ticks : List RouterAnswer
-  pub text : List ℕ
-  pub all_go_on : AllGoOn ticks
-  pub counted : length ticks ≡ count
-  pub are : AreTicks (IsServiceTick losses.None) service_tick_text ticks old now told then_told text
-  pub printed : then_held ≡ held ++ text
+module _ {Worker Answer : Type 0} (IsTick : Worker → Worker → Record → Record → Answer → Type 0) (line : Answer → List ℕ)
+    (goes_on : List Answer → Bool) where
+  -- so many ticks after which the run goes on, and what they print
+  pub record HasRun (old now : Worker) (before after : Record) (told then_told : ℕ) (held then_held : List ℕ) (count : ℕ) : Type 0 where
+    pub ticks : List Answer
+    pub text : List ℕ
+    pub all_go_on : AllGoOn goes_on ticks
+    pub counted : length ticks ≡ count
+    pub are : AreTicks IsTick line ticks old now before after told then_told text
+    pub printed : then_held ≡ held ++ text
 
--- none at first
-pub none_at_first : (service : Service) (told : ℕ) (held : List ℕ) → HasRun service service told told held held 0
-none_at_first service told held = record {
-  ticks = [];
-  text = [];
-  all_go_on = tt;
-  counted = refl;
-  are = (refl, refl, refl);
-  printed = sym (append-nil held);
-}
+  -- a tick, and its line
+  abbrev pub Ticked : Answer → Worker → Worker → Record → Record → ℕ → ℕ → List ℕ → Type 0
+  Ticked tick old new before after told then_told text =
+      IsTick old new before after tick × IsPrinted (line tick) told then_told text
 
--- one more that goes on
-pub one_tick_more : (old mid now : Service) (told mid_told then_told : ℕ) (held mid_held then_held : List ℕ) (count : ℕ)
-    (goes_on : Bool) → HasRun old mid told mid_told held mid_held count
-    → IsTold None goes_on mid now mid_told then_told mid_held then_held → goes_on ≡ true
-    → HasRun old now told then_told held then_held (count + 1)
-one_tick_more old mid now told mid_told then_told held mid_held then_held count goes_on run (tick, on, (line, (is, one), more)) so =
-    record {
+  -- a whole run
+  abbrev pub Ran : Worker → Worker → Record → Record → ℕ → ℕ → List ℕ → Type 0
+  Ran old new before after told then_told text =
+      (ticks : List Answer) × AreTicks IsTick line ticks old new before after told then_told text × EndsRun goes_on ticks
+
+  -- none at first
+  unfoldable pub none_at_first : (worker : Worker) (r : Record) (told : ℕ) (held : List ℕ)
+      → HasRun worker worker r r told told held held 0
+  none_at_first worker r told held = record {
+    ticks = [];
+    text = [];
+    all_go_on = tt;
+    counted = refl;
+    are = (refl, refl, refl, refl);
+    printed = sym (append-nil held);
+  }
+
+  module _ (old mid now : Worker) (before between after : Record) (told mid_told then_told : ℕ) (held mid_held then_held : List ℕ)
+      (count : ℕ) (run : HasRun old mid before between told mid_told held mid_held count) (tick : Answer)
+      (ticked : Tells (Ticked tick mid now between after mid_told then_told) mid_held then_held) where
+    -- one more after which it goes on
+    unfoldable pub one_tick_more : goes_on (tick ∷ run.ticks) ≡ true
+        → HasRun old now before after told then_told held then_held (count + 1)
+    one_tick_more so = record {
       ticks = tick ∷ run.ticks;
-      text = run.text ++ line;
-      all_go_on = (sym on ∙ so, run.all_go_on);
+      text = run.text ++ ticked.0;
+      all_go_on = (so, run.all_go_on);
       counted = let e = run.counted in omega arith;
-      are = (mid, mid_told, run.text, line, run.are, is, one, refl);
-      printed = joined held mid_held then_held run.text line run.printed more;
+      are = (mid, between, mid_told, run.text, ticked.0, run.are, ticked.1.0, ticked.1.1, refl);
+      printed = joined held mid_held then_held run.text ticked.0 run.printed ticked.2;
     }
 
--- one that does not go on ends the run
-pub last_tick : (old mid now : Service) (told mid_told then_told : ℕ) (held mid_held then_held : List ℕ) (count : ℕ)
-    (goes_on : Bool) → HasRun old mid told mid_told held mid_held count
-    → IsTold None goes_on mid now mid_told then_told mid_held then_held → goes_on ≡ false
-    → Tells (IsServiceStep service_steps.Run old now told then_told) held then_held
-last_tick old mid now told mid_told then_told held mid_held then_held count goes_on run (tick, on, (line, (is, one), more)) so = (
-  run.text ++ line,
-  (
-    tick ∷ run.ticks,
-    (mid, mid_told, run.text, line, run.are, is, one, refl),
-    (run.all_go_on, inl (sym on ∙ so)),
-  ),
-  joined held mid_held then_held run.text line run.printed more,
-)
+    -- one after which it does not go on ends the run
+    pub last_tick : goes_on (tick ∷ run.ticks) ≡ false
+        → Tells (Ran old now before after told then_told) held then_held
+    last_tick so = (
+      run.text ++ ticked.0,
+      (
+        tick ∷ run.ticks,
+        (mid, between, mid_told, run.text, ticked.0, run.are, ticked.1.0, ticked.1.1, refl),
+        (run.all_go_on, inl so),
+      ),
+      joined held mid_held then_held run.text ticked.0 run.printed ticked.2,
+    )
 
-ended : (ticks : List RouterAnswer) → AllGoOn ticks → length ticks ≡ 1000000 → EndsRun ticks
-ended [] all counted = omega arith
-ended (last ∷ before) (on, all) counted = (all, inr (omega arith))
+  ended : (ticks : List Answer) → AllGoOn goes_on ticks → length ticks ≡ 1000000 → EndsRun goes_on ticks
+  ended [] all counted = omega arith
+  ended (last ∷ before) (on, all) counted = (all, inr (omega arith))
 
--- and so does the 1,000,000th
-pub spent : (old now : Service) (told then_told : ℕ) (held then_held : List ℕ)
-    → HasRun old now told then_told held then_held 1000000
-    → Tells (IsServiceStep service_steps.Run old now told then_told) held then_held
-spent old now told then_told held then_held run =
-    (run.text, (run.ticks, run.are, ended run.ticks run.all_go_on run.counted), run.printed)
+  -- and so does the 1,000,000th
+  pub spent : (old now : Worker) (before after : Record) (told then_told : ℕ) (held then_held : List ℕ)
+      → HasRun old now before after told then_told held then_held 1000000
+      → Tells (Ran old now before after told then_told) held then_held
+  spent old now before after told then_told held then_held run =
+      (run.text, (run.ticks, run.are, ended run.ticks run.all_go_on run.counted), run.printed)
+
+-- so many ticks of a service
+abbrev pub HasServed : Service → Service → Record → Record → ℕ → ℕ → List ℕ → List ℕ → ℕ → Type 0
+HasServed = HasRun (IsServiceTick losses.None) service_tick_text service_goes_on

@@ -13,7 +13,7 @@ json_byte byte =
     if byte == 34 then codes "\\\""
     else if byte == 92 then codes "\\\\"
     else if nat_lt byte 32 then
-      codes "\\u00" ++ digit_char (byte / 16) ∷ digit_char (byte % 16) ∷ []
+    codes "\\u00" ++ digit_char (byte / 16) ∷ digit_char (byte % 16) ∷ []
     else byte ∷ []
 
 abbrev pub json_string : List ℕ → List ℕ
@@ -53,7 +53,7 @@ abbrev pub json_parts : Option (List ℕ × List ℕ) → List ℕ → List ℕ
 json_parts None text = json_fields None text
 json_parts (Some parts) text =
     if begins_with_digit parts.0 then
-      codes "\"number\":" ++ parts.0 ++ codes "," ++ json_fields (first_word parts.1) parts.1
+    codes "\"number\":" ++ parts.0 ++ codes "," ++ json_fields (first_word parts.1) parts.1
     else json_fields (Some parts) text
 
 -- what a step of this line of the scene printed on one line

@@ -11,7 +11,7 @@ use Rattle.kob_scene_text.specs.declared.scene.Scene.{Scene}
 use Rattle.kob_scene_text.specs.declared.scene.ServiceStep.{ServiceStep}
 use Rattle.kob_scene_text.specs.declared.scene.Step.{Step}
 use Rattle.kob_script.specs.Printed.{reply_text}
-use Rattle.kob_shared.specs.Journals.{after_event, outcome_of}
+use Rattle.kob_shared.specs.Journals.{Record, after_event, outcome_of}
 use Rattle.kob_shared.specs.declared.journal.Entry.{Entry}
 use Rattle.std.specs.Io.KnownBytes.{Appends}
 use Rattle.kob_scene_play.specs.declared.text.Ended.{Ended}
@@ -30,41 +30,29 @@ use Rattle.kob_scene_text.specs.declared.fault.SceneError.TheVariants as scene_e
 abbrev pub OthersStay : {A : Type 0} → ℕ → List A → List A → Type 0
 OthersStay which old new = (k : ℕ) → k ≢ which → slice_get new k ≡ slice_get old k
 
--- a step of a service that makes no tick leaves the journal as it was
-abbrev pub ServiceKeeps : {A : Type 0} → ServiceStep → A → A → Type 0
-ServiceKeeps (service_steps.Tick lost) old new = Unit {0}
-ServiceKeeps service_steps.Run old new = Unit {0}
-ServiceKeeps step old new = new ≡ old
-
--- and one of a consumer
-abbrev pub ConsumerKeeps : {A : Type 0} → ConsumerStep → A → A → Type 0
-ConsumerKeeps (consumer_steps.Tick lost) old new = Unit {0}
-ConsumerKeeps consumer_steps.Run old new = Unit {0}
-ConsumerKeeps step old new = new ≡ old
-
 -- the service at this place made the step, printed its answer, and kept its name
-abbrev pub IsServed : ℕ → ServiceStep → List PlayedService → List PlayedService → ℕ → ℕ → List ℕ
-    → Type 0
-IsServed which step old new told then_told text =
+abbrev pub IsServed : ℕ → ServiceStep → List PlayedService → List PlayedService → Record → Record → ℕ
+    → ℕ → List ℕ → Type 0
+IsServed which step old new before after told then_told text =
     (was is : PlayedService)
     × (slice_get old which ≡ Some was)
     × (slice_get new which ≡ Some is)
     × (is.name ≡ was.name)
-    × IsServiceStep step was.service is.service told then_told text
+    × IsServiceStep step was.service is.service before after told then_told text
 
 -- the consumer at this place made the step, printed its answer, and kept its name
-abbrev pub IsRead : ℕ → ConsumerStep → List PlayedConsumer → List PlayedConsumer → ℕ → ℕ → List ℕ
-    → Type 0
-IsRead which step old new told then_told text =
+abbrev pub IsRead : ℕ → ConsumerStep → List PlayedConsumer → List PlayedConsumer → Record → Record
+    → ℕ → ℕ → List ℕ → Type 0
+IsRead which step old new before after told then_told text =
     (was is : PlayedConsumer)
     × (slice_get old which ≡ Some was)
     × (slice_get new which ≡ Some is)
     × (is.name ≡ was.name)
-    × IsConsumerStep step was.consumer is.consumer told then_told text
+    × IsConsumerStep step was.consumer is.consumer before after told then_told text
 
 -- What a step changes, and what it prints; before it so many answers were printed, and then so many.
--- A request is one entry more, of worker 0. A step of a worker changes no other worker; a question
--- changes nothing.
+-- A request is one entry more, of worker 0. A step of a worker changes no other worker, and the
+-- journal by its own calls alone; a question changes nothing.
 abbrev pub IsStep : Step → Stage → Stage → ℕ → ℕ → List ℕ → Type 0
 IsStep (steps.Request event) old new told then_told text =
     (new.recorded ≡ after_event old.recorded 0 event)
@@ -74,14 +62,14 @@ IsStep (steps.Request event) old new told then_told text =
     × (text ≡ reply_text (one_more told) (outcome_of old.recorded event).reply)
 IsStep (steps.Service which step) old new told then_told text =
     (new.consumers ≡ old.consumers)
-    × ServiceKeeps step old.recorded new.recorded
     × OthersStay which old.services.items new.services.items
-    × IsServed which step old.services.items new.services.items told then_told text
+    × IsServed which step old.services.items new.services.items old.recorded new.recorded told
+    then_told text
 IsStep (steps.Consumer which step) old new told then_told text =
     (new.services ≡ old.services)
-    × ConsumerKeeps step old.recorded new.recorded
     × OthersStay which old.consumers.items new.consumers.items
-    × IsRead which step old.consumers.items new.consumers.items told then_told text
+    × IsRead which step old.consumers.items new.consumers.items old.recorded new.recorded told
+    then_told text
 IsStep steps.Journal old new told then_told text =
     (new ≡ old) × (then_told ≡ one_more told) × (text ≡ journal_text (one_more told) old)
 IsStep (steps.Law service consumer) old new told then_told text =

@@ -1,10 +1,14 @@
 -- The stage as a scene opens it: its broker, and its workers as they are declared.
 use Rattle.std.specs.List.{find, enumerate_from}
-use Rattle.std.specs.Prelude.{◌≡◌, ◌==◌, ℕ, List, [], Option, None, Some, codes, ◌++◌, flat_map, length, MatchOption, slice_get}
+use Rattle.std.specs.Prelude.{◌≡◌, ◌==◌, ℕ, List, [], Option, None, Some, codes, ◌++◌, flat_map, length, MatchOption, slice_get, map}
 use Rattle.kob_broker.specs.State.{settings_of}
+use Rattle.kob_inbox.specs.Contents.{Contents as InboxContents, placed_intake}
 use Rattle.kob_inbox.specs.declared.fetcher.Subscription.{Subscription}
+use Rattle.kob_inbox.specs.declared.inbox_row.InboxRow.{InboxRow}
 use Rattle.kob_names.specs.declared.settings.Settings.{Settings}
 use Rattle.kob_outbox.specs.Contents.{empty}
+use Rattle.kob_outbox.specs.declared.event.OutboxEvent.{OutboxEvent}
+use Rattle.kob_scene_play.specs.Orders.{first_misplaced}
 use Rattle.kob_scene_play.specs.Steps.{Service, consumer_state}
 use Rattle.kob_scene_play.specs.declared.stage.PlayedConsumer.{PlayedConsumer}
 use Rattle.kob_scene_play.specs.declared.stage.PlayedService.{PlayedService}
@@ -46,6 +50,7 @@ declared_service declared = record {
         host = declared.host;
         sender = record { target = declared.routed; producer = None; sequences = []; hand = None };
         outbox = empty;
+        recorded = [];
       };
 }
 
@@ -159,10 +164,18 @@ abbrev pub law_text : ℕ → List Place → Option Breach → Option ℕ → Li
 law_text number assignment breach misplaced =
     decimal number ++ breach_text assignment breach ++ order_text misplaced
 
+-- the place of the first row of the inbox that comes before a row of its aggregate that the service
+-- recorded earlier
+abbrev pub IsMisplaced : List OutboxEvent → InboxContents → Option ℕ → Type 0
+IsMisplaced recorded inbox misplaced =
+    (rows : List InboxRow)
+    × (map placed_intake rows ≡ enumerate_from 1 inbox)
+    × (misplaced ≡ first_misplaced recorded rows)
+
 -- the laws are said to hold exactly where their premises do
-abbrev pub IsLaw : ℕ → ℕ → Subscription → List Entry → ℕ → List ℕ → Type 0
-IsLaw sender taker subscription journal told text =
-    (breach : Option Breach) × (misplaced : Option ℕ)
+abbrev pub IsLaw : ℕ → ℕ → Subscription → List Entry → Option ℕ → ℕ → List ℕ → Type 0
+IsLaw sender taker subscription journal misplaced told text =
+    (breach : Option Breach)
     × MatchOption breach (ArePrivate sender taker subscription.group subscription.assignment journal)
     (IsBreach sender taker subscription.group subscription.assignment journal)
     × (text ≡ law_text (one_more told) subscription.assignment breach misplaced)
@@ -170,8 +183,9 @@ IsLaw sender taker subscription journal told text =
 -- the answer about the service and the consumer at these places
 abbrev pub IsAnswered : ℕ → ℕ → Stage → ℕ → List ℕ → Type 0
 IsAnswered service consumer stage told text =
-    (sender : PlayedService) × (taker : PlayedConsumer)
+    (sender : PlayedService) × (taker : PlayedConsumer) × (misplaced : Option ℕ)
     × (slice_get stage.services.items service ≡ Some sender)
     × (slice_get stage.consumers.items consumer ≡ Some taker)
+    × IsMisplaced sender.service.recorded taker.consumer.inbox misplaced
     × IsLaw sender.service.worker taker.consumer.worker taker.consumer.fetcher.subscription
-    stage.recorded.journal told text
+    stage.recorded.journal misplaced told text

@@ -1,11 +1,12 @@
 -- What an output has printed, and what of it is written.
 use Rattle.std.specs.Io.KnownBytes.{Appends}
-use Rattle.std.specs.Prelude.{◌≡◌, ℕ, List, ◌++◌, Option, [], ◌∷◌, None, Bool, true, false, ◌⊎◌, length, Some, Result, Ok, Err, IsTrue, codes, map}
+use Rattle.std.specs.Prelude.{◌≡◌, ℕ, ◌+◌, List, ◌++◌, Option, [], ◌∷◌, None, Bool, true, false, ◌⊎◌, length, Some, Result, Ok, Err, IsTrue, codes, map, nat_lt, is_some, if◌then◌else◌}
 use Rattle.kob_router.specs.Line.{one_more}
 use Rattle.kob_scene_text.specs.PrintedRows.{numbered, inbox_text, outbox_text, state_text, consumer_tick_text, recorded_text, service_tick_text}
 use Rattle.kob_inbox.specs.Contents.{Contents as InboxContents, placed_intake}
 use Rattle.kob_inbox.specs.declared.fetcher.Fetcher.{Fetcher}
 use Rattle.kob_inbox.specs.declared.tick.Tick.{Tick as ConsumerAnswer}
+use Rattle.kob_lines.specs.Calls.{IsJournaled}
 use Rattle.kob_lines.specs.declared.lossy.Loss.{Loss}
 use Rattle.kob_outbox.specs.Contents.{Contents as OutboxContents, id_text, stored_row, first_bad, first_after, state_at, up_to, is_recorded, next_seq}
 use Rattle.kob_router.specs.Run.{dispatch_of}
@@ -13,22 +14,27 @@ use Rattle.kob_router.specs.declared.line.Call.{Call}
 use Rattle.kob_router.specs.declared.sender.Sender.{Sender}
 use Rattle.kob_router.specs.declared.tick.Tick.{Tick as RouterAnswer}
 use Rattle.std.specs.Fmt.{decimal}
-use Rattle.std.specs.List.{AllByRecursion, enumerate_from}
+use Rattle.std.specs.List.{enumerate_from}
+use Rattle.std.specs.Option.{option_and_then}
 use Rattle.kob_inbox.specs.declared.inbox_row.InboxRow.{InboxRow}
 use Rattle.kob_outbox.specs.declared.event.Row.{Row}
 use Rattle.kob_outbox.specs.declared.change.Change.{Change}
 use Rattle.kob_outbox.specs.declared.event.OutboxEvent.{OutboxEvent}
 use Rattle.kob_outbox.specs.declared.fault.RecordFault.{RecordFault}
+use Rattle.kob_scene_play.specs.declared.consumer_steps.Left.{Left}
 use Rattle.kob_scene_text.specs.declared.scene.ConsumerStep.{ConsumerStep}
 use Rattle.kob_scene_text.specs.declared.scene.Lost.{Lost}
 use Rattle.kob_scene_text.specs.declared.scene.ServiceStep.{ServiceStep}
+use Rattle.kob_shared.specs.Journals.{Record}
 use Rattle.kob_inbox.specs.Run as consuming
 use Rattle.kob_inbox.specs.Tick as consumer_ticks
+use Rattle.kob_inbox.specs.declared.tick.Tick.TheVariants as readings
 use Rattle.kob_lines.specs.declared.lossy.Loss.TheVariants as losses
 use Rattle.kob_router.specs.Run as routing
 use Rattle.kob_router.specs.Tick as router_ticks
 use Rattle.kob_outbox.specs.declared.fault.RecordFault.TheVariants as faults
 use Rattle.kob_router.specs.declared.tick.Tick.TheVariants as answers
+use Rattle.kob_scene_play.specs.declared.consumer_steps.Left.TheVariants as left
 use Rattle.kob_scene_text.specs.declared.scene.ConsumerStep.TheVariants as consumer_steps
 use Rattle.kob_scene_text.specs.declared.scene.Lost.TheVariants as lost
 use Rattle.kob_scene_text.specs.declared.scene.ServiceStep.TheVariants as service_steps
@@ -56,13 +62,15 @@ LosesFirst losses.None (call ∷ calls) = Unit {0}
 LosesFirst losses.BeforeServe (call ∷ calls) = call.heard ≡ None
 LosesFirst losses.AfterServe (call ∷ calls) = call.heard ≡ None
 
--- a service: its number in the journal, who it is, its router and its outbox
+-- a service: its number in the journal, who it is, its router, its outbox, and the events that it
+-- recorded, swept ones included
 pub record Service : Type 0 where
   pub worker : ℕ
   pub principal : List ℕ
   pub host : List ℕ
   pub sender : Sender
   pub outbox : OutboxContents
+  pub recorded : List OutboxEvent
 
 abbrev pub service_state : Service → routing.State
 service_state service = router_ticks.state_of service.sender service.outbox
@@ -74,17 +82,27 @@ pub record IsSameService (old new : Service) : Type 0 where
   pub host : new.host ≡ old.host
   pub target : new.sender.target ≡ old.sender.target
 
+-- the events that were recorded, after a move
+abbrev pub recorded_after : routing.Move → List OutboxEvent → List OutboxEvent
+recorded_after (routing.Move.Recorded change event) events = events ++ event ∷ []
+recorded_after move events = events
+
 -- a move of a router's run that may be made, and that is
 pub record Does (move : routing.Move) (old new : Service) : Type 0 where
   pub same : IsSameService old new
+  pub recorded : new.recorded ≡ recorded_after move old.recorded
   pub may : routing.May (dispatch_of old.sender.target) (service_state old) move
   pub done : service_state new ≡ routing.after (service_state old) move
 
--- the moves of one tick of its router, over a line of its own that loses the first call so
-pub record IsServiceTick (loss : Loss) (old new : Service) (tick : RouterAnswer) : Type 0 where
+-- the moves of one tick of its router, over a line of its own that loses the first call so; its
+-- calls that were served are the journal's new entries
+pub record IsServiceTick (loss : Loss) (old new : Service) (before after : Record)
+    (tick : RouterAnswer) : Type 0 where
   pub same : IsSameService old new
+  pub recorded : new.recorded ≡ old.recorded
   pub calls : List Call
   pub lost : LosesFirst loss calls
+  pub journaled : IsJournaled old.worker old.principal old.host calls before after
   pub unmade : ℕ
   pub ticks :
       router_ticks.Ticks router_ticks.IsOneTick (dispatch_of old.sender.target)
@@ -116,11 +134,14 @@ pub record Consumes (move : consuming.Move) (old new : Consumer) : Type 0 where
   pub done :
       consumer_state new ≡ consuming.after old.fetcher.subscription (consumer_state old) move
 
--- the move of one tick of the consumer, over a line of its own that loses the first call so
-pub record IsConsumerTick (loss : Loss) (old new : Consumer) (tick : ConsumerAnswer) : Type 0 where
+-- the move of one tick of the consumer, over a line of its own that loses the first call so; its
+-- call that was served is the journal's new entry
+pub record IsConsumerTick (loss : Loss) (old new : Consumer) (before after : Record)
+    (tick : ConsumerAnswer) : Type 0 where
   pub same : IsSameConsumer old new
   pub calls : List Call
   pub lost : LosesFirst loss calls
+  pub journaled : IsJournaled old.worker old.principal old.host calls before after
   pub unmade : ℕ
   pub ticks :
       consumer_ticks.Ticks old.fetcher.subscription
@@ -142,29 +163,64 @@ goes_on_after answers.Repeat = true
 goes_on_after answers.Idle = false
 goes_on_after (answers.Stopped reason) = false
 
+-- after these ticks of a service, the last one first, its run goes on
+abbrev pub service_goes_on : List RouterAnswer → Bool
+service_goes_on [] = true
+service_goes_on (last ∷ before) = goes_on_after last
+
+-- what a tick of a consumer leaves to do
+abbrev pub left_after : ConsumerAnswer → Left
+left_after (readings.Placed position) = left.Something
+left_after (readings.Took count) = left.Something
+left_after readings.Committed = left.Something
+left_after readings.Idle = left.Idle
+left_after readings.Repeat = left.Something
+left_after (readings.Stopped reason) = left.Stopped
+
+-- how many ticks in a row were idle, with one more tick; none where that one ends the run of a
+-- consumer with so many partitions
+abbrev pub idle_with : ℕ → Left → ℕ → Option ℕ
+idle_with partitions left.Something idle = Some 0
+idle_with partitions left.Idle idle = if nat_lt (idle + 1) partitions then Some (idle + 1) else None
+idle_with partitions left.Stopped idle = None
+
+-- how many of these ticks, the last one first, were idle in a row; none where one ends the run
+abbrev pub idle_in_row : ℕ → List ConsumerAnswer → Option ℕ
+idle_in_row partitions [] = Some 0
+idle_in_row partitions (last ∷ before) =
+    option_and_then (idle_with partitions (left_after last)) (idle_in_row partitions before)
+
+-- after these ticks of a consumer, the last one first, its run goes on: it is not stopped, and not
+-- every partition was idle in turn
+abbrev pub consumer_goes_on : ℕ → List ConsumerAnswer → Bool
+consumer_goes_on partitions ticks = is_some (idle_in_row partitions ticks)
+
 -- ticks of a worker, the last one first: each goes on from where the one before it ended, and prints
 -- its line with the next number
-abbrev pub AreTicks : {Worker Answer : Type 0} → (Worker → Worker → Answer → Type 0) → (Answer → List ℕ)
-    → List Answer → Worker → Worker → ℕ → ℕ → List ℕ → Type 0
-AreTicks IsTick line [] old new told then_told text =
-    (new ≡ old) × (then_told ≡ told) × (text ≡ [])
-AreTicks {Worker} IsTick line (tick ∷ before) old new told then_told text =
-    (mid : Worker) × (mid_told : ℕ) × (front back : List ℕ)
-    × AreTicks IsTick line before old mid told mid_told front
-    × IsTick mid new tick
+abbrev pub AreTicks : {Worker Answer : Type 0}
+    → (Worker → Worker → Record → Record → Answer → Type 0) → (Answer → List ℕ) → List Answer
+    → Worker → Worker → Record → Record → ℕ → ℕ → List ℕ → Type 0
+AreTicks IsTick line [] old new before after told then_told text =
+    (new ≡ old) × (after ≡ before) × (then_told ≡ told) × (text ≡ [])
+AreTicks {Worker} IsTick line (tick ∷ ticks) old new before after told then_told text =
+    (mid : Worker) × (between : Record) × (mid_told : ℕ) × (front back : List ℕ)
+    × AreTicks IsTick line ticks old mid before between told mid_told front
+    × IsTick mid new between after tick
     × IsPrinted (line tick) mid_told then_told back
     × (text ≡ front ++ back)
 
--- each of these ticks moved the mark, or has to be made again
-abbrev pub AllGoOn : List RouterAnswer → Type 0
-AllGoOn ticks = AllByRecursion (λ tick. goes_on_after tick ≡ true) ticks
+-- after each of these ticks the run goes on
+abbrev pub AllGoOn : {Answer : Type 0} → (List Answer → Bool) → List Answer → Type 0
+AllGoOn goes_on [] = Unit {0}
+AllGoOn goes_on (last ∷ before) = (goes_on (last ∷ before) ≡ true) × AllGoOn goes_on before
 
--- a run of ticks, the last one first, ends with the first one that does not go on, or with the
--- 1,000,000th
-abbrev pub EndsRun : List RouterAnswer → Type 0
-EndsRun [] = ⊥
-EndsRun (last ∷ before) =
-    AllGoOn before × ((goes_on_after last ≡ false) ⊎ (length before ≡ 999999))
+-- a run of ticks, the last one first, ends with the first one after which it does not go on, or with
+-- the 1,000,000th
+abbrev pub EndsRun : {Answer : Type 0} → (List Answer → Bool) → List Answer → Type 0
+EndsRun goes_on [] = ⊥
+EndsRun goes_on (last ∷ before) =
+    AllGoOn goes_on before
+    × ((goes_on (last ∷ before) ≡ false) ⊎ (length before ≡ 999999))
 
 -- an event was recorded with its change under the next number, or nothing was: a text does not fit,
 -- or the id was recorded before
@@ -183,60 +239,95 @@ abbrev pub swept_text : ℕ → List ℕ
 swept_text count = codes " ok swept " ++ decimal count
 
 -- one tick of a service's router, and its answer
-abbrev pub IsServiceAnswer : Option Lost → RouterAnswer → Service → Service → ℕ → ℕ → List ℕ → Type 0
-IsServiceAnswer lost tick old new told then_told text =
-    IsServiceTick (loss_for lost) old new tick × IsPrinted (service_tick_text tick) told then_told text
+abbrev pub IsServiceAnswer : Option Lost → RouterAnswer → Service → Service → Record → Record → ℕ → ℕ
+    → List ℕ → Type 0
+IsServiceAnswer lost tick old new before after told then_told text =
+    IsServiceTick (loss_for lost) old new before after tick
+    × IsPrinted (service_tick_text tick) told then_told text
 
--- what a step of a service does, and the text that it prints; before it so many answers were
--- printed, and then so many
-abbrev pub IsServiceStep : ServiceStep → Service → Service → ℕ → ℕ → List ℕ → Type 0
-IsServiceStep (service_steps.Record change event) old new told then_told text =
+-- one tick of a consumer, and its answer
+abbrev pub IsConsumerAnswer : Option Lost → ConsumerAnswer → Consumer → Consumer → Record → Record
+    → ℕ → ℕ → List ℕ → Type 0
+IsConsumerAnswer lost tick old new before after told then_told text =
+    IsConsumerTick (loss_for lost) old new before after tick
+    × IsPrinted (consumer_tick_text tick) told then_told text
+
+-- what a step of a service does that makes no tick, and the text that it prints; before it so many
+-- answers were printed, and then so many
+abbrev pub IsServiceChange : ServiceStep → Service → Service → ℕ → ℕ → List ℕ → Type 0
+IsServiceChange (service_steps.Record change event) old new told then_told text =
     (answer : Result ℕ RecordFault)
     × Records change event old new answer
     × IsPrinted (recorded_text answer) told then_told text
-IsServiceStep (service_steps.Tick lost) old new told then_told text =
-    (tick : RouterAnswer) × IsServiceAnswer lost tick old new told then_told text
-IsServiceStep service_steps.Run old new told then_told text =
-    (ticks : List RouterAnswer)
-    × AreTicks (IsServiceTick losses.None) service_tick_text ticks old new told then_told text
-    × EndsRun ticks
-IsServiceStep service_steps.Restart old new told then_told text =
+IsServiceChange (service_steps.Tick lost) old new told then_told text = ⊥
+IsServiceChange service_steps.Run old new told then_told text = ⊥
+IsServiceChange service_steps.Restart old new told then_told text =
     Does routing.Move.Restarted old new × IsPrinted (codes " ok restarted") told then_told text
-IsServiceStep service_steps.Sweep old new told then_told text =
+IsServiceChange service_steps.Sweep old new told then_told text =
     Does routing.Move.Swept old new
     × IsPrinted (swept_text (length (up_to old.outbox.mark old.outbox.events))) told then_told text
-IsServiceStep service_steps.Outbox old new told then_told text =
+IsServiceChange service_steps.Outbox old new told then_told text =
     (rows : List Row)
     × (new ≡ old)
     × (map stored_row rows ≡ first_after old.outbox.mark 4294967295 old.outbox.events)
     × (then_told ≡ one_more told)
     × (text ≡ outbox_text (one_more told) old.outbox.mark rows)
-IsServiceStep (service_steps.Business kind key) old new told then_told text =
+IsServiceChange (service_steps.Business kind key) old new told then_told text =
     (new ≡ old)
     × (then_told ≡ one_more told)
     × (text ≡ state_text (one_more told) (state_at kind key old.outbox.business))
 
--- what a step of a consumer does, and the text that it prints
-abbrev pub IsConsumerStep : ConsumerStep → Consumer → Consumer → ℕ → ℕ → List ℕ → Type 0
-IsConsumerStep (consumer_steps.Tick lost) old new told then_told text =
-    (tick : ConsumerAnswer)
-    × IsConsumerTick (loss_for lost) old new tick
-    × IsPrinted (consumer_tick_text tick) told then_told text
-IsConsumerStep consumer_steps.Run old new told then_told text =
-    (ticks : List ConsumerAnswer)
-    × AreTicks (IsConsumerTick losses.None) consumer_tick_text ticks old new told then_told text
-IsConsumerStep consumer_steps.Restart old new told then_told text =
+-- what a step of a service does, and the text that it prints; without a tick the journal stays
+abbrev pub IsServiceStep : ServiceStep → Service → Service → Record → Record → ℕ → ℕ → List ℕ
+    → Type 0
+IsServiceStep (service_steps.Tick lost) old new before after told then_told text =
+    (tick : RouterAnswer) × IsServiceAnswer lost tick old new before after told then_told text
+IsServiceStep service_steps.Run old new before after told then_told text =
+    (ticks : List RouterAnswer)
+    × AreTicks (IsServiceTick losses.None) service_tick_text ticks old new before after told
+    then_told text
+    × EndsRun service_goes_on ticks
+IsServiceStep step old new before after told then_told text =
+    (after ≡ before) × IsServiceChange step old new told then_told text
+
+-- what a step of a consumer does that makes no tick, and the text that it prints
+abbrev pub IsConsumerChange : ConsumerStep → Consumer → Consumer → ℕ → ℕ → List ℕ → Type 0
+IsConsumerChange (consumer_steps.Tick lost) old new told then_told text = ⊥
+IsConsumerChange consumer_steps.Run old new told then_told text = ⊥
+IsConsumerChange consumer_steps.Restart old new told then_told text =
     Consumes consuming.Move.Restarted old new × IsPrinted (codes " ok restarted") told then_told text
-IsConsumerStep consumer_steps.Inbox old new told then_told text =
+IsConsumerChange consumer_steps.Inbox old new told then_told text =
     (rows : List InboxRow)
     × (new ≡ old)
     × (map placed_intake rows ≡ enumerate_from 1 old.inbox)
     × (then_told ≡ one_more told)
     × (text ≡ inbox_text (one_more told) rows)
 
+-- what a step of a consumer does, and the text that it prints; without a tick the journal stays
+abbrev pub IsConsumerStep : ConsumerStep → Consumer → Consumer → Record → Record → ℕ → ℕ → List ℕ
+    → Type 0
+IsConsumerStep (consumer_steps.Tick lost) old new before after told then_told text =
+    (tick : ConsumerAnswer) × IsConsumerAnswer lost tick old new before after told then_told text
+IsConsumerStep consumer_steps.Run old new before after told then_told text =
+    (ticks : List ConsumerAnswer)
+    × AreTicks (IsConsumerTick losses.None) consumer_tick_text ticks old new before after told
+    then_told text
+    × EndsRun (consumer_goes_on (length old.fetcher.subscription.assignment)) ticks
+IsConsumerStep step old new before after told then_told text =
+    (after ≡ before) × IsConsumerChange step old new told then_told text
+
 -- a tick of a service and its answer, and whether the next tick has something to do
-abbrev pub IsTold : Option Lost → Bool → Service → Service → ℕ → ℕ → List ℕ → List ℕ → Type 0
-IsTold lost goes_on old new told then_told before now =
+abbrev pub IsTold : Option Lost → Bool → Service → Service → Record → Record → ℕ → ℕ → List ℕ
+    → List ℕ → Type 0
+IsTold lost goes_on old new before after told then_told held then_held =
     (tick : RouterAnswer)
     × (goes_on ≡ goes_on_after tick)
-    × Tells (IsServiceAnswer lost tick old new told then_told) before now
+    × Tells (IsServiceAnswer lost tick old new before after told then_told) held then_held
+
+-- a tick of a consumer and its answer, and what it leaves to do
+abbrev pub IsReadOnce : Option Lost → Left → Consumer → Consumer → Record → Record → ℕ → ℕ → List ℕ
+    → List ℕ → Type 0
+IsReadOnce lost rest old new before after told then_told held then_held =
+    (tick : ConsumerAnswer)
+    × (rest ≡ left_after tick)
+    × Tells (IsConsumerAnswer lost tick old new before after told then_told) held then_held

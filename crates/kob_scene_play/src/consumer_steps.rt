@@ -1,8 +1,8 @@
 //! The steps of a consumer.
 
-ghost use Rattle.std.specs.Prelude.{OnOk};
-ghost use Rattle.kob_scene_play.specs.Steps.{Tells, IsConsumerStep};
-ghost use Rattle.kob_scene_play.specs.Scenes.{ConsumerKeeps};
+ghost use Rattle.std.specs.Prelude.{◌≡◌, IfOk, OnOk};
+ghost use Rattle.kob_scene_play.specs.Steps.{IsConsumerChange, IsConsumerStep, IsReadOnce, Tells};
+ghost use Rattle.kob_scene_play.specs.Steps.{idle_with, left_after};
 ghost use Rattle.kob_scene_text.specs.declared.scene.ConsumerStep.TheVariants as consumer_steps;
 
 use crate::consumer_worker::ConsumerWorker;
@@ -26,6 +26,7 @@ enum Left {
 }
 
 /// Makes a step, and prints its result.
+#[tactic(auto, using(crate::proofs::Played::consumer_changed))]
 pub(crate) fn play_consumer(
     alloc: Global,
     recorded: &mut Recorded,
@@ -33,9 +34,8 @@ pub(crate) fn play_consumer(
     step: &ConsumerStep,
     out: &mut Output,
 ) -> Result<(), PlayFault>
-    ensures done { OnOk result (Tells (IsConsumerStep step.now consumer.old
-        consumer.new out.old.told out.new.told) out.old.text.items out.new.text.items) }
-    ensures journal { OnOk result (ConsumerKeeps step.now recorded.old recorded.new) }
+    ensures { OnOk result (Tells (IsConsumerStep step.now consumer.old consumer.new recorded.old
+        recorded.new out.old.told out.new.told) out.old.text.items out.new.text.items) }
 {
     match step {
         ConsumerStep::Tick(lost) => {
@@ -55,8 +55,9 @@ fn tick(
     lost: Option<Lost>,
     out: &mut Output,
 ) -> Result<Left, PlayFault>
-    ensures { OnOk result (Tells (IsConsumerStep (consumer_steps.Tick lost) consumer.old
-        consumer.new out.old.told out.new.told) out.old.text.items out.new.text.items) }
+    ensures { IfOk result (λ left. IsReadOnce lost left consumer.old consumer.new
+        recorded.old recorded.new out.old.told out.new.told out.old.text.items
+        out.new.text.items) }
 {
     let tick = consumer.tick(alloc, recorded, loss_of(lost))?;
     let left = left_by(&tick);
@@ -66,42 +67,54 @@ fn tick(
     Ok(left)
 }
 
-fn left_by(tick: &Tick) -> Left {
+fn left_by(tick: &Tick) -> Left
+    ensures { result ≡ left_after tick.now }
+{
     match tick {
         Tick::Idle => Left::Idle,
         Tick::Stopped(_) => Left::Stopped,
-        _ => Left::Something,
+        Tick::Placed(_) | Tick::Took(_) | Tick::Committed | Tick::Repeat => Left::Something,
+    }
+}
+
+/// How many ticks in a row were idle, with one more tick. With None that one ends the run of a
+/// consumer with so many partitions.
+fn idle_with(partitions: usize, left: Left, idle: usize) -> Option<usize>
+    ensures { result ≡ idle_with partitions left idle }
+{
+    match left {
+        Left::Something => Some(0),
+        Left::Idle if idle < partitions.saturating_sub(1) => Some(idle + 1),
+        Left::Idle | Left::Stopped => None,
     }
 }
 
 /// Makes ticks until each assigned partition was idle in turn, or the consumer is stopped.
-#[tactic(auto, using(crate::proofs::ConsumerRunning::none_at_first, crate::proofs::ConsumerRunning::one_tick_more))]
+#[tactic(auto, using(crate::proofs::ConsumerRunning::none_at_first))]
 fn run(
     alloc: Global,
     recorded: &mut Recorded,
     consumer: &mut ConsumerWorker,
     out: &mut Output,
 ) -> Result<(), PlayFault>
-    ensures { OnOk result (Tells (IsConsumerStep consumer_steps.Run consumer.old
-        consumer.new out.old.told out.new.told) out.old.text.items out.new.text.items) }
+    ensures { OnOk result (Tells (IsConsumerStep consumer_steps.Run consumer.old consumer.new
+        recorded.old recorded.new out.old.told out.new.told) out.old.text.items
+        out.new.text.items) }
 {
-    let round = consumer.subscription().assignment.len();
-    let mut idle: usize = 0;
+    let partitions = consumer.subscription().assignment.len();
+    let mut idle = 0;
     for _ in 0..RUN_LIMIT {
-        match tick(alloc, recorded, consumer, None, out)? {
-            Left::Something => idle = 0,
-            Left::Idle => idle = idle.saturating_add(1),
-            Left::Stopped => break,
-        }
-        if idle > 0 && idle >= round {
-            break;
-        }
+        let left = tick(alloc, recorded, consumer, None, out)?;
+        let Some(in_row) = idle_with(partitions, left, idle) else {
+            return Ok(());
+        };
+        idle = in_row;
     }
     Ok(())
 }
 
 fn restart(consumer: &mut ConsumerWorker, out: &mut Output) -> Result<(), PlayFault>
-    ensures { OnOk result (Tells (IsConsumerStep consumer_steps.Restart consumer.old
+    ensures { OnOk result (Tells (IsConsumerChange consumer_steps.Restart consumer.old
         consumer.new out.old.told out.new.told) out.old.text.items out.new.text.items) }
 {
     consumer.restart();
@@ -112,7 +125,7 @@ fn restart(consumer: &mut ConsumerWorker, out: &mut Output) -> Result<(), PlayFa
 }
 
 fn show_inbox(consumer: &mut ConsumerWorker, out: &mut Output) -> Result<(), PlayFault>
-    ensures { OnOk result (Tells (IsConsumerStep consumer_steps.Inbox consumer.old
+    ensures { OnOk result (Tells (IsConsumerChange consumer_steps.Inbox consumer.old
         consumer.new out.old.told out.new.told) out.old.text.items out.new.text.items) }
 {
     let rows = consumer.rows()?;

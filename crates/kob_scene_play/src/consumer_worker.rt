@@ -9,8 +9,9 @@ ghost use Rattle.kob_scene_play.specs.Faults.{stop_of_consumer};
 ghost use Rattle.kob_scene_play.specs.Steps.{Consumes, IsConsumerTick, consumer_state};
 
 use crate::fault::{PlayFault, line_fault, loses_first, unless};
+use crate::line::take_over;
 use kob_inbox::{Consumer, Inbox, InboxFault, InboxRow, StopReason, Subscription, Tick};
-use kob_lines::{Loss, Lossy, RecordedLine};
+use kob_lines::{Calls, Loss, Lossy, RecordedLine};
 use kob_names::{Host, PlainValue, Principal};
 use kob_shared::Recorded;
 use std::alloc::Global;
@@ -89,24 +90,39 @@ impl ConsumerWorker {
         &self.subscription
     }
 
-    /// One step over the broker, whose first call has this loss.
+    /// One step over the broker, whose first call has this loss. Its call gets its entry in the
+    /// journal under its number, its principal and its host.
     pub fn tick(
         &mut self,
         alloc: Global,
         recorded: &mut Recorded,
         loss: Loss,
     ) -> Result<Tick, PlayFault>
-        ensures { IfOk result (IsConsumerTick loss self.old self.new) }
+        ensures { IfOk result (IsConsumerTick loss self.old self.new recorded.old recorded.new) }
     {
         let principal = self.principal.copy(alloc)?;
         let host = self.host.copy(alloc)?;
         let line = RecordedLine::open(alloc, recorded, self.worker, principal, host);
-        let mut line = Lossy::over(alloc, line);
-        line.lose(loss);
-        let tick = self.consumer.tick(alloc, &mut self.inbox, &mut line);
+        let calls = Calls::new(alloc);
+        let mut line = Lossy { line, loss, calls };
+        let tick = take_over(&mut self.consumer, alloc, &mut self.inbox, &mut line);
         let fault = stopped_by(&tick).or(line_fault(&line));
         let is_lost = loses_first(loss, &line.calls.made);
-        drop(line);
+        let Lossy {
+            line,
+            loss: _,
+            calls,
+        } = line;
+        let RecordedLine {
+            recorded,
+            worker: _,
+            principal,
+            host,
+            calls: below,
+        } = line;
+        drop((calls, below));
+        drop((principal, host));
+        let _ = *recorded;
         let tick = unless(fault, is_lost, tick)?;
         Ok(tick)
     }

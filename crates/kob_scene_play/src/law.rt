@@ -1,22 +1,21 @@
 //! Whether the laws of delivery apply to a service and a consumer, and what its inbox shows.
 
-ghost use Rattle.std.specs.Prelude.{◌≡◌, ◌++◌, OnOk, slice_get};
+ghost use Rattle.std.specs.Prelude.{◌≡◌, ◌++◌, IfOk, OnOk, slice_get};
 ghost use Rattle.kob_router.specs.Line.{one_more};
 ghost use Rattle.std.specs.Option.{option_copied};
-ghost use Rattle.kob_scene_play.specs.Stages.{IsAnswered, IsLaw, breach_text, broken_text, law_text};
-ghost use Rattle.kob_scene_play.specs.Stages.{misplaced_text, name_text, order_text, premise_text, topic_text};
+ghost use Rattle.kob_scene_play.specs.Stages.{IsAnswered, IsLaw, IsMisplaced, breach_text, broken_text};
+ghost use Rattle.kob_scene_play.specs.Stages.{law_text, misplaced_text, name_text, order_text, premise_text, topic_text};
 ghost use Rattle.kob_scene_play.specs.Steps.{Tells};
 
 use crate::consumer_worker::ConsumerWorker;
 use crate::fault::PlayFault;
-use crate::order::first_out_of_order;
+use crate::order::first_misplaced;
 use crate::output::{Output, push_counted};
-use crate::stage::{PlayedService, Stage};
+use crate::service_worker::ServiceWorker;
+use crate::stage::Stage;
 use kob_names::Text;
-use kob_outbox::OutboxEvent;
 use kob_pipeline::{Breach, Premise, first_breach};
 use kob_router::Place;
-use kob_scene_text::{ServiceStep, Step};
 use kob_shared::Journal;
 use kob_words::{push_bytes, push_number};
 use std::alloc::{AllocError, Global};
@@ -28,8 +27,7 @@ use std::alloc::{AllocError, Global};
 /// their order.
 pub(crate) fn show_law(
     alloc: Global,
-    stage: &mut Stage,
-    steps: &[Step],
+    stage: &mut Stage<'_>,
     service: usize,
     consumer: usize,
     out: &mut Output,
@@ -47,7 +45,7 @@ pub(crate) fn show_law(
     let Some(taker) = stage.consumers.get_mut(consumer) else {
         return Err(PlayFault::NoWorker);
     };
-    let misplaced = misplaced_row(alloc, sender, steps, &mut taker.consumer)?;
+    let misplaced = misplaced_row(alloc, &sender.service, &mut taker.consumer)?;
     answer(
         stage.recorded.journal(),
         sender.service.number(),
@@ -66,7 +64,7 @@ fn answer(
     out: &mut Output,
 ) -> Result<(), PlayFault>
     ensures done { OnOk result (Tells (IsLaw sender taker.now.worker taker.now.fetcher.subscription
-        journal.now out.old.told) out.old.text.items out.new.text.items) }
+        journal.now misplaced out.old.told) out.old.text.items out.new.text.items) }
     ensures told { OnOk result (out.new.told ≡ one_more out.old.told) }
 {
     let subscription = taker.subscription();
@@ -103,36 +101,14 @@ fn push_law(
 /// The place of the first row of the inbox that is out of order.
 fn misplaced_row(
     alloc: Global,
-    sender: &PlayedService,
-    steps: &[Step],
-    consumer: &mut ConsumerWorker,
+    sender: &ServiceWorker<'_>,
+    taker: &mut ConsumerWorker,
 ) -> Result<Option<u64>, PlayFault>
-    ensures { consumer.new ≡ consumer.old }
+    ensures place { IfOk result (IsMisplaced sender.now.recorded taker.old.inbox) }
+    ensures same { taker.new ≡ taker.old }
 {
-    let inbox = consumer.rows()?;
-    let rows = match rows_of(alloc, sender, steps) {
-        Ok(rows) => rows,
-        Err(refused) => {
-            drop(inbox);
-            return Err(PlayFault::Memory(refused));
-        }
-    };
-    first_out_of_order(alloc, &rows, &inbox).map_err(PlayFault::Memory)
-}
-
-/// The events that the service recorded, in their order.
-fn rows_of<'s>(
-    alloc: Global,
-    played: &PlayedService,
-    steps: &'s [Step],
-) -> Result<Vec<&'s OutboxEvent>, AllocError> {
-    let mut rows = Vec::new(alloc);
-    for place in &played.recorded_by {
-        if let Some(Step::Service(_, ServiceStep::Record(_, event))) = steps.get(*place) {
-            rows.push(event)?;
-        }
-    }
-    Ok(rows)
+    let inbox = taker.rows()?;
+    Ok(first_misplaced(alloc, sender.recorded(), &inbox)?)
 }
 
 fn push_breach(

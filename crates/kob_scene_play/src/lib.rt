@@ -9,6 +9,7 @@ mod form;
 mod journal;
 mod json;
 mod law;
+mod line;
 mod needs;
 mod order;
 mod output;

@@ -9,7 +9,11 @@ use kob_words::{operation_name, push_bytes, resource_name};
 use std::alloc::AllocError;
 
 /// Appends a line with the right that the request lacked, if it was denied.
-pub(crate) fn push_needs(out: &mut Vec<u8>, request: &Request, reply: &Reply) -> Result<(), AllocError>
+pub(crate) fn push_needs(
+    out: &mut Vec<u8>,
+    request: &Request,
+    reply: &Reply,
+) -> Result<(), AllocError>
     ensures { OnOk result (out.new.items ≡ out.old.items ++ needs_of request.now reply.now) }
 {
     match reply {

@@ -1,69 +1,68 @@
 //! Whether an inbox has the rows of a service in order.
 
+ghost use Rattle.std.specs.HashMap.{get};
+ghost use Rattle.std.specs.HashSet.{contains};
+ghost use Rattle.std.specs.List.{list_any};
+ghost use Rattle.std.specs.Option.{option_copied};
+ghost use Rattle.std.specs.Prelude.{◌≡◌, ◌==◌, ℕ, List, IfOk, None, map, nat_eq, reverse, unwrap_or};
+ghost use Rattle.kob_inbox.specs.declared.inbox_row.InboxRow.{InboxRow};
+ghost use Rattle.kob_scene_play.specs.Orders.{first_misplaced, id_before, is_missing, number_of};
+
 use kob_inbox::InboxRow;
 use kob_outbox::OutboxEvent;
 use std::alloc::{AllocError, Global};
-use std::collections::HashMap;
+use std::collections::{HashMap, HashSet};
 
-/// The rows that a service recorded: where each is, by its event's id, and which row of the same
-/// aggregate was recorded before it.
-#[derive(Drop)]
-struct Recorded {
-    places: HashMap<u128, usize>,
-    before: Vec<Option<usize>>,
-}
-
-/// The place of the first row of the inbox that is one of the service's and comes before a row of
-/// its aggregate that was recorded earlier. With None the inbox has of each aggregate the first rows,
-/// in their order.
-pub(crate) fn first_out_of_order(
+/// The place of the first row of the inbox that is one of the service's and comes before the row of
+/// its aggregate that was recorded before it. With None the inbox has of each aggregate the first
+/// rows, in their order.
+pub(crate) fn first_misplaced(
     alloc: Global,
-    rows: &[&OutboxEvent],
-    inbox: &[InboxRow],
-) -> Result<Option<u64>, AllocError> {
-    let recorded = recorded_rows(alloc, rows)?;
-    let mut taken: Vec<bool> = Vec::new(alloc);
-    for _ in rows {
-        taken.push(false)?;
-    }
-    for row in inbox {
-        let Some(at) = recorded.places.get(&row.id.as_u128()) else {
-            continue;
-        };
-        if !is_next(&recorded.before, &taken, *at) {
+    events: &[&OutboxEvent],
+    rows: &[InboxRow],
+) -> Result<Option<u64>, AllocError>
+    ensures { IfOk result (λ place. place
+        ≡ first_misplaced (map (λ event. event.now) events.now) rows.now) }
+{
+    let earlier = earlier_ids(alloc, events)?;
+    let mut taken = HashSet::new(alloc);
+    for row in rows {
+        let id = row.id.as_u128();
+        if is_missing(&taken, earlier.get(&id)) {
             return Ok(Some(row.place));
         }
-        if let Some(seen) = taken.get_mut(*at) {
-            *seen = true;
-        }
+        taken.insert(id)?;
     }
     Ok(None)
 }
 
-/// Whether the inbox has the row of the same aggregate that was recorded before this one.
-fn is_next(before: &[Option<usize>], taken: &[bool], at: usize) -> bool {
-    match before.get(at) {
-        Some(Some(earlier)) => matches!(taken.get(*earlier), Some(true)),
-        _ => true,
+/// Whether there is such an id, and it is not among those that were taken in.
+fn is_missing(taken: &HashSet<u128>, earlier: Option<&Option<u128>>) -> bool
+    ensures { (rows : List InboxRow) → ((id : ℕ) → contains nat_eq taken.now id
+        ≡ list_any (λ row. number_of row.id == id) rows)
+        → result ≡ is_missing rows (unwrap_or (option_copied earlier.entry) None) }
+{
+    match earlier {
+        Some(Some(id)) => !taken.contains(id),
+        _ => false,
     }
 }
 
-fn recorded_rows(alloc: Global, rows: &[&OutboxEvent]) -> Result<Recorded, AllocError> {
-    let mut places = HashMap::new(alloc);
-    let mut before = Vec::new(alloc);
+/// For the id of each event, the id of the event of its aggregate that was recorded before it.
+fn earlier_ids(
+    alloc: Global,
+    events: &[&OutboxEvent],
+) -> Result<HashMap<u128, Option<u128>>, AllocError>
+    ensures { IfOk result (λ earlier. (id : ℕ) → unwrap_or (get nat_eq earlier id) None
+        ≡ id_before id (reverse (map (λ event. event.now) events.now))) }
+{
+    let mut earlier = HashMap::new(alloc);
     let mut last = HashMap::new(alloc);
-    for (at, row) in rows.iter().enumerate() {
-        places.insert(row.id.as_u128(), at)?;
-        let earlier = last.insert(aggregate_of(alloc, row)?, at)?;
-        before.push(earlier)?;
+    for event in events {
+        let id = event.id.as_u128();
+        let aggregate = (event.aggregate_type.as_str(), event.aggregate_id.as_str());
+        let before = last.insert(aggregate, id)?;
+        earlier.insert(id, before)?;
     }
-    Ok(Recorded { places, before })
-}
-
-/// The type and the id of a row's aggregate, with a zero byte between them, which neither has.
-fn aggregate_of(alloc: Global, row: &OutboxEvent) -> Result<String, AllocError> {
-    let mut aggregate = String::from_str(alloc, row.aggregate_type.as_str())?;
-    aggregate.push_str("\0")?;
-    aggregate.push_str(row.aggregate_id.as_str())?;
-    Ok(aggregate)
+    Ok(earlier)
 }

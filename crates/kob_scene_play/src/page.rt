@@ -52,7 +52,7 @@ impl Page {
     ) -> Result<(), AllocError>
         ensures text { OnOk result (self.new.text.items ≡ self.old.text.items
             ++ shown_text showing.entry.shown.now showing.entry.lines.now place before journal.now
-                out.now.text.items) }
+            out.now.text.items) }
         ensures told { OnOk result (self.new.told ≡ out.now.told) }
         ensures kept { OnErr result (self.new.text.items ≡ self.old.text.items) }
         ensures count { OnErr result (self.new.told ≡ self.old.told) }
@@ -62,7 +62,15 @@ impl Page {
             Shown::Trace(texts) => {
                 let mut text = Vec::new(alloc);
                 let texts = texts.as_slice();
-                push_traced(&mut text, texts, showing.lines, place, before, journal, &out.text)?;
+                push_traced(
+                    &mut text,
+                    texts,
+                    showing.lines,
+                    place,
+                    before,
+                    journal,
+                    &out.text,
+                )?;
                 self.add(&text, out.told)
             }
             Shown::Json => {

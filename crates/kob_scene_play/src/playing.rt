@@ -4,8 +4,8 @@ ghost use Rattle.std.specs.Prelude.{◌≡◌, ◌++◌, [], IfOk, OnErr, OnOk};
 ghost use Rattle.kob_router.specs.Line.{one_more};
 ghost use Rattle.kob_scene_play.specs.Forms.{shown_text};
 ghost use Rattle.kob_scene_play.specs.Steps.{Tells};
-ghost use Rattle.kob_scene_play.specs.Scenes.{ConsumerKeeps, IsRead, IsServed, IsShown, IsStep};
-ghost use Rattle.kob_scene_play.specs.Scenes.{Leaves, OthersStay, ServiceKeeps, is_run};
+ghost use Rattle.kob_scene_play.specs.Scenes.{IsRead, IsServed, IsShown, IsStep, Leaves};
+ghost use Rattle.kob_scene_play.specs.Scenes.{OthersStay, is_run};
 ghost use Rattle.kob_scene_play.specs.Scenes.{EndsAs, EndsScene, EndsSteps};
 ghost use Rattle.kob_script.specs.Printed.{reply_text};
 ghost use Rattle.kob_shared.specs.Journals.{after_event, outcome_of};
@@ -97,23 +97,23 @@ fn play_scene<W: Write>(
 }
 
 /// Plays the steps, up to one that stops.
-fn play_steps<W: Write>(
+fn play_steps<'s, W: Write>(
     alloc: Global,
     showing: Showing<'_>,
-    stage: &mut Stage,
-    steps: &[Step],
+    stage: &mut Stage<'s>,
+    steps: &'s [Step],
     page: &mut Page,
     writer: &mut W,
 ) -> Result<Option<PlayFault>, PlayFault>
     ensures { IfOk result
         (EndsSteps (shown_text showing.entry.shown.now showing.entry.lines.now) steps.now
-            stage.old stage.new page.old.told page.new.told (W.contents writer.old)
-            page.old.text.items (W.contents writer.new) page.new.text.items) }
+        stage.old stage.new page.old.told page.new.told (W.contents writer.old)
+        page.old.text.items (W.contents writer.new) page.new.text.items) }
 {
     let mut out = Output::new(alloc);
     for place in 0..steps.len() {
         let step = &steps[place];
-        match show_step(alloc, showing, stage, steps, place, step, &mut out, page) {
+        match show_step(alloc, showing, stage, place, step, &mut out, page) {
             Ok(()) => page.write_piece(writer)?,
             Err(fault) => return Ok(Some(fault)),
         }
@@ -122,26 +122,25 @@ fn play_steps<W: Write>(
 }
 
 /// Plays the step at this place of the scene, and shows its answers.
-fn show_step(
+fn show_step<'s>(
     alloc: Global,
     showing: Showing<'_>,
-    stage: &mut Stage,
-    steps: &[Step],
+    stage: &mut Stage<'s>,
     place: usize,
-    step: &Step,
+    step: &'s Step,
     out: &mut Output,
     page: &mut Page,
 ) -> Result<(), PlayFault>
     ensures shown { OnOk result (Tells
         (IsShown (shown_text showing.entry.shown.now showing.entry.lines.now) place step.now
-            stage.old stage.new page.old.told page.new.told)
+        stage.old stage.new page.old.told page.new.told)
         page.old.text.items page.new.text.items) }
     ensures stopped { OnErr result (Tells (Leaves step.now page.old.told page.new.told)
         page.old.text.items page.new.text.items) }
 {
     out.begin(page.told);
     let before = stage.recorded.journal().len();
-    match play_step(alloc, stage, steps, place, step, out) {
+    match play_step(alloc, stage, step, out) {
         Ok(()) => Ok(page.show(alloc, showing, place, before, stage.recorded.journal(), out)?),
         Err(fault) => {
             if is_run(step) {
@@ -164,13 +163,11 @@ fn is_run(step: &Step) -> bool
     }
 }
 
-/// Plays a step, which is at this place of the scene.
-fn play_step(
+/// Plays a step.
+fn play_step<'s>(
     alloc: Global,
-    stage: &mut Stage,
-    steps: &[Step],
-    place: usize,
-    step: &Step,
+    stage: &mut Stage<'s>,
+    step: &'s Step,
     out: &mut Output,
 ) -> Result<(), PlayFault>
     ensures { OnOk result (Tells (IsStep step.now stage.old stage.new out.old.told out.new.told)
@@ -178,33 +175,29 @@ fn play_step(
 {
     match step {
         Step::Request(event) => play_request(alloc, &mut stage.recorded, event, out),
-        Step::Service(which, step) => play_service_at(alloc, stage, *which, place, step, out),
+        Step::Service(which, step) => play_service_at(alloc, stage, *which, step, out),
         Step::Consumer(which, step) => play_consumer_at(alloc, stage, *which, step, out),
         Step::Journal => show_journal(stage, out),
-        Step::Law { service, consumer } => {
-            show_law(alloc, stage, steps, *service, *consumer, out)
-        }
+        Step::Law { service, consumer } => show_law(alloc, stage, *service, *consumer, out),
     }
 }
 
 /// Plays a step of the service at this place of the stage.
-fn play_service_at(
+fn play_service_at<'s>(
     alloc: Global,
-    stage: &mut Stage,
+    stage: &mut Stage<'s>,
     which: usize,
-    place: usize,
-    step: &ServiceStep,
+    step: &'s ServiceStep,
     out: &mut Output,
 ) -> Result<(), PlayFault>
     ensures consumers { stage.new.consumers ≡ stage.old.consumers }
-    ensures journal { OnOk result
-        (ServiceKeeps step.now stage.old.recorded stage.new.recorded) }
     ensures others { OthersStay which stage.old.services.items stage.new.services.items }
     ensures done { OnOk result (Tells (IsServed which step.now stage.old.services.items
-        stage.new.services.items out.old.told out.new.told) out.old.text.items out.new.text.items) }
+        stage.new.services.items stage.old.recorded stage.new.recorded out.old.told
+        out.new.told) out.old.text.items out.new.text.items) }
 {
     match stage.services.get_mut(which) {
-        Some(played) => play_service(alloc, &mut stage.recorded, played, place, step, out),
+        Some(played) => { play_service(alloc, &mut stage.recorded, &mut played.service, step, out) }
         None => Err(PlayFault::NoWorker),
     }
 }
@@ -212,18 +205,16 @@ fn play_service_at(
 /// Plays a step of the consumer at this place of the stage.
 fn play_consumer_at(
     alloc: Global,
-    stage: &mut Stage,
+    stage: &mut Stage<'_>,
     which: usize,
     step: &ConsumerStep,
     out: &mut Output,
 ) -> Result<(), PlayFault>
     ensures services { stage.new.services ≡ stage.old.services }
-    ensures journal { OnOk result
-        (ConsumerKeeps step.now stage.old.recorded stage.new.recorded) }
     ensures others { OthersStay which stage.old.consumers.items stage.new.consumers.items }
     ensures done { OnOk result (Tells (IsRead which step.now stage.old.consumers.items
-        stage.new.consumers.items out.old.told out.new.told) out.old.text.items
-        out.new.text.items) }
+        stage.new.consumers.items stage.old.recorded stage.new.recorded out.old.told
+        out.new.told) out.old.text.items out.new.text.items) }
 {
     match stage.consumers.get_mut(which) {
         Some(played) => {

@@ -1,14 +1,13 @@
 //! The steps of a service.
 
 ghost use Rattle.std.specs.Prelude.{◌≡◌, IfOk, OnOk};
-ghost use Rattle.kob_scene_play.specs.Steps.{Tells, IsServiceStep, IsTold, goes_on_after, loss_for};
-ghost use Rattle.kob_scene_play.specs.Scenes.{ServiceKeeps};
+ghost use Rattle.kob_scene_play.specs.Steps.{IsServiceChange, IsServiceStep, IsTold, Tells};
+ghost use Rattle.kob_scene_play.specs.Steps.{goes_on_after, loss_for};
 ghost use Rattle.kob_scene_text.specs.declared.scene.ServiceStep.TheVariants as service_steps;
 
 use crate::fault::PlayFault;
 use crate::output::Output;
 use crate::service_worker::ServiceWorker;
-use crate::stage::PlayedService;
 use kob_lines::Loss;
 use kob_names::Text;
 use kob_outbox::{Change, OutboxEvent, RecordFault};
@@ -23,52 +22,47 @@ use std::alloc::Global;
 /// A step `run` makes no more ticks than this.
 pub(crate) const RUN_LIMIT: u32 = 1_000_000;
 
-/// Makes the step at this place of the scene, and prints its result.
-pub(crate) fn play_service(
+/// Makes a step, and prints its result.
+#[tactic(auto, using(crate::proofs::Played::service_changed))]
+pub(crate) fn play_service<'s>(
     alloc: Global,
     recorded: &mut Recorded,
-    played: &mut PlayedService,
-    place: usize,
-    step: &ServiceStep,
+    service: &mut ServiceWorker<'s>,
+    step: &'s ServiceStep,
     out: &mut Output,
 ) -> Result<(), PlayFault>
-    ensures done { OnOk result (Tells (IsServiceStep step.now played.old.service
-        played.new.service out.old.told out.new.told) out.old.text.items out.new.text.items) }
-    ensures name { played.new.name ≡ played.old.name }
-    ensures journal { OnOk result (ServiceKeeps step.now recorded.old recorded.new) }
+    ensures { OnOk result (Tells (IsServiceStep step.now service.old service.new recorded.old
+        recorded.new out.old.told out.new.told) out.old.text.items out.new.text.items) }
 {
     match step {
-        ServiceStep::Record(change, event) => record(played, place, change, event, out),
+        ServiceStep::Record(change, event) => record(service, change, event, out),
         ServiceStep::Tick(lost) => {
-            tick(alloc, recorded, &mut played.service, *lost, out)?;
+            tick(alloc, recorded, service, *lost, out)?;
             Ok(())
         }
-        ServiceStep::Run => run(alloc, recorded, &mut played.service, out),
-        ServiceStep::Restart => restart(&mut played.service, out),
-        ServiceStep::Sweep => sweep(&mut played.service, out),
-        ServiceStep::Outbox => show_outbox(&mut played.service, out),
-        ServiceStep::Business { kind, key } => show_state(&mut played.service, kind, key, out),
+        ServiceStep::Run => run(alloc, recorded, service, out),
+        ServiceStep::Restart => restart(service, out),
+        ServiceStep::Sweep => sweep(service, out),
+        ServiceStep::Outbox => show_outbox(service, out),
+        ServiceStep::Business { kind, key } => show_state(service, kind, key, out),
     }
 }
 
-/// Records an event with its change. If the row was made, its place is noted.
+/// Records an event with its change.
 #[tactic(auto, using(crate::proofs::Kept::records))]
-fn record(
-    played: &mut PlayedService,
-    place: usize,
+fn record<'s>(
+    service: &mut ServiceWorker<'s>,
     change: &Change,
-    event: &OutboxEvent,
+    event: &'s OutboxEvent,
     out: &mut Output,
 ) -> Result<(), PlayFault>
-    ensures done { OnOk result (Tells (IsServiceStep
-        (service_steps.Record change.now event.now) played.old.service played.new.service
+    ensures { OnOk result (Tells (IsServiceChange
+        (service_steps.Record change.now event.now) service.old service.new
         out.old.told out.new.told) out.old.text.items out.new.text.items) }
-    ensures name { played.new.name ≡ played.old.name }
 {
-    played.recorded_by.reserve(1)?;
-    let recorded = played.service.record(change, event);
+    let recorded = service.record(change, event);
     match recorded {
-        Ok(_) => played.recorded_by.push_reserved(place),
+        Ok(_) => {}
         Err(RecordFault::Memory(refused)) => return Err(PlayFault::Memory(refused)),
         Err(RecordFault::Store) => return Err(PlayFault::Store),
         Err(RecordFault::BadField(_)) => {}
@@ -84,12 +78,13 @@ fn record(
 fn tick(
     alloc: Global,
     recorded: &mut Recorded,
-    service: &mut ServiceWorker,
+    service: &mut ServiceWorker<'_>,
     lost: Option<Lost>,
     out: &mut Output,
 ) -> Result<bool, PlayFault>
-    ensures { IfOk result (λ goes_on. IsTold lost goes_on service.old service.new out.old.told
-        out.new.told out.old.text.items out.new.text.items) }
+    ensures { IfOk result (λ goes_on. IsTold lost goes_on service.old service.new
+        recorded.old recorded.new out.old.told out.new.told out.old.text.items
+        out.new.text.items) }
 {
     let tick = service.tick(alloc, recorded, loss_of(lost))?;
     let goes_on = goes_on(&tick);
@@ -112,15 +107,16 @@ fn goes_on(tick: &Tick) -> bool
 }
 
 /// Makes ticks until one neither moves nor repeats.
-#[tactic(auto, using(crate::proofs::Running::none_at_first, crate::proofs::Running::one_tick_more, crate::proofs::Running::last_tick, crate::proofs::Running::spent))]
+#[tactic(auto, using(crate::proofs::Running::none_at_first, crate::proofs::Running::spent))]
 fn run(
     alloc: Global,
     recorded: &mut Recorded,
-    service: &mut ServiceWorker,
+    service: &mut ServiceWorker<'_>,
     out: &mut Output,
 ) -> Result<(), PlayFault>
-    ensures { OnOk result (Tells (IsServiceStep service_steps.Run service.old
-        service.new out.old.told out.new.told) out.old.text.items out.new.text.items) }
+    ensures { OnOk result (Tells (IsServiceStep service_steps.Run service.old service.new
+        recorded.old recorded.new out.old.told out.new.told) out.old.text.items
+        out.new.text.items) }
 {
     for _ in 0..RUN_LIMIT {
         if !tick(alloc, recorded, service, None, out)? {
@@ -130,8 +126,8 @@ fn run(
     Ok(())
 }
 
-fn restart(service: &mut ServiceWorker, out: &mut Output) -> Result<(), PlayFault>
-    ensures { OnOk result (Tells (IsServiceStep service_steps.Restart service.old
+fn restart(service: &mut ServiceWorker<'_>, out: &mut Output) -> Result<(), PlayFault>
+    ensures { OnOk result (Tells (IsServiceChange service_steps.Restart service.old
         service.new out.old.told out.new.told) out.old.text.items out.new.text.items) }
 {
     service.restart();
@@ -141,8 +137,8 @@ fn restart(service: &mut ServiceWorker, out: &mut Output) -> Result<(), PlayFaul
     Ok(())
 }
 
-fn sweep(service: &mut ServiceWorker, out: &mut Output) -> Result<(), PlayFault>
-    ensures { OnOk result (Tells (IsServiceStep service_steps.Sweep service.old
+fn sweep(service: &mut ServiceWorker<'_>, out: &mut Output) -> Result<(), PlayFault>
+    ensures { OnOk result (Tells (IsServiceChange service_steps.Sweep service.old
         service.new out.old.told out.new.told) out.old.text.items out.new.text.items) }
 {
     let count = service.sweep()?;
@@ -153,8 +149,8 @@ fn sweep(service: &mut ServiceWorker, out: &mut Output) -> Result<(), PlayFault>
 }
 
 /// Prints the mark, and the rows after it.
-fn show_outbox(service: &mut ServiceWorker, out: &mut Output) -> Result<(), PlayFault>
-    ensures { OnOk result (Tells (IsServiceStep service_steps.Outbox service.old
+fn show_outbox(service: &mut ServiceWorker<'_>, out: &mut Output) -> Result<(), PlayFault>
+    ensures { OnOk result (Tells (IsServiceChange service_steps.Outbox service.old
         service.new out.old.told out.new.told) out.old.text.items out.new.text.items) }
 {
     let mark = service.mark()?;
@@ -166,12 +162,12 @@ fn show_outbox(service: &mut ServiceWorker, out: &mut Output) -> Result<(), Play
 }
 
 fn show_state(
-    service: &mut ServiceWorker,
+    service: &mut ServiceWorker<'_>,
     kind: &Text,
     key: &Text,
     out: &mut Output,
 ) -> Result<(), PlayFault>
-    ensures { OnOk result (Tells (IsServiceStep (service_steps.Business kind.now key.now)
+    ensures { OnOk result (Tells (IsServiceChange (service_steps.Business kind.now key.now)
         service.old service.new out.old.told out.new.told) out.old.text.items
         out.new.text.items) }
 {

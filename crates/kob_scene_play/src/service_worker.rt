@@ -9,7 +9,8 @@ ghost use Rattle.kob_scene_play.specs.Faults.{stop_of_service};
 ghost use Rattle.kob_scene_play.specs.Steps.{Does, IsServiceTick};
 
 use crate::fault::{PlayFault, line_fault, loses_first, unless};
-use kob_lines::{Loss, Lossy, RecordedLine};
+use crate::line::send_over;
+use kob_lines::{Calls, Loss, Lossy, RecordedLine};
 use kob_names::{Host, PlainValue, Principal};
 use kob_outbox::{Change, Outbox, OutboxEvent, OutboxFault, RecordFault, Row};
 use kob_router::{Router, StopReason, Target, Tick};
@@ -17,19 +18,21 @@ use kob_shared::Recorded;
 use std::alloc::Global;
 use std::marker::Model;
 
-/// A service: its number in the journal, who it is, its router and its outbox.
+/// A service: its number in the journal, who it is, its router and its outbox, and the events of
+/// its scene that it recorded.
 #[derive(Drop)]
-pub struct ServiceWorker {
+pub struct ServiceWorker<'s> {
     worker: usize,
     principal: Principal,
     host: Host,
     router: Router,
     outbox: Outbox,
+    recorded: Vec<&'s OutboxEvent>,
 }
 
-impl Model for ServiceWorker {
+impl<'s> Model for ServiceWorker<'s> {
     ghost use Rattle.std.specs.Coded.{codes};
-    ghost use Rattle.std.specs.Prelude.{option_map};
+    ghost use Rattle.std.specs.Prelude.{map, option_map};
     ghost use Rattle.kob_outbox.specs.Contents.{contents_code};
     ghost use Rattle.kob_router.specs.Tick.{IsFirst, hand_of};
     ghost use Rattle.kob_scene_play.specs.Steps.{Service};
@@ -44,12 +47,13 @@ impl Model for ServiceWorker {
       host = w.host;
       sender = w.router;
       outbox = w.outbox;
+      recorded = map (λ event. event.now) w.recorded.items;
     } };
 
     ghost invariant = { λ w. IsFirst (option_map hand_of w.router.hand) w.outbox };
 }
 
-impl ServiceWorker {
+impl<'s> ServiceWorker<'s> {
     /// A service with an empty outbox and a router that has made no call.
     pub fn open(
         alloc: Global,
@@ -57,7 +61,7 @@ impl ServiceWorker {
         principal: Principal,
         host: Host,
         target: Target,
-    ) -> Result<ServiceWorker, PlayFault>
+    ) -> Result<ServiceWorker<'s>, PlayFault>
         requires some { 1 ≤ target.partitions }
         requires most { target.partitions ≤ 1000 }
         ensures { IfOk result (λ w. w ≡ record {
@@ -66,6 +70,7 @@ impl ServiceWorker {
           host = host;
           sender = record { target = target; producer = None; sequences = []; hand = None };
           outbox = empty;
+          recorded = [];
         }) }
     {
         let Target { route, partitions } = target;
@@ -76,6 +81,7 @@ impl ServiceWorker {
             host,
             router: Router::new(alloc, route, partitions),
             outbox,
+            recorded: Vec::new(alloc),
         })
     }
 
@@ -86,8 +92,15 @@ impl ServiceWorker {
         self.worker
     }
 
+    /// The events that it recorded, in their order. Those that were swept are among them.
+    pub fn recorded(&self) -> &[&'s OutboxEvent]
+        ensures { map (λ event. event.now) result.now ≡ self.now.recorded }
+    {
+        &self.recorded
+    }
+
     /// Records an event together with the change that it reports.
-    pub fn record(&mut self, change: &Change, event: &OutboxEvent) -> Result<u64, RecordFault>
+    pub fn record(&mut self, change: &Change, event: &'s OutboxEvent) -> Result<u64, RecordFault>
         ensures value { IfOk result (λ seq. seq ≡ next_seq self.old.outbox) }
         ensures ok { OnOk result (Does (RecordedMove change.now event.now) self.old self.new) }
         ensures err { OnErr result (self.new ≡ self.old) }
@@ -96,27 +109,51 @@ impl ServiceWorker {
         ensures duplicate { IsErrOf result RecordFault.DuplicateId
             → IsTrue (is_recorded self.old.outbox.ids (id_text event.now.id)) }
     {
-        self.outbox.record(change, event)
+        if let Err(refused) = self.recorded.reserve(1) {
+            return Err(RecordFault::Memory(refused));
+        }
+        match self.outbox.record(change, event) {
+            Ok(seq) => {
+                self.recorded.push_reserved(event);
+                Ok(seq)
+            }
+            Err(fault) => Err(fault),
+        }
     }
 
-    /// One step of the router over the broker, whose first call has this loss.
+    /// One step of the router over the broker, whose first call has this loss. Its calls get their
+    /// entries in the journal under its number, its principal and its host.
     pub fn tick(
         &mut self,
         alloc: Global,
         recorded: &mut Recorded,
         loss: Loss,
     ) -> Result<Tick, PlayFault>
-        ensures { IfOk result (IsServiceTick loss self.old self.new) }
+        ensures { IfOk result (IsServiceTick loss self.old self.new recorded.old recorded.new) }
     {
         let principal = self.principal.copy(alloc)?;
         let host = self.host.copy(alloc)?;
         let line = RecordedLine::open(alloc, recorded, self.worker, principal, host);
-        let mut line = Lossy::over(alloc, line);
-        line.lose(loss);
-        let tick = self.router.tick(alloc, &mut self.outbox, &mut line);
+        let calls = Calls::new(alloc);
+        let mut line = Lossy { line, loss, calls };
+        let tick = send_over(&mut self.router, alloc, &mut self.outbox, &mut line);
         let fault = stopped_by(&tick).or(line_fault(&line));
         let is_lost = loses_first(loss, &line.calls.made);
-        drop(line);
+        let Lossy {
+            line,
+            loss: _,
+            calls,
+        } = line;
+        let RecordedLine {
+            recorded,
+            worker: _,
+            principal,
+            host,
+            calls: below,
+        } = line;
+        drop((calls, below));
+        drop((principal, host));
+        let _ = *recorded;
         let tick = unless(fault, is_lost, tick)?;
         Ok(tick)
     }

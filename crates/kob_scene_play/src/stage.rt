@@ -18,12 +18,11 @@ use kob_scene_text::{Consumer, Service};
 use kob_shared::{ENTRY_LIMIT, Recorded};
 use std::alloc::Global;
 
-/// A service of a scene, with its name, and which steps recorded its rows.
+/// A service of a scene, with its name.
 #[derive(Drop)]
-pub struct PlayedService {
+pub struct PlayedService<'s> {
     pub name: Text,
-    pub service: ServiceWorker,
-    pub recorded_by: Vec<usize>,
+    pub service: ServiceWorker<'s>,
 }
 
 /// A consumer of a scene, with its name.
@@ -35,20 +34,20 @@ pub struct PlayedConsumer {
 
 /// The broker with its journal, and the workers of a scene, each with tables of its own.
 #[derive(Drop)]
-pub struct Stage {
+pub struct Stage<'s> {
     pub recorded: Recorded,
-    pub services: Vec<PlayedService>,
+    pub services: Vec<PlayedService<'s>>,
     pub consumers: Vec<PlayedConsumer>,
 }
 
-impl Stage {
+impl<'s> Stage<'s> {
     /// A broker as it is opened, and workers that have made no step.
     pub fn open(
         alloc: Global,
         settings: Settings,
         services: Vec<Service>,
         consumers: Vec<Consumer>,
-    ) -> Result<Stage, PlayFault>
+    ) -> Result<Stage<'s>, PlayFault>
         ensures broker { IfOk result (IsOpened settings) }
         ensures services { IfOk result (λ stage. map named_service stage.services.items
             ≡ map declared_service services.items) }
@@ -94,7 +93,10 @@ impl Stage {
 }
 
 /// The name of the service, or that of the consumer, or `-` if there is neither.
-fn name_by<'s>(service: Option<&'s PlayedService>, consumer: Option<&'s PlayedConsumer>) -> &'s str
+fn name_by<'p>(
+    service: Option<&'p PlayedService<'_>>,
+    consumer: Option<&'p PlayedConsumer>,
+) -> &'p str
     ensures { result.now ≡ name_by (option_copied service.entry) (option_copied consumer.entry) }
 {
     match service {
@@ -107,7 +109,10 @@ fn name_by<'s>(service: Option<&'s PlayedService>, consumer: Option<&'s PlayedCo
 }
 
 /// The first service with this number.
-fn service_numbered(services: &[PlayedService], worker: usize) -> Option<&PlayedService>
+fn service_numbered<'p, 's>(
+    services: &'p [PlayedService<'s>],
+    worker: usize,
+) -> Option<&'p PlayedService<'s>>
     ensures { option_copied result ≡ service_numbered worker services.now }
 {
     services
@@ -148,7 +153,10 @@ fn broker_by(alloc: Global, settings: Settings) -> Result<Broker, OpenFault>
     Broker::open(alloc, settings)
 }
 
-fn all_services(alloc: Global, services: Vec<Service>) -> Result<Vec<PlayedService>, PlayFault>
+fn all_services<'s>(
+    alloc: Global,
+    services: Vec<Service>,
+) -> Result<Vec<PlayedService<'s>>, PlayFault>
     ensures { IfOk result (λ all. map named_service all.items
         ≡ map declared_service services.items) }
 {
@@ -160,9 +168,9 @@ fn all_services(alloc: Global, services: Vec<Service>) -> Result<Vec<PlayedServi
 }
 
 /// Adds a service that has made no step.
-fn add_service(
+fn add_service<'s>(
     alloc: Global,
-    all: &mut Vec<PlayedService>,
+    all: &mut Vec<PlayedService<'s>>,
     service: Service,
 ) -> Result<(), PlayFault>
     ensures { OnOk result (map named_service all.new.items
@@ -182,11 +190,7 @@ fn add_service(
     } = service;
     match ServiceWorker::open(alloc, worker, principal, host, routed.into_target()) {
         Ok(service) => {
-            all.push_reserved(PlayedService {
-                name,
-                service,
-                recorded_by: Vec::new(alloc),
-            });
+            all.push_reserved(PlayedService { name, service });
             Ok(())
         }
         Err(fault) => {

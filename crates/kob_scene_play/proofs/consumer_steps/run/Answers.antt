@@ -1,20 +1,19 @@
-use Rattle.kob_scene_play.proofs.ConsumerRunning.{one_tick_more}
+use Rattle.kob_scene_play.proofs.Words.{ap, length, ◌∙◌}
+use Rattle.kob_scene_play.proofs.ConsumerRunning.{last_tick, one_tick_more}
 use Rattle.kob_scene_play.proofs.consumer_steps.run.Goals as goal
 
 pub loop-preserved : goal.loop-preserved
 loop-preserved c =
-    one_tick_more c.args.consumer.now c.loop.consumer c.tick.new.consumer c.args.out.now.told c.loop.out.told
-    c.tick.new.out.told c.args.out.now.text.items c.loop.out.text.items c.tick.new.out.text.items c.loop.invariant
-    c.in_ok-tick.ensures
+    one_tick_more c.len-partitions.result c.args.consumer.now c.loop.consumer c.tick.new.consumer c.args.recorded.now
+    c.loop.recorded c.tick.new.recorded c.args.out.now.told c.loop.out.told c.tick.new.out.told
+    c.args.out.now.text.items c.loop.out.text.items c.tick.new.out.text.items c.loop.counter c.loop.idle
+    c.in_ok-left.left c.idle_with.result c.loop.invariant c.in_ok-left.ensures c.idle_with.ensures c.in-Some.in_row
+    c.in-Some.is
 
-pub returns-in-Stopped : goal.returns-in-Stopped
-returns-in-Stopped c =
-    one_tick_more c.args.consumer.now c.loop.consumer c.tick.new.consumer c.args.out.now.told c.loop.out.told
-    c.tick.new.out.told c.args.out.now.text.items c.loop.out.text.items c.tick.new.out.text.items c.loop.invariant
-    c.in_ok-tick.ensures
-
-pub returns-then-idle-round : goal.returns-then-idle-round
-returns-then-idle-round c =
-    one_tick_more c.args.consumer.now c.loop.consumer c.tick.new.consumer c.args.out.now.told c.loop.out.told
-    c.tick.new.out.told c.args.out.now.text.items c.loop.out.text.items c.tick.new.out.text.items c.loop.invariant
-    c.in_ok-tick.ensures
+pub returns-in_default : goal.returns-in_default
+returns-in_default c =
+    last_tick c.len-partitions.result c.args.consumer.now c.loop.consumer c.tick.new.consumer c.args.recorded.now
+    c.loop.recorded c.tick.new.recorded c.args.out.now.told c.loop.out.told c.tick.new.out.told
+    c.args.out.now.text.items c.loop.out.text.items c.tick.new.out.text.items c.loop.counter c.loop.idle
+    c.in_ok-left.left c.idle_with.result c.loop.invariant c.in_ok-left.ensures c.idle_with.ensures c.in_default.is
+    (c.len-partitions.ensures ∙ ap (λ s. length s.assignment) c.subscription.ensures)

@@ -5,6 +5,6 @@ use Rattle.kob_scene_play.proofs.playing.play_consumer_at.Goals as goal
 pub returns-in-Some-clause-done : goal.returns-in-Some-clause-done
 returns-in-Some-clause-done c =
     read_at c.play_consumer.result c.args.which c.args.step.now c.args.stage.now.consumers.items c.in-Some.played.now
-    (record { name = c.in-Some.played.now.name; consumer = c.play_consumer.new.consumer }) _ _ _ _
+    (record { name = c.in-Some.played.now.name; consumer = c.play_consumer.new.consumer }) _ _ _ _ _ _
     (slice_get_read c.args.stage.now.consumers.items _ c.args.which c.in-Some.played.now refl (search rules) (search rules))
-    refl c.play_consumer.ensures.done
+    refl c.play_consumer.ensures

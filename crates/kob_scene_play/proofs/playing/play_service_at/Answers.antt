@@ -5,6 +5,6 @@ use Rattle.kob_scene_play.proofs.playing.play_service_at.Goals as goal
 pub returns-in-Some-clause-done : goal.returns-in-Some-clause-done
 returns-in-Some-clause-done c =
     served_at c.play_service.result c.args.which c.args.step.now c.args.stage.now.services.items c.in-Some.played.now
-    c.play_service.new.played _ _ _ _
+    (record { name = c.in-Some.played.now.name; service = c.play_service.new.service }) _ _ _ _ _ _
     (slice_get_read c.args.stage.now.services.items _ c.args.which c.in-Some.played.now refl (search rules) (search rules))
-    c.play_service.ensures.name c.play_service.ensures.done
+    refl c.play_service.ensures

@@ -4,12 +4,12 @@ use Rattle.kob_scene_play.proofs.playing.play_step.Goals as goal
 pub returns-in-Service : goal.returns-in-Service
 returns-in-Service c =
     rw c.in-Service.is (service_played c.play_service_at.result _ _ c.args.stage.now c.play_service_at.new.stage _ _ _ _
-    c.play_service_at.ensures.consumers c.play_service_at.ensures.journal c.play_service_at.ensures.others c.play_service_at.ensures.done)
+    c.play_service_at.ensures.consumers c.play_service_at.ensures.others c.play_service_at.ensures.done)
 
 pub returns-in-Consumer : goal.returns-in-Consumer
 returns-in-Consumer c =
     rw c.in-Consumer.is (consumer_played c.play_consumer_at.result _ _ c.args.stage.now c.play_consumer_at.new.stage _ _ _ _
-    c.play_consumer_at.ensures.services c.play_consumer_at.ensures.journal c.play_consumer_at.ensures.others c.play_consumer_at.ensures.done)
+    c.play_consumer_at.ensures.services c.play_consumer_at.ensures.others c.play_consumer_at.ensures.done)
 
 pub returns-in-Law : goal.returns-in-Law
 returns-in-Law c =

@@ -1,4 +1,4 @@
-use Rattle.kob_scene_play.proofs.Words.{Does, Service, refl, subst}
+use Rattle.kob_scene_play.proofs.Words.{Does, Service, map, refl, subst}
 use Rattle.kob_router.specs.Run.Move.{Restarted}
 use Rattle.kob_scene_play.proofs.service_worker.ServiceWorker.restart.Goals as goal
 
@@ -12,10 +12,12 @@ returns c =
       host = was.host;
       sender = c.restart.new.self;
       outbox = was.outbox;
+      recorded = map (λ event. event.now) was.recorded.items;
     } in
     let made = c.restart.ensures in
     subst (λ (old : Service). Does Restarted old new) c.self.view_is (record {
       same = record { worker = refl; principal = refl; host = refl; target = made.same };
+      recorded = refl;
       may = tt;
       done = made.done was.outbox;
     })
