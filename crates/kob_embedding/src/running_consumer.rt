@@ -6,7 +6,9 @@ ghost use Rattle.std.specs.Prelude.{length, map, max};
 ghost use Rattle.kob_embedding.specs.Running.{AreIdle};
 ghost use Rattle.std.specs.List.{enumerate_from};
 ghost use Rattle.kob_inbox.specs.Contents.{placed_intake};
-ghost use Rattle.kob_inbox.specs.Tick.{Point, Ticks, point_of};
+ghost use Rattle.kob_inbox.specs.Run.Move.{Restarted};
+ghost use Rattle.kob_inbox.specs.Run.{after};
+ghost use Rattle.kob_inbox.specs.Tick.{Point, Ticks, point_of, state_of};
 
 use crate::consumer_end::ConsumerEnd;
 use crate::part::Part;
@@ -168,6 +170,9 @@ impl<L: Line> RunningConsumer<L> {
     /// Restarts the consumer, as [`Consumer::restart`] does: it forgets all positions.
     pub fn restart(&mut self)
         ensures same { self.new.fetcher.subscription ≡ self.old.fetcher.subscription }
+        ensures done { state_of self.new.fetcher self.new.inbox
+            ≡ after self.old.fetcher.subscription
+            (state_of self.old.fetcher self.old.inbox) Restarted }
         ensures inbox { self.new.inbox ≡ self.old.inbox }
         ensures line { self.new.line ≡ self.old.line }
     {
