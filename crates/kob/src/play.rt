@@ -65,7 +65,8 @@ fn write_heading<R: AllocGlobal + Print + Eprint>(rt: &R, work: Work, file: &str
 fn push_heading(out: &mut Vec<u8>, work: Work, file: &str) -> Result<(), AllocError> {
     match work {
         Work::Play {
-            form: Form::Json, ..
+            form: Form::Json,
+            ..
         } => {
             out.extend_from_slice(b"{\"file\":")?;
             push_json_string(out, file.as_bytes())?;

@@ -276,6 +276,7 @@ fn answer_by_one<R: AllocGlobal + Files + Input + Eprint>(
 }
 
 /// What changes, and then the answers of the second list. The lists differ if anything changes.
+/// Both lists are dropped by `drop`, since a list that is dropped at `?` makes a proof long.
 fn review<R: AllocGlobal + Files + Input + Eprint>(
     rt: &R,
     out: &mut Vec<u8>,
@@ -283,15 +284,33 @@ fn review<R: AllocGlobal + Files + Input + Eprint>(
     questions: &Questions,
 ) -> Result<Ending, Stop> {
     let before = judge_of(rt, out, options, &[&options.policy, &options.before])?;
+    let reviewed = review_from(rt, out, options, questions, &before);
+    drop(before);
+    reviewed
+}
+
+fn review_from<R: AllocGlobal + Files + Input + Eprint>(
+    rt: &R,
+    out: &mut Vec<u8>,
+    options: &Options,
+    questions: &Questions,
+    before: &Judge,
+) -> Result<Ending, Stop> {
     let after = judge_of(rt, out, options, &[&options.policy, &options.after])?;
-    let ending = push_changes(rt.alloc(), out, &before, &after)?;
-    print_answers(
-        rt.alloc(),
-        out,
-        &after,
-        questions.topics(),
-        questions.asked(),
-    )?;
+    let reviewed = push_review(rt.alloc(), out, questions, before, &after);
+    drop(after);
+    Ok(reviewed?)
+}
+
+fn push_review(
+    alloc: Global,
+    out: &mut Vec<u8>,
+    questions: &Questions,
+    before: &Judge,
+    after: &Judge,
+) -> Result<Ending, AllocError> {
+    let ending = push_changes(alloc, out, before, after)?;
+    print_answers(alloc, out, after, questions.topics(), questions.asked())?;
     Ok(ending)
 }
 

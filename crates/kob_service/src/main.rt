@@ -6,8 +6,9 @@ mod direct;
 mod threads;
 mod workers;
 
-use kob_embedding::{ConsumerEnd, DeliveryFault, RunningService, ServiceEnd};
-use kob_embedding::{opened, reaches_in_order};
+use kob_embedding::{
+    ConsumerEnd, DeliveryFault, RunningService, ServiceEnd, opened, reaches_in_order,
+};
 use kob_inbox::InboxRow;
 use kob_lines::ProgramFault;
 use kob_outbox::{Change, OutboxEvent};
