@@ -4,6 +4,7 @@ use crate::hint::hint_on;
 use crate::mistake::Mistake;
 use crate::option::option_place;
 use crate::spelling::nearest;
+use crate::usage::{is_command, is_step};
 use crate::words::raw_words;
 use bstr::ByteSlice;
 use kob_names::{Host, Principal, Text};
@@ -218,11 +219,19 @@ fn has_unknown_value(word: &[u8]) -> bool {
     }
 }
 
-/// A hint on a line that is not one of a list.
+/// A hint on a line that is not one of a list, but one of a scene: a declaration, a step of a worker,
+/// or a request other than those that lists may have.
 fn hint_on_list(words: &[&[u8]]) -> Option<&'static str> {
-    let first = words.first().copied().unwrap_or(b"".as_slice());
-    if first == b"service".as_slice() || first == b"consumer".as_slice() {
-        return Some("this looks like a scene: kob play plays it");
+    let is_scene = match words {
+        [b"service" | b"consumer", ..] => true,
+        [_, _, b"create-acl" | b"acl", ..] => false,
+        [who, _, command, ..] if who.contains(&b':') => is_command(command),
+        [_, step, ..] => is_step(step),
+        _ => false,
+    };
+    if is_scene {
+        Some("this looks like a scene: kob play plays it")
+    } else {
+        None
     }
-    None
 }

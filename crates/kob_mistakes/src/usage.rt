@@ -157,6 +157,21 @@ fn form_in(forms: &'static [(&'static str, &'static str)], word: &[u8]) -> Optio
     Some(form)
 }
 
+/// Whether a word is the name of a command.
+pub(crate) fn is_command(word: &[u8]) -> bool {
+    form_in(&REQUESTS, word).is_some()
+}
+
+/// Whether a word begins a setting, a declaration, or a line that prints.
+pub(crate) fn is_keyword(word: &[u8]) -> bool {
+    form_in(&LINES, word).is_some()
+}
+
+/// Whether a word is the name of a step.
+pub(crate) fn is_step(word: &[u8]) -> bool {
+    form_in(&STEPS, word).is_some()
+}
+
 /// The form of a line, by the word that says what it is: the command of a request, the first word
 /// of a declaration or a setting, or the word after a worker's name. The general form if there is
 /// no such word.

@@ -1,14 +1,18 @@
-//! The right that a denied request lacked.
+//! What a request lacked that was denied, or that named no topic or no partition that is there.
 
 ghost use Rattle.std.specs.Prelude.{◌≡◌, ◌<◌, ◌++◌, [], OnOk, length, slice_index_or};
+ghost use Rattle.kob_rights.specs.Requests.{partition_named};
 ghost use Rattle.kob_rights.specs.Table.{check_view, clause_view, rights};
-ghost use Rattle.kob_scene_play.specs.Needs.{check_text, has_code, lacked, needs_of, needs_text};
+ghost use Rattle.kob_scene_play.specs.Needs.{absence_text, absent_text, check_text, has_code};
+ghost use Rattle.kob_scene_play.specs.Needs.{lacked, needs_of, needs_text};
 
-use kob_rights::{Check, Clause, Code, Reply, Request, Rights};
-use kob_words::{operation_name, push_bytes, resource_name};
+use kob_names::Text;
+use kob_rights::{Check, Clause, Code, Reason, Reply, Request, Rights};
+use kob_words::{operation_name, push_bytes, push_number, resource_name};
 use std::alloc::AllocError;
 
-/// Appends a line with the right that the request lacked, if it was denied.
+/// Appends a line with the right that the request lacked, if it was denied, or with the topic or the
+/// partition that it needs and that is not there.
 pub(crate) fn push_needs(
     out: &mut Vec<u8>,
     request: &Request,
@@ -18,9 +22,46 @@ pub(crate) fn push_needs(
 {
     match reply {
         Reply::Denied { code, .. } => push_lacked(out, request, *code),
-        Reply::Refused { .. } => Ok(()),
+        Reply::Refused { reason, .. } => push_absent(out, request, *reason),
         Reply::Done(_) => Ok(()),
     }
+}
+
+fn push_absent(out: &mut Vec<u8>, request: &Request, reason: Reason) -> Result<(), AllocError>
+    ensures { OnOk result (out.new.items
+        ≡ out.old.items ++ absent_text reason (partition_named request.now)) }
+{
+    match request {
+        Request::Produce(asked) => push_absence(out, reason, &asked.topic, asked.partition),
+        Request::Fetch(asked) => push_absence(out, reason, &asked.topic, asked.partition),
+        Request::ListOffsets(asked) => push_absence(out, reason, &asked.topic, asked.partition),
+        Request::OffsetCommit(asked) => push_absence(out, reason, &asked.topic, asked.partition),
+        Request::DeleteRecords(asked) => push_absence(out, reason, &asked.topic, asked.partition),
+        _ => Ok(()),
+    }
+}
+
+#[tactic(auto, using(kob_words::proofs::Appending::appending))]
+fn push_absence(
+    out: &mut Vec<u8>,
+    reason: Reason,
+    topic: &Text,
+    partition: u64,
+) -> Result<(), AllocError>
+    ensures { OnOk result (out.new.items
+        ≡ out.old.items ++ absence_text reason (topic.now, partition)) }
+{
+    match reason {
+        Reason::UnknownTopic => out.extend_from_slice(b"> # no topic ")?,
+        Reason::UnknownPartition => {
+            out.extend_from_slice(b"> # no partition ")?;
+            push_number(out, partition)?;
+            out.extend_from_slice(b" of topic ")?;
+        }
+        _ => return Ok(()),
+    }
+    push_bytes(out, topic.as_str().as_bytes())?;
+    out.extend_from_slice(b"\n")
 }
 
 fn push_lacked(out: &mut Vec<u8>, request: &Request, code: Code) -> Result<(), AllocError>
