@@ -35,12 +35,22 @@ abbrev pub needs_text : List Check → List ℕ
 needs_text [] = []
 needs_text (check ∷ checks) = codes "> # needs " ++ check_text check ++ others_text checks
 
+-- a name between two texts
+abbrev pub between : List ℕ → List ℕ → List ℕ → List ℕ
+between before name after = before ++ bytes_text name ++ after
+
+abbrev pub no_topic : List ℕ → List ℕ
+no_topic topic = between (codes "> # no topic ") topic (codes "\n")
+
+abbrev pub no_partition : List ℕ → ℕ → List ℕ
+no_partition topic partition =
+    (codes "> # no partition " ++ decimal partition)
+    ++ between (codes " of topic ") topic (codes "\n")
+
 -- the topic, or the partition of it, that is not there
 abbrev pub absence_text : Reason → List ℕ × ℕ → List ℕ
-absence_text UnknownTopic named = codes "> # no topic " ++ bytes_text named.0 ++ codes "\n"
-absence_text UnknownPartition named =
-    codes "> # no partition " ++ decimal named.1 ++ codes " of topic " ++ bytes_text named.0
-    ++ codes "\n"
+absence_text UnknownTopic named = no_topic named.0
+absence_text UnknownPartition named = no_partition named.0 named.1
 absence_text reason named = []
 
 -- nothing where the request needs no partition to be there
