@@ -145,7 +145,7 @@ fn push_needed_from(
 }
 
 #[tactic(auto, unfolding(crate::specs::Needed::needed_by))]
-fn push_needed_by(
+pub fn push_needed_by(
     alloc: Global,
     out: &mut Vec<u64>,
     rules: &Authorizer,
