@@ -4,7 +4,7 @@ use Rattle.std.proofs.lemmas.Bool.{both_ways, cases_Bool, eq-eqb, eqb-true}
 use Rattle.std.proofs.lemmas.Bool.Decides.{nat_tests}
 use Rattle.std.proofs.lemmas.List.Elements.{Contains-append_cases, Contains-append_right}
 use Rattle.std.proofs.lemmas.List.Folds.{list_any-append}
-use Rattle.std.specs.List.{AllByRecursion, filter, fold, list_any}
+use Rattle.std.specs.List.{AllByRecursion, filter, fold}
 use Rattle.kob_names.specs.Binding.{Binding}
 use Rattle.kob_authorizer.proofs.Entries.{at_head, each, kept_by_filter, of_each, rising_filter, was_kept}
 use Rattle.kob_authorizer.specs.Decide.{Contents, IsRising}
@@ -13,7 +13,7 @@ use Rattle.kob_policy_review.proofs.Needing.{alike_without, changes_without}
 use Rattle.kob_policy_review.proofs.Standing.{first_or_rest}
 use Rattle.kob_policy_review.specs.Alike.{AnswerAlike, is_yes, without}
 use Rattle.kob_policy_review.specs.Redundancy.{is_needed, is_outside}
-use Rattle.kob_policy_review.specs.Removal.{ListsRemovable, is_among, left_for, removable_in, with_removable, without_all, without_those}
+use Rattle.kob_policy_review.specs.Removal.{ListsRemovable, is_among, left_for, removable_in, with_removable, without_all}
 use Rattle.kob_policy_review.specs.Shadows.{serial_of_entry}
 
 -- those that pass one test and then another

@@ -1,6 +1,6 @@
 -- A binding is needed among those that are left exactly where one of its targets needs it.
-use Rattle.std.proofs.Common.{Bool, Contains, List, None, Option, Some, [], ap, arith, codes, cond, false, inl, inr, map, not, refl, slice_get, subst, sym, true, ℕ, ◌++◌, ◌==◌, ◌||◌, ◌∙◌, ◌∷◌, ◌≡◌, ◌⊎◌}
-use Rattle.std.proofs.lemmas.Bool.{both_ways, cases_Bool, eq-eqb, eqb-true, or_cases}
+use Rattle.std.proofs.Common.{Bool, Contains, List, None, Option, Some, [], ap, arith, codes, false, inl, inr, refl, slice_get, subst, sym, true, ℕ, ◌||◌, ◌∙◌, ◌∷◌, ◌≡◌, ◌⊎◌}
+use Rattle.std.proofs.lemmas.Bool.{both_ways, cases_Bool, eqb-true, or_cases}
 use Rattle.std.proofs.lemmas.Option.{get_or_from_slice_get, slice_get_read, slice_get_within}
 use Rattle.std.proofs.lemmas.Slice.Eq.{bytes_eq-Decides}
 use Rattle.std.specs.List.{filter, flat_map, list_any}
@@ -10,16 +10,15 @@ use Rattle.kob_names.specs.Same.{same_text}
 use Rattle.kob_names.specs.declared.kinds.Operation.{Operation}
 use Rattle.kob_names.specs.declared.kinds.Permission.{Permission}
 use Rattle.kob_names.specs.declared.kinds.Permission.TheVariants.{Allow, Deny}
-use Rattle.kob_authorizer.proofs.Entries.{among_mapped, any_passes, at_head, given_by, kept_by_filter, passing, rising_filter, was_kept}
+use Rattle.kob_authorizer.proofs.Entries.{any_passes, at_head, given_by, passing, rising_filter, was_kept}
 use Rattle.kob_authorizer.specs.Decide.{Contents, IsRising}
 use Rattle.kob_prefix_tree.specs.Held.{PrefixMap}
 use Rattle.kob_policy_review.proofs.Alone.{filter_swap, one_of_serial}
 use Rattle.kob_policy_review.proofs.Needing.{alike_over, alike_without, any_flat, changes_over, changes_without, is_it, needed_over, some_flat, super_by, unfolded_by, unfolded_from, unfolded_on}
-use Rattle.kob_policy_review.proofs.Standing.{others_there, named_there, principals_are, first_or_rest}
+use Rattle.kob_policy_review.proofs.Standing.{others_there, named_there, first_or_rest}
 use Rattle.kob_policy_review.proofs.Texts.{same_when}
-use Rattle.kob_policy_review.specs.Alike.{AnswerAlike, principals_of, without}
 use Rattle.kob_policy_review.specs.Classes.{hosts_named, is_for, is_on, operations, principals_named, targets_named, with_principal}
-use Rattle.kob_policy_review.specs.Needed.{closing, is_super_party, met, needed, needed_by, needed_for, needed_from, needed_on, needed_to}
+use Rattle.kob_policy_review.specs.Needed.{closing, is_super_party, met, needed_by, needed_for, needed_from, needed_on, needed_to}
 use Rattle.kob_policy_review.specs.Redundancy.{is_needed, is_outside}
 use Rattle.kob_policy_review.specs.Removal.{concerned, is_needed_at, is_needed_in, without_those}
 use Rattle.kob_policy_review.specs.Sites.{LeadsToTargets, places_in}

@@ -1,5 +1,5 @@
 -- The bindings that may go together.
-use Rattle.std.specs.Prelude.{◌≡◌, ◌↔◌, Bool, List, [], ◌∷◌, ℕ, ◌==◌, ◌++◌, Contains, codes, fold, if◌then◌else◌, map, nat_lt, Option, Some, None, false}
+use Rattle.std.specs.Prelude.{◌↔◌, Bool, List, [], ◌∷◌, ℕ, ◌==◌, ◌++◌, Contains, codes, fold, if◌then◌else◌, map, nat_lt, Option, Some, None, false}
 use Rattle.std.specs.List.{filter, flat_map, list_any}
 use Rattle.kob_names.specs.Binding.{Binding}
 use Rattle.kob_names.specs.Same.{same_text}

@@ -1,4 +1,4 @@
-use Rattle.std.proofs.Common.{Contains, IfOk, List, ap, slice_get, subst, sym, ◌∙◌, ◌≡◌, ℕ}
+use Rattle.std.proofs.Common.{Contains, List, ap, slice_get, subst, sym, ◌∙◌, ℕ}
 use Rattle.std.proofs.lemmas.Result.{IfOk-weaker}
 use Rattle.std.specs.List.{list_any}
 use Rattle.kob_names.specs.Binding.{Binding}
