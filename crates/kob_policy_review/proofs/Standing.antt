@@ -332,7 +332,7 @@ names_equal (Below one) (Below other) same = ap Below ((bytes_eq-Decides one oth
 names_equal (Exactly one) (Below other) same = absurd cc
 names_equal (Below one) (Exactly other) same = absurd cc
 
-target_equal : (one other : Target) → same_target one other ≡ true → one ≡ other
+pub target_equal : (one other : Target) → same_target one other ≡ true → one ≡ other
 target_equal one other same =
     let parts = and_parts _ _ same in
     let kinds = (resource_decides one.resource other.resource).0 parts.0 in

@@ -15,6 +15,7 @@ mod shadows;
 mod sides;
 mod sites;
 mod supers;
+mod targets;
 
 pub use class::{Class, Names, Target};
 pub use difference::{Change, Outcome, changes};

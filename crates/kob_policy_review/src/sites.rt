@@ -11,8 +11,8 @@ ghost use Rattle.kob_policy_review.specs.Sites.{LeadsToTargets, places_in, with_
 use crate::class::Target;
 use crate::finder::Finder;
 use crate::gone::Gone;
-use crate::matching::targets_of;
 use crate::removal::is_needed_on;
+use crate::targets::targets_of;
 use kob_authorizer::Authorizer;
 use kob_names::Binding;
 use kob_prefix_tree::{PatternKind, PrefixTree};
