@@ -1,4 +1,4 @@
-use Rattle.std.proofs.Common.{List, [], ap, length, subst, sym, ◌++◌, ◌∙◌, ◌∷◌, ◌≡◌, ℕ}
+use Rattle.std.proofs.Common.{List, [], ap, length, subst, sym, ◌++◌, ◌∙◌, ◌∷◌, ◌≡◌}
 use Rattle.kob_policy_review.proofs.Places.{last_placed, still_placed}
 use Rattle.kob_prefix_tree.specs.Held.{PrefixMap, added}
 use Rattle.kob_prefix_tree.specs.declared.kind.PatternKind.TheVariants.{Literal}
