@@ -1,3 +1,4 @@
+pub mod Access
 pub mod Answers
 pub mod AtHand
 pub mod Lines
@@ -6,5 +7,6 @@ pub mod Options
 pub mod Outcomes
 pub mod Policy
 pub mod Questions
+pub mod Releases
 pub mod Review
 pub mod Shell

@@ -10,6 +10,7 @@ ghost use Rattle.kob_policy_text.specs.Lines.{is_foreign, is_heading, is_heading
 ghost use Rattle.kob_policy_text.specs.Lines.{is_other_property, is_property, is_skipped};
 ghost use Rattle.kob_policy_text.specs.Lines.{base_name, between_semicolons, everyone_item, held_words};
 ghost use Rattle.kob_policy_text.specs.Lines.{is_for_other_kind, is_listed, is_tool, listed_items, names_other_kind};
+ghost use Rattle.kob_policy_text.specs.Lines.{is_release, release_line};
 ghost use Rattle.kob_policy_text.specs.Lines.{only_event, property_by, property_items, rules_in};
 ghost use Rattle.kob_policy_text.specs.Lines.{rules_of, setting_items, super_item, super_line, texts_behind};
 ghost use Rattle.kob_policy_text.specs.Lines.{tool_arguments, tool_texts, words_items};
@@ -20,9 +21,10 @@ ghost use Rattle.kob_script.specs.Words.{Gives, GivesSeen, each, text_in, text_o
 ghost use Rattle.kob_script.specs.Script.{asks_clap};
 
 use crate::item::{Item, LeftOut};
-use crate::listing::{heading_item, newer_grant, older_grant};
+use crate::listing::{heading_item, known, newer_grant, older_grant};
 use crate::options::{added, rule_items};
 use crate::pieces::{around_first, first_parts, holds_mark, last_parts, trimmed};
+use crate::release::release_named;
 use crate::shell::shell_words;
 use crate::users::{OTHER_PRINCIPAL, is_other_kind, text_in, user_in};
 use kob_names::{Bytes, Host, Principal, Text};
@@ -270,6 +272,25 @@ fn super_line(alloc: Global, arguments: &[Word<'_>]) -> Result<Vec<Item>, LineEr
     }
 }
 
+fn is_release(first: &Word<'_>) -> bool
+    ensures { result ≡ is_release first.now }
+{
+    first.decoded() == b"kafka".as_slice()
+}
+
+/// `kafka VERSION`
+fn release_line(alloc: Global, arguments: &[Word<'_>]) -> Result<Vec<Item>, LineError>
+    ensures { GivesSeen (λ items. items.items) result (release_line arguments.now) }
+{
+    match arguments {
+        [version] => one(
+            alloc,
+            Item::Brokers(known(release_named(version.decoded()))?),
+        ),
+        _ => Err(LineError::Fault(FaultKind::BadLine)),
+    }
+}
+
 #[tactic(auto, unfolding(crate::specs::Lines::setting_items))]
 fn setting_items(
     alloc: Global,
@@ -361,6 +382,9 @@ fn words_items(alloc: Global, words: Vec<Word<'_>>) -> Result<Vec<Item>, LineErr
     };
     if is_setting(first) {
         return setting_items(alloc, first, arguments);
+    }
+    if is_release(first) {
+        return release_line(alloc, arguments);
     }
     let held = held_words(alloc, words)?;
     rules_of(alloc, events_of(alloc, &held, &None)?)
@@ -464,7 +488,7 @@ fn are_foreign(words: &[Word<'_>]) -> bool
 {
     match words {
         [] => false,
-        [first, ..] => !(is_setting(first) || is_creation(words)),
+        [first, ..] => !(is_setting(first) || is_release(first) || is_creation(words)),
     }
 }
 

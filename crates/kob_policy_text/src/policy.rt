@@ -15,6 +15,7 @@ ghost use Rattle.kob_script.specs.Words.{Gives, GivesSeen};
 use crate::item::{Grant, Item, LeftOut, Target};
 use crate::lines::{is_heading_line, items_of};
 use crate::origin::{Omission, Origin};
+use crate::release::Release;
 use crate::users::left_out_of;
 use bstr::ByteSlice;
 use kob_names::{
@@ -32,6 +33,7 @@ use std::marker::Model;
 pub struct Policy {
     supers: Vec<Principal>,
     everyone: bool,
+    release: Release,
     bindings: Vec<Binding>,
     origins: Vec<Origin>,
     closings: Vec<Binding>,
@@ -49,6 +51,7 @@ impl Model for Policy {
     ghost view = { λ policy. record {
       supers = policy.supers.items;
       everyone = policy.everyone;
+      release = policy.release;
       bindings = policy.bindings.items;
       origins = policy.origins.items;
       closings = policy.closings.items;
@@ -79,6 +82,7 @@ impl Policy {
         Policy {
             supers: Vec::new(alloc),
             everyone: false,
+            release: Release::Since28,
             bindings: Vec::new(alloc),
             origins: Vec::new(alloc),
             closings: Vec::new(alloc),
@@ -101,6 +105,13 @@ impl Policy {
         ensures { result ≡ self.now.everyone }
     {
         self.everyone
+    }
+
+    /// The release of the brokers, that of the last `kafka VERSION`.
+    pub fn release(&self) -> Release
+        ensures { result ≡ self.now.release }
+    {
+        self.release
     }
 
     /// The bindings, in the order in which they are read.
@@ -276,6 +287,10 @@ impl Policy {
             }
             Item::Everyone(everyone) => {
                 self.everyone = everyone;
+                Ok(())
+            }
+            Item::Brokers(release) => {
+                self.release = release;
                 Ok(())
             }
             Item::Rule(draft) => {

@@ -180,7 +180,6 @@ pub fn push_who(
     ensures { OnOk result
         (out.new.items ≡ out.old.items ++ who_text judge.now right.now host.now) }
 {
-    out.extend_from_slice(b"who\n")?;
     match host {
         Some(host) => push_from(alloc, out, judge, right, host),
         None => push_granted(alloc, out, judge, right),
@@ -234,7 +233,7 @@ pub fn push_sees(
     ensures { OnOk result (out.new.items ≡ out.old.items
         ++ sees_text judge.now topics.now asker.now) }
 {
-    out.extend_from_slice(b"topics")?;
+    out.extend_from_slice(b"  topics")?;
     push_topics(out, judge, asker, topics)?;
     out.extend_from_slice(b"\n")
 }
