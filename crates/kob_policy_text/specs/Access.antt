@@ -8,6 +8,7 @@ use Rattle.kob_names.specs.declared.kinds.Operation.TheVariants.{IdempotentWrite
 use Rattle.kob_names.specs.declared.kinds.ResourceKind.TheVariants.{TransactionalId}
 use Rattle.kob_rights.specs.Table.{Check, on_cluster, on_topic, rights}
 use Rattle.kob_policy_text.specs.Answers.{may_text, reason_text, right_text, yes_or_no}
+use Rattle.kob_policy_text.specs.Hints.{unnamed_text, untaken_text}
 use Rattle.kob_policy_text.specs.Policy.{Policy, is_yes, may}
 use Rattle.kob_policy_text.specs.declared.question.Access.{Access}
 use Rattle.kob_policy_text.specs.declared.question.Act.{Act}
@@ -31,6 +32,9 @@ idempotent_rights Since28 topic =
 abbrev pub on_transaction : List ℕ → Check
 on_transaction id = record { operation = Write; resource = TransactionalId; name = id }
 
+abbrev pub transactional_rights : List ℕ → List ℕ → List (List Check)
+transactional_rights topic id = (on_transaction id ∷ []) ∷ (on_topic Write topic ∷ []) ∷ []
+
 abbrev pub check_of : Right → Check
 check_of right =
     record { operation = right.operation; resource = right.resource; name = right.name }
@@ -40,8 +44,7 @@ abbrev pub act_rights : Release → Act → List (List Check)
 act_rights release (act.Right right) = (check_of right ∷ []) ∷ []
 act_rights release (act.Request request) = rights request
 act_rights release (act.Idempotent topic) = idempotent_rights release topic
-act_rights release (act.Transactional topic id) =
-    (on_transaction id ∷ []) ∷ (on_topic Write topic ∷ []) ∷ []
+act_rights release (act.Transactional topic id) = transactional_rights topic id
 
 abbrev pub question_on : Asker → Check → authorizer.Question
 question_on asker check =
@@ -64,6 +67,7 @@ abbrev pub check_text : Policy → ℕ → authorizer.Question → List ℕ
 check_text policy number asked =
     codes "  " ++ decimal number ++ codes " " ++ right_text asked ++ codes " "
     ++ reason_text policy (may policy asked) ++ codes "\n"
+    ++ untaken_text policy (may policy asked) asked
 
 abbrev pub clause_text : Policy → ℕ → Asker → List Check → List ℕ
 clause_text policy number asker clause =
@@ -81,18 +85,23 @@ rights_text policy asker clauses =
     codes "  " ++ yes_or_no (are_met policy asker clauses) ++ codes "\n"
     ++ clauses_text policy 1 asker clauses
 
--- the answer to one right has the binding that decides below it
+-- one right, with the binding that decides below it
+abbrev pub right_answer : Policy → authorizer.Question → List ℕ
+right_answer policy asked =
+    may_text policy (may policy asked) ++ untaken_text policy (may policy asked) asked
+
 abbrev pub act_text : Policy → Asker → Act → List ℕ
 act_text policy asker (act.Right right) =
-    may_text policy (may policy (question_on asker (check_of right)))
+    right_answer policy (question_on asker (check_of right))
 act_text policy asker (act.Request request) = rights_text policy asker (rights request)
 act_text policy asker (act.Idempotent topic) =
     rights_text policy asker (idempotent_rights policy.release topic)
-act_text policy asker (act.Transactional topic id) = rights_text policy asker
-    (act_rights policy.release (act.Transactional topic id))
+act_text policy asker (act.Transactional topic id) =
+    rights_text policy asker (transactional_rights topic id)
 
 abbrev pub access_text : Policy → Access → List ℕ
 access_text policy access = act_text policy access.asker access.act
+    ++ unnamed_text policy (is_allowed policy access) access.asker.principal
 
 -- the answer is the other one than is expected
 abbrev pub is_other_answer : Bool → Bool → Bool

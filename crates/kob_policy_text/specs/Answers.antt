@@ -1,5 +1,5 @@
 -- How answers are printed.
-use Rattle.std.specs.Prelude.{ℕ, Bool, true, false, List, [], ◌++◌, flat_map, Option, Some, None, codes, slice_get, unwrap_or, if◌then◌else◌}
+use Rattle.std.specs.Prelude.{ℕ, Bool, true, false, List, [], ◌∷◌, ◌++◌, flat_map, Option, Some, None, codes, slice_get, unwrap_or, if◌then◌else◌}
 use Rattle.std.specs.Fmt.{decimal}
 use Rattle.kob_authorizer.specs.Decide.{question_of}
 use Rattle.kob_authorizer.specs.Decide as authorizer
@@ -9,7 +9,7 @@ use Rattle.kob_names.specs.declared.kinds.ResourceKind.TheVariants.{Topic}
 use Rattle.kob_names.specs.declared.verdict.Verdict.{Verdict}
 use Rattle.kob_script.specs.Printed.{verdict_text}
 use Rattle.kob_words.specs.Words.{operation_name, resource_name, bytes_text, binding_text}
-use Rattle.kob_policy_text.specs.AtHand.{principals_at_hand}
+use Rattle.kob_policy_text.specs.AtHand.{principals_at_hand, topics_named}
 use Rattle.kob_policy_text.specs.declared.item.LeftOut.{LeftOut}
 use Rattle.kob_policy_text.specs.declared.item.LeftOut.TheVariants as left_out
 use Rattle.kob_policy_text.specs.declared.origin.Omission.{Omission}
@@ -103,9 +103,14 @@ topic_text topic = codes " " ++ bytes_text topic
 abbrev pub seen_text : Policy → Asker → List ℕ → List ℕ
 seen_text policy asker topic = if is_seen policy asker topic then topic_text topic else []
 
+-- the given topics, or those that the bindings name where none is given
+abbrev pub topics_asked : Policy → List (List ℕ) → List (List ℕ)
+topics_asked policy [] = topics_named policy.bindings
+topics_asked policy (first ∷ rest) = first ∷ rest
+
 abbrev pub sees_text : Policy → List (List ℕ) → Asker → List ℕ
 sees_text policy topics asker =
-    codes "  topics" ++ flat_map (seen_text policy asker) topics ++ codes "\n"
+    codes "  topics" ++ flat_map (seen_text policy asker) (topics_asked policy topics) ++ codes "\n"
 
 abbrev pub left_out_word : LeftOut → List ℕ
 left_out_word left_out.Resource = codes "resource"

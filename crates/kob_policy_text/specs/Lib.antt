@@ -1,6 +1,7 @@
 pub mod Access
 pub mod Answers
 pub mod AtHand
+pub mod Hints
 pub mod Lines
 pub mod Listing
 pub mod Options
@@ -10,3 +11,4 @@ pub mod Questions
 pub mod Releases
 pub mod Review
 pub mod Shell
+pub mod Summary

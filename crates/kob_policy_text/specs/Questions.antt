@@ -9,17 +9,19 @@ use Rattle.kob_script.specs.declared.fault.FaultKind.TheVariants.{BadLine, BadWo
 use Rattle.kob_script.specs.declared.fault.Fault.{Fault}
 use Rattle.kob_script.specs.Words.{◌>>=◌, text_of, principal_of, host_of, Word, words_of}
 use Rattle.kob_script.specs.Script.{lines_in}
-use Rattle.kob_words.specs.Words.{operation_named, resource_named}
+use Rattle.kob_names.specs.Same.{same_resource, same_text}
+use Rattle.kob_names.specs.declared.kinds.ResourceKind.{ResourceKind}
+use Rattle.kob_names.specs.declared.kinds.ResourceKind.TheVariants.{Cluster}
 use Rattle.kob_policy_text.specs.declared.question.Access.{Access}
 use Rattle.kob_policy_text.specs.declared.question.Act.{Act}
 use Rattle.kob_policy_text.specs.declared.question.Act.TheVariants as act
 use Rattle.kob_policy_text.specs.declared.question.Asker.{Asker}
 use Rattle.kob_policy_text.specs.declared.question.Query.{Query}
 use Rattle.kob_policy_text.specs.declared.question.Question.{Question}
-use Rattle.kob_policy_text.specs.declared.question.Question.TheVariants.{May, Expect, Who, Sees, Unused, Shadowed}
+use Rattle.kob_policy_text.specs.declared.question.Question.TheVariants.{May, Expect, Who, Sees, Summary, Unused, Shadowed}
 use Rattle.kob_policy_text.specs.declared.question.Right.{Right}
 use Rattle.kob_policy_text.specs.Lines.{only_event}
-use Rattle.kob_policy_text.specs.Listing.{trimmed}
+use Rattle.kob_policy_text.specs.Listing.{known_operation, known_resource, trimmed}
 
 unfoldable pub host_in : Word → Result (List ℕ) FaultKind
 host_in word = text_of word >>= host_of
@@ -31,13 +33,19 @@ asker_of principal host = do
   place ← host_in host
   Ok (record { principal = who; host = place })
 
+-- the cluster has one name
+abbrev pub full_name : ResourceKind → List ℕ → List ℕ
+full_name resource name =
+    if same_resource resource Cluster && same_text name (codes "cluster")
+    then codes "kafka-cluster" else name
+
 -- OPERATION RESOURCE NAME
 unfoldable pub right_of : Word → Word → Word → Result Right FaultKind
 right_of operation resource name = do
-  kind ← ok_or (operation_named operation.decoded) BadWord
-  on ← ok_or (resource_named resource.decoded) BadWord
+  kind ← ok_or (known_operation operation.decoded) BadWord
+  on ← ok_or (known_resource resource.decoded) BadWord
   text ← text_of name
-  Ok (record { operation = kind; resource = on; name = text })
+  Ok (record { operation = kind; resource = on; name = full_name on text })
 
 abbrev pub by : Asker → Act → Access
 by asker act = record { asker = asker; act = act }
@@ -103,12 +111,19 @@ is_word word text = bytes_eq word.decoded text
 -- PRINCIPAL HOST with three words more, the first of which says what is asked
 unfoldable pub may_by : List Word → Word → Word → Word → Word → Word → Result Access FaultKind
 may_by words principal host command one other =
-    if is_some (operation_named command.decoded)
+    if is_some (known_operation command.decoded)
     then may_right principal host command one other
     else (if is_word command (codes "consume") then may_consume principal host one other
     else (if not (is_word command (codes "produce")) then may_request words
     else (if is_word other (codes "idempotent")
     then may_repeat principal host one else Err BadLine)))
+
+-- PRINCIPAL HOST produce TOPIC transactional ID, or a request of six words
+unfoldable pub may_six : List Word → Word → Word → Word → Word → Word → Word
+    → Result Access FaultKind
+may_six words principal host command topic how id =
+    if is_word command (codes "produce") && is_word how (codes "transactional")
+    then may_transact principal host topic id else may_request words
 
 -- the words after `may`
 abbrev pub may_words : List Word → Result Access FaultKind
@@ -118,9 +133,7 @@ may_words (principal ∷ host ∷ command ∷ topic ∷ []) =
 may_words (principal ∷ host ∷ command ∷ one ∷ other ∷ []) =
     may_by (principal ∷ host ∷ command ∷ one ∷ other ∷ []) principal host command one other
 may_words (principal ∷ host ∷ command ∷ topic ∷ how ∷ id ∷ []) =
-    if is_word command (codes "produce") && is_word how (codes "transactional")
-    then may_transact principal host topic id
-    else may_request (principal ∷ host ∷ command ∷ topic ∷ how ∷ id ∷ [])
+    may_six (principal ∷ host ∷ command ∷ topic ∷ how ∷ id ∷ []) principal host command topic how id
 may_words words = may_request words
 
 -- `yes` or `no`
@@ -168,9 +181,10 @@ question_by first words =
     else (if is_word first (codes "expect") then expect_words words
     else (if is_word first (codes "who") then who_words words
     else (if is_word first (codes "sees") then sees_words words
+    else (if is_word first (codes "summary") then alone Summary words
     else (if is_word first (codes "unused") then alone Unused words
     else (if is_word first (codes "shadowed") then alone Shadowed words
-    else Err BadLine)))))
+    else Err BadLine))))))
 
 -- the names of topics that are given, and the questions in their order, each beside its text
 pub record Questions : Type 0 where

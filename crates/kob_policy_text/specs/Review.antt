@@ -23,10 +23,11 @@ use Rattle.kob_policy_text.specs.Access.{access_text, expect_text}
 use Rattle.kob_policy_text.specs.Answers.{from_text, line_at, line_by, reason_text, sees_text}
 use Rattle.kob_policy_text.specs.AtHand.{each_once}
 use Rattle.kob_policy_text.specs.Policy.{Policy, contents_of, place_of}
+use Rattle.kob_policy_text.specs.Summary.{summary_text}
 use Rattle.kob_policy_text.specs.Questions.{Questions}
 use Rattle.kob_policy_text.specs.declared.question.Query.{Query}
 use Rattle.kob_policy_text.specs.declared.question.Question.{Question}
-use Rattle.kob_policy_text.specs.declared.question.Question.TheVariants.{May, Expect, Who, Sees, Unused, Shadowed}
+use Rattle.kob_policy_text.specs.declared.question.Question.TheVariants.{May, Expect, Who, Sees, Summary, Unused, Shadowed}
 use Rattle.kob_policy_text.specs.declared.question.Right.{Right}
 use Rattle.kob_words.specs.Words.{bytes_text, operation_name, resource_name}
 
@@ -150,6 +151,7 @@ question_text policy topics (May access) = access_text policy access
 question_text policy topics (Expect expected access) = expect_text policy expected access
 question_text policy topics (Who right host) = who_text policy right host
 question_text policy topics (Sees asker) = sees_text policy topics asker
+question_text policy topics Summary = summary_text policy
 question_text policy topics Unused = unused_text policy
 question_text policy topics Shadowed = shadowed_text policy
 

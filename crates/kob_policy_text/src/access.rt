@@ -1,33 +1,53 @@
 //! The answers to `may`, and whether they are as expected.
 
 ghost use Rattle.std.specs.Prelude.{◌≡◌, ◌++◌, OnOk};
-ghost use Rattle.kob_policy_text.specs.Access.{access_text, any_fails};
+ghost use Rattle.kob_policy_text.specs.Access.{access_text, act_text, any_fails, right_answer};
 ghost use Rattle.kob_policy_text.specs.Access.{expect_text, fails, is_allowed, is_other_answer};
 ghost use Rattle.kob_policy_text.specs.Access.{outcome_of_expected};
 
+use crate::asked::Asked;
+use crate::hints::{push_unnamed, push_untaken};
 use crate::judge::Judge;
 use crate::printed::push_may;
-use crate::question::{Access, Act, Query, Question};
-use crate::rights::{are_met, check_of, on, push_rights, rights_of};
+use crate::question::{Access, Act, Asker, Query, Question};
+use crate::rights::{
+    are_met, check_of, idempotent_rights, on, push_rights, rights_of, transactional_rights,
+};
 use std::alloc::AllocError;
 
+#[tactic(auto, using(kob_words::proofs::Appending::appending))]
+fn push_right_answer(out: &mut Vec<u8>, judge: &Judge, asked: &Asked<'_>) -> Result<(), AllocError>
+    ensures { OnOk result (out.new.items ≡ out.old.items ++ right_answer judge.now asked.now) }
+{
+    let verdict = judge.verdict(asked);
+    push_may(out, judge, verdict)?;
+    push_untaken(out, judge.policy(), verdict, asked)
+}
+
+fn push_act(out: &mut Vec<u8>, judge: &Judge, asker: &Asker, act: &Act) -> Result<(), AllocError>
+    ensures { OnOk result (out.new.items ≡ out.old.items ++ act_text judge.now asker.now act.now) }
+{
+    match act {
+        Act::Right(right) => push_right_answer(out, judge, &on(asker, &check_of(right))),
+        Act::Request(request) => push_rights(out, judge, asker, &request.rights()),
+        Act::Idempotent(topic) => {
+            let release = judge.policy().release();
+            push_rights(out, judge, asker, &idempotent_rights(release, topic))
+        }
+        Act::Transactional(topic, id) => {
+            push_rights(out, judge, asker, &transactional_rights(topic, id))
+        }
+    }
+}
+
 /// The answer, and the bindings that decide.
+#[tactic(auto, using(kob_words::proofs::Appending::appending))]
 pub fn push_access(out: &mut Vec<u8>, judge: &Judge, access: &Access) -> Result<(), AllocError>
     ensures { OnOk result (out.new.items ≡ out.old.items ++ access_text judge.now access.now) }
 {
-    match &access.act {
-        Act::Right(right) => {
-            push_may(
-                out,
-                judge,
-                judge.verdict(&on(&access.asker, &check_of(right))),
-            )
-        }
-        act => {
-            let rights = rights_of(judge.policy().release(), act);
-            push_rights(out, judge, &access.asker, &rights)
-        }
-    }
+    push_act(out, judge, &access.asker, &access.act)?;
+    let allowed = is_allowed(judge, access);
+    push_unnamed(out, judge.policy(), allowed, &access.asker.principal)
 }
 
 fn is_allowed(judge: &Judge, access: &Access) -> bool

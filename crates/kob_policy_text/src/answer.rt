@@ -12,6 +12,7 @@ use crate::policy::Policy;
 use crate::printed::push_omission;
 use crate::question::{Query, Question, Questions};
 use crate::shadowed::push_shadowed;
+use crate::summary::push_summary;
 use crate::unused::push_unused;
 use crate::who::{push_sees, push_who};
 use kob_names::Text;
@@ -32,7 +33,8 @@ fn push_question(
         Question::May(access) => push_access(out, judge, access),
         Question::Expect(expected, access) => push_expected(out, judge, *expected, access),
         Question::Who(right, host) => push_who(alloc, out, judge, right, host),
-        Question::Sees(asker) => push_sees(out, judge, topics, asker),
+        Question::Sees(asker) => push_sees(alloc, out, judge, topics, asker),
+        Question::Summary => push_summary(alloc, out, judge),
         Question::Unused => push_unused(alloc, out, judge),
         Question::Shadowed => push_shadowed(alloc, out, judge),
     }

@@ -62,6 +62,8 @@ pub enum Question {
     Who(Right, Option<Host>),
     /// Which topics may this principal describe?
     Sees(Asker),
+    /// How many are there of what the policy has?
+    Summary,
     /// Which bindings does no other need?
     Unused,
     /// Which allows does a deny always beat?
@@ -204,7 +206,7 @@ fn read_lines(
 }
 
 /// Reads questions, a line each, after those that were read before: `may`, `expect`, `who`, `sees`,
-/// `unused` and `shadowed`, and `topic` with a name that is given. The error is the first line with a fault,
+/// `summary`, `unused` and `shadowed`, and `topic` with a name that is given. The error is the first line with a fault,
 /// or out of memory.
 pub fn read_questions(
     alloc: Global,

@@ -1,23 +1,22 @@
 //! What the words of a question ask.
 
-ghost use Rattle.std.specs.Prelude.{◌≡◌};
+ghost use Rattle.std.specs.Prelude.{◌≡◌, IfOk};
 ghost use Rattle.kob_policy_text.specs.Questions.{access_of, alone, asker_of, expect_words, expected_by};
-ghost use Rattle.kob_policy_text.specs.Questions.{expects, host_in, may_repeat, may_transact};
+ghost use Rattle.kob_policy_text.specs.Questions.{expects, full_name, host_in, may_repeat, may_transact};
 ghost use Rattle.kob_policy_text.specs.Questions.{is_word, may_by, may_consume, may_produce, may_request};
 ghost use Rattle.kob_policy_text.specs.Questions.{may_right, may_words, produces, question_by};
 ghost use Rattle.kob_policy_text.specs.Questions.{right_of, sees_words, who_words};
 ghost use Rattle.kob_script.specs.Words.{Gives};
 
 use crate::lines::only_event;
-use crate::listing::known;
+use crate::listing::{known, known_operation, known_resource};
 use crate::question::{Access, Act, Asker, Question, Right};
-use kob_names::{Batch, Host, Items, Text};
+use kob_names::{Batch, Host, Items, ResourceKind, Text};
 use kob_rights::{Event, OffsetCommit, Produce, Request};
 use kob_script::{
     FaultKind, LineError, Word, events_of, host_of, lent_text_of, principal_of, text_of,
 };
-use kob_words::{operation_named, resource_named};
-use std::alloc::Global;
+use std::alloc::{AllocError, Global};
 
 /// Whether the word is a text.
 pub fn is_word(word: &Word<'_>, text: &[u8]) -> bool
@@ -43,6 +42,17 @@ fn asker_of(alloc: Global, principal: &Word<'_>, host: &Word<'_>) -> Result<Aske
     Ok(Asker { principal, host })
 }
 
+/// The name, which for the cluster may be `cluster`.
+fn full_name(alloc: Global, resource: ResourceKind, name: Text) -> Result<Text, AllocError>
+    ensures { IfOk result (λ made. made ≡ full_name resource name) }
+{
+    if resource == ResourceKind::Cluster && name.as_str() == "cluster" {
+        drop(name);
+        return Text::copied(alloc, "kafka-cluster");
+    }
+    Ok(name)
+}
+
 #[tactic(auto, unfolding(crate::specs::Questions::right_of))]
 fn right_of(
     alloc: Global,
@@ -52,9 +62,9 @@ fn right_of(
 ) -> Result<Right, LineError>
     ensures { Gives result (right_of operation.now resource.now name.now) }
 {
-    let operation = known(operation_named(operation.decoded()))?;
-    let resource = known(resource_named(resource.decoded()))?;
-    let name = text_of(alloc, name)?;
+    let operation = known(known_operation(operation.decoded()))?;
+    let resource = known(known_resource(resource.decoded()))?;
+    let name = full_name(alloc, resource, text_of(alloc, name)?)?;
     Ok(Right {
         operation,
         resource,
@@ -208,7 +218,7 @@ fn may_by(
     ensures { Gives result
         (may_by words.now principal.now host.now command.now one.now other.now) }
 {
-    if operation_named(command.decoded()).is_some() {
+    if known_operation(command.decoded()).is_some() {
         may_right(alloc, principal, host, command, one, other)
     } else if is_word(command, b"consume") {
         may_consume(alloc, principal, host, one, other)
@@ -324,6 +334,8 @@ pub fn question_by(
         who_words(alloc, words)
     } else if is_word(first, b"sees") {
         sees_words(alloc, words)
+    } else if is_word(first, b"summary") {
+        alone(Question::Summary, words)
     } else if is_word(first, b"unused") {
         alone(Question::Unused, words)
     } else if is_word(first, b"shadowed") {

@@ -3,10 +3,11 @@
 ghost use Rattle.std.specs.Prelude.{◌≡◌, ◌++◌, OnOk};
 ghost use Rattle.kob_policy_text.specs.Access.{act_rights, are_met, check_of, check_text, clause_text};
 ghost use Rattle.kob_policy_text.specs.Access.{clauses_text, idempotent_rights, is_clause_met};
-ghost use Rattle.kob_policy_text.specs.Access.{on_transaction, question_on, rights_text};
+ghost use Rattle.kob_policy_text.specs.Access.{on_transaction, question_on, rights_text, transactional_rights};
 ghost use Rattle.kob_rights.specs.Table.{check_view, clause_view, on_cluster, on_topic, rights_view};
 
 use crate::asked::Asked;
+use crate::hints::push_untaken;
 use crate::judge::Judge;
 use crate::printed::{push_reason, push_right, push_yes_or_no};
 use crate::question::{Act, Asker, Right};
@@ -59,7 +60,7 @@ pub fn check_of(right: &Right) -> Check<'_>
 
 /// Before 2.8 a right on the cluster, since then that or Write on some topic (KIP-679), which Write
 /// on the topic is; and Write on the topic.
-fn idempotent_rights(release: Release, topic: &Text) -> Rights<'_>
+pub fn idempotent_rights(release: Release, topic: &Text) -> Rights<'_>
     ensures { rights_view result ≡ idempotent_rights release topic.entry.now }
 {
     let start = match release {
@@ -67,6 +68,13 @@ fn idempotent_rights(release: Release, topic: &Text) -> Rights<'_>
         Release::Since28 => Clause::Either(idempotent_write(), write_on(topic)),
     };
     Rights::Both(start, Clause::Only(write_on(topic)))
+}
+
+/// Write on the transactional id, and Write on the topic.
+pub fn transactional_rights<'a>(topic: &'a Text, id: &'a Text) -> Rights<'a>
+    ensures { rights_view result ≡ transactional_rights topic.entry.now id.entry.now }
+{
+    Rights::Both(Clause::Only(write_in(id)), Clause::Only(write_on(topic)))
 }
 
 /// The rights that an act needs of brokers of a release.
@@ -77,10 +85,7 @@ pub fn rights_of(release: Release, act: &Act) -> Rights<'_>
         Act::Right(right) => Rights::One(Clause::Only(check_of(right))),
         Act::Request(request) => request.rights(),
         Act::Idempotent(topic) => idempotent_rights(release, topic),
-        Act::Transactional(topic, id) => Rights::Both(
-            Clause::Only(write_in(id)),
-            Clause::Only(write_on(topic)),
-        ),
+        Act::Transactional(topic, id) => transactional_rights(topic, id),
     }
 }
 
@@ -112,8 +117,10 @@ fn push_check(
     out.extend_from_slice(b" ")?;
     push_right(out, asked)?;
     out.extend_from_slice(b" ")?;
-    push_reason(out, judge, judge.verdict(asked))?;
-    out.extend_from_slice(b"\n")
+    let verdict = judge.verdict(asked);
+    push_reason(out, judge, verdict)?;
+    out.extend_from_slice(b"\n")?;
+    push_untaken(out, judge.policy(), verdict, asked)
 }
 
 #[tactic(auto, using(kob_words::proofs::Appending::appending))]
