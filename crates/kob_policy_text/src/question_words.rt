@@ -2,7 +2,7 @@
 
 ghost use Rattle.std.specs.Prelude.{◌≡◌, IfOk};
 ghost use Rattle.kob_policy_text.specs.Questions.{access_of, alone, asker_of, expect_words, expected_by};
-ghost use Rattle.kob_policy_text.specs.Questions.{expects, full_name, host_in, may_repeat, may_transact};
+ghost use Rattle.kob_policy_text.specs.Questions.{expects, full_name, host_in, may_repeat, may_six, may_transact};
 ghost use Rattle.kob_policy_text.specs.Questions.{is_word, may_by, may_consume, may_produce, may_request};
 ghost use Rattle.kob_policy_text.specs.Questions.{may_right, may_words, produces, question_by};
 ghost use Rattle.kob_policy_text.specs.Questions.{right_of, sees_words, who_words};
@@ -231,6 +231,27 @@ fn may_by(
     }
 }
 
+#[tactic(auto, unfolding(crate::specs::Questions::may_six))]
+fn may_six(
+    alloc: Global,
+    words: &[Word<'_>],
+    principal: &Word<'_>,
+    host: &Word<'_>,
+    command: &Word<'_>,
+    topic: &Word<'_>,
+    how: &Word<'_>,
+    id: &Word<'_>,
+) -> Result<Access, LineError>
+    ensures { Gives result
+        (may_six words.now principal.now host.now command.now topic.now how.now id.now) }
+{
+    if is_word(command, b"produce") && is_word(how, b"transactional") {
+        may_transact(alloc, principal, host, topic, id)
+    } else {
+        may_request(alloc, words)
+    }
+}
+
 fn may_words(alloc: Global, words: &[Word<'_>]) -> Result<Access, LineError>
     ensures { Gives result (may_words words.now) }
 {
@@ -241,9 +262,8 @@ fn may_words(alloc: Global, words: &[Word<'_>]) -> Result<Access, LineError>
         [principal, host, command, one, other] => {
             may_by(alloc, words, principal, host, command, one, other)
         }
-        [principal, host, command, topic, how, id]
-            if is_word(command, b"produce") && is_word(how, b"transactional") => {
-            may_transact(alloc, principal, host, topic, id)
+        [principal, host, command, topic, how, id] => {
+            may_six(alloc, words, principal, host, command, topic, how, id)
         }
         _ => may_request(alloc, words),
     }
