@@ -76,7 +76,8 @@ Questions, each one word of the command line or one line:
   who OPERATION RESOURCE NAME           super users, and each principal and host that is granted
   who OPERATION RESOURCE NAME HOST      yes or no for each principal that a binding names
   sees PRINCIPAL HOST                   the topics that it may describe
-  topic NAME                            a topic for sees
+  topic NAME                            a topic for sees, in place of those of the list
+  summary                               how many of each there are; asked if nothing else is
   unused                                bindings that no answer needs, and why
   shadowed                              allows that a deny always beats
 

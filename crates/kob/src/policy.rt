@@ -121,7 +121,8 @@ fn answer_part<R: AllocGlobal + Files + Input + Eprint>(
     }
 }
 
-/// The questions of the files, and then those of the words.
+/// The questions of the files, and then those of the words. A list of which nothing is asked is
+/// summed up.
 fn push_questions<R: AllocGlobal + Files + Input + Eprint>(
     rt: &R,
     out: &mut Vec<u8>,
@@ -143,6 +144,10 @@ fn push_questions<R: AllocGlobal + Files + Input + Eprint>(
         let text = word.as_str().as_bytes();
         let read = read_questions(alloc, questions, text);
         unless_fault(rt, out, &questions_in(word.as_str(), text), read)?;
+    }
+    if options.before.is_empty() && questions.asked().is_empty() {
+        let read = read_questions(alloc, questions, b"summary");
+        unless_fault(rt, out, &questions_in("summary", b"summary"), read)?;
     }
     Ok(())
 }

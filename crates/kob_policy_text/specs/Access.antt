@@ -63,11 +63,14 @@ abbrev pub is_allowed : Policy → Access → Bool
 is_allowed policy access = are_met policy access.asker (act_rights policy.release access.act)
 
 -- a right with its answer, behind the number of its clause
-abbrev pub check_text : Policy → ℕ → authorizer.Question → List ℕ
-check_text policy number asked =
+unfoldable pub check_line : Policy → ℕ → authorizer.Question → List ℕ
+check_line policy number asked =
     codes "  " ++ decimal number ++ codes " " ++ right_text asked ++ codes " "
     ++ reason_text policy (may policy asked) ++ codes "\n"
-    ++ untaken_text policy (may policy asked) asked
+
+unfoldable pub check_text : Policy → ℕ → authorizer.Question → List ℕ
+check_text policy number asked =
+    check_line policy number asked ++ untaken_text policy (may policy asked) asked
 
 abbrev pub clause_text : Policy → ℕ → Asker → List Check → List ℕ
 clause_text policy number asker clause =

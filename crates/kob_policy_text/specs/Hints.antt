@@ -18,15 +18,20 @@ abbrev pub takes : authorizer.Question → Binding → Bool
 takes asked binding =
     same_resource binding.resource asked.resource && matches binding.pattern asked.name
 
+-- the pattern of a left out binding counts
 abbrev pub is_taken : Policy → authorizer.Question → Bool
-is_taken policy asked = list_any (takes asked) policy.bindings
+is_taken policy asked =
+    list_any (takes asked) policy.bindings || list_any (takes asked) policy.closings
+
+unfoldable pub told_text : List ℕ → List ℕ → List ℕ
+told_text what name = what ++ bytes_text name ++ codes "\n"
 
 abbrev pub untaken_text : Policy → Verdict → authorizer.Question → List ℕ
 untaken_text policy verdict asked =
     if is_granted verdict || is_taken policy asked then []
-    else codes "    no pattern takes " ++ bytes_text asked.name ++ codes "\n"
+    else told_text (codes "    no pattern takes ") asked.name
 
 abbrev pub unnamed_text : Policy → Bool → List ℕ → List ℕ
 unnamed_text policy allowed principal =
     if allowed || is_named policy principal then []
-    else codes "    no binding names " ++ bytes_text principal ++ codes "\n"
+    else told_text (codes "    no binding names ") principal

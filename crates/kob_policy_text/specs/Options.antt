@@ -102,8 +102,10 @@ without_ids args = record args { transactional_ids = [] }
 abbrev pub ids_alone : CliArgs → CliArgs
 ids_alone args = record args {
   producer = false;
+  consumer = false;
   idempotent = false;
   topics = [];
+  groups = [];
   operations = codes "Write" ∷ codes "Describe" ∷ [];
 }
 

@@ -8,7 +8,7 @@ use Rattle.kob_policy_review.specs.declared.redundant.Unneeded.{Unneeded}
 use Rattle.kob_policy_text.specs.AtHand.{each_once, hosts_named, names_named, principals_named}
 use Rattle.kob_policy_text.specs.Policy.{Policy, contents_of, place_of}
 
-abbrev pub count_line : List ℕ → ℕ → List ℕ
+unfoldable pub count_line : List ℕ → ℕ → List ℕ
 count_line what count = codes "  " ++ what ++ codes " " ++ decimal count ++ codes "\n"
 
 -- nothing is told of what a left out binding closes
@@ -19,26 +19,26 @@ abbrev pub unused_count : Policy → ℕ
 unused_count policy = length (filter (is_told policy) (unused_in (contents_of policy)))
 
 -- who is named
-abbrev pub parties_text : Policy → List ℕ
+unfoldable pub parties_text : Policy → List ℕ
 parties_text policy =
     count_line (codes "super-users") (length (each_once policy.supers))
     ++ count_line (codes "principals") (length (principals_named policy.bindings))
     ++ count_line (codes "hosts") (length (hosts_named policy.bindings))
 
 -- what patterns name
-abbrev pub patterns_text : Policy → List ℕ
+unfoldable pub patterns_text : Policy → List ℕ
 patterns_text policy =
     count_line (codes "topics") (length (names_named Topic policy.bindings))
     ++ count_line (codes "groups") (length (names_named Group policy.bindings))
     ++ count_line (codes "transactional-ids") (length (names_named TransactionalId policy.bindings))
 
 -- what does nothing
-abbrev pub idle_text : Policy → List ℕ
+unfoldable pub idle_text : Policy → List ℕ
 idle_text policy =
     count_line (codes "unused") (unused_count policy)
     ++ count_line (codes "shadowed") (length (shadowed_in (contents_of policy)))
 
-abbrev pub summary_text : Policy → List ℕ
+unfoldable pub summary_text : Policy → List ℕ
 summary_text policy =
     count_line (codes "bindings") (length policy.bindings) ++ parties_text policy
     ++ patterns_text policy ++ count_line (codes "left-out") (length policy.omissions)

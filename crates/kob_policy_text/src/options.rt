@@ -246,7 +246,9 @@ fn leave_ids(alloc: Global, args: &mut CliArgs) -> Result<(), AllocError>
 {
     args.operations = on_ids(alloc)?;
     args.topics = Items::from_vec(Vec::new(alloc));
+    args.groups = Items::from_vec(Vec::new(alloc));
     args.producer = false;
+    args.consumer = false;
     args.idempotent = false;
     Ok(())
 }

@@ -1,8 +1,8 @@
 //! The rights that an act needs, each clause with its answers.
 
 ghost use Rattle.std.specs.Prelude.{◌≡◌, ◌++◌, OnOk};
-ghost use Rattle.kob_policy_text.specs.Access.{act_rights, are_met, check_of, check_text, clause_text};
-ghost use Rattle.kob_policy_text.specs.Access.{clauses_text, idempotent_rights, is_clause_met};
+ghost use Rattle.kob_policy_text.specs.Access.{act_rights, are_met, check_line, check_of, check_text};
+ghost use Rattle.kob_policy_text.specs.Access.{clause_text, clauses_text, idempotent_rights, is_clause_met};
 ghost use Rattle.kob_policy_text.specs.Access.{on_transaction, question_on, rights_text, transactional_rights};
 ghost use Rattle.kob_rights.specs.Table.{check_view, clause_view, on_cluster, on_topic, rights_view};
 
@@ -102,7 +102,26 @@ pub fn on<'a>(asker: &'a Asker, check: &Check<'a>) -> Asked<'a>
     }
 }
 
-#[tactic(auto, using(kob_words::proofs::Appending::appending))]
+#[tactic(auto, using(kob_words::proofs::Appending::appending), unfolding(crate::specs::Access::check_line))]
+fn push_check_line(
+    out: &mut Vec<u8>,
+    judge: &Judge,
+    number: u64,
+    asked: &Asked<'_>,
+) -> Result<(), AllocError>
+    ensures { OnOk result (out.new.items ≡ out.old.items
+        ++ check_line judge.now number asked.now) }
+{
+    out.extend_from_slice(b"  ")?;
+    push_number(out, number)?;
+    out.extend_from_slice(b" ")?;
+    push_right(out, asked)?;
+    out.extend_from_slice(b" ")?;
+    push_reason(out, judge, judge.verdict(asked))?;
+    out.extend_from_slice(b"\n")
+}
+
+#[tactic(auto, using(kob_words::proofs::Appending::appending), unfolding(crate::specs::Access::check_text))]
 fn push_check(
     out: &mut Vec<u8>,
     judge: &Judge,
@@ -112,15 +131,8 @@ fn push_check(
     ensures { OnOk result (out.new.items ≡ out.old.items
         ++ check_text judge.now number asked.now) }
 {
-    out.extend_from_slice(b"  ")?;
-    push_number(out, number)?;
-    out.extend_from_slice(b" ")?;
-    push_right(out, asked)?;
-    out.extend_from_slice(b" ")?;
-    let verdict = judge.verdict(asked);
-    push_reason(out, judge, verdict)?;
-    out.extend_from_slice(b"\n")?;
-    push_untaken(out, judge.policy(), verdict, asked)
+    push_check_line(out, judge, number, asked)?;
+    push_untaken(out, judge.policy(), judge.verdict(asked), asked)
 }
 
 #[tactic(auto, using(kob_words::proofs::Appending::appending))]

@@ -11,7 +11,7 @@ use kob_policy_review::{Unneeded, shadowed, unused};
 use kob_words::push_number;
 use std::alloc::{AllocError, Global};
 
-#[tactic(auto, using(kob_words::proofs::Appending::appending))]
+#[tactic(auto, using(kob_words::proofs::Appending::appending), unfolding(crate::specs::Summary::count_line))]
 fn push_count(out: &mut Vec<u8>, what: &str, count: usize) -> Result<(), AllocError>
     ensures { OnOk result (out.new.items ≡ out.old.items ++ count_line what.now count) }
 {
@@ -22,7 +22,7 @@ fn push_count(out: &mut Vec<u8>, what: &str, count: usize) -> Result<(), AllocEr
     out.extend_from_slice(b"\n")
 }
 
-#[tactic(auto, using(kob_words::proofs::Appending::appending))]
+#[tactic(auto, using(kob_words::proofs::Appending::appending), unfolding(crate::specs::Summary::parties_text))]
 fn push_parties(alloc: Global, out: &mut Vec<u8>, judge: &Judge) -> Result<(), AllocError>
     ensures { OnOk result (out.new.items ≡ out.old.items ++ parties_text judge.now) }
 {
@@ -35,7 +35,7 @@ fn push_parties(alloc: Global, out: &mut Vec<u8>, judge: &Judge) -> Result<(), A
     push_count(out, "hosts", hosts.len())
 }
 
-#[tactic(auto, using(kob_words::proofs::Appending::appending))]
+#[tactic(auto, using(kob_words::proofs::Appending::appending), unfolding(crate::specs::Summary::patterns_text))]
 fn push_patterns(alloc: Global, out: &mut Vec<u8>, judge: &Judge) -> Result<(), AllocError>
     ensures { OnOk result (out.new.items ≡ out.old.items ++ patterns_text judge.now) }
 {
@@ -60,7 +60,7 @@ fn told(judge: &Judge, found: &[Unneeded]) -> usize
     found.iter().filter(|one| is_told(judge, one)).count()
 }
 
-#[tactic(auto, using(kob_words::proofs::Appending::appending))]
+#[tactic(auto, using(kob_words::proofs::Appending::appending), unfolding(crate::specs::Summary::idle_text))]
 fn push_idle(alloc: Global, out: &mut Vec<u8>, judge: &Judge) -> Result<(), AllocError>
     ensures { OnOk result (out.new.items ≡ out.old.items ++ idle_text judge.now) }
 {
@@ -71,7 +71,7 @@ fn push_idle(alloc: Global, out: &mut Vec<u8>, judge: &Judge) -> Result<(), Allo
 }
 
 /// Prints how many bindings there are, whom and what they name, and how many do nothing.
-#[tactic(auto, using(kob_words::proofs::Appending::appending))]
+#[tactic(auto, using(kob_words::proofs::Appending::appending), unfolding(crate::specs::Summary::summary_text))]
 pub fn push_summary(alloc: Global, out: &mut Vec<u8>, judge: &Judge) -> Result<(), AllocError>
     ensures { OnOk result (out.new.items ≡ out.old.items ++ summary_text judge.now) }
 {
