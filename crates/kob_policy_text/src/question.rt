@@ -7,8 +7,8 @@ ghost use Rattle.kob_policy_text.specs.Questions.{with_questions, with_topics, w
 ghost use Rattle.kob_script.specs.Words.{GivesSeen};
 
 use crate::pieces::trimmed;
-use crate::policy::fault_at;
 use crate::question_words::{is_word, question_by};
+use crate::reading::fault_at;
 use bstr::ByteSlice;
 use kob_names::{Bytes, Host, Operation, Principal, ResourceKind, Text};
 use kob_rights::Request;

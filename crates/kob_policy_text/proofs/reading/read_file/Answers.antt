@@ -1,6 +1,6 @@
 use Rattle.kob_policy_text.proofs.Words.{ap, arith, length, suc, ◌+◌, ◌≡◌}
 use Rattle.kob_policy_text.proofs.Making.{line_keeps, lines_end, stopped}
-use Rattle.kob_policy_text.proofs.policy.read_file.Goals as goal
+use Rattle.kob_policy_text.proofs.reading.read_file.Goals as goal
 
 pub loop-line-preserved : goal.loop-line-preserved
 loop-line-preserved c =

@@ -1,6 +1,6 @@
 use Rattle.kob_policy_text.proofs.Words.{err_from_is_err_and}
 use Rattle.kob_policy_text.proofs.Making.{line_made, line_unread}
-use Rattle.kob_policy_text.proofs.policy.add_line.Goals as goal
+use Rattle.kob_policy_text.proofs.reading.add_line.Goals as goal
 
 pub returns-in_err-items : goal.returns-in_err-items
 returns-in_err-items c =

@@ -1,5 +1,5 @@
 use Rattle.kob_policy_text.proofs.Words.{List, YieldsList-at, YieldsList-from_filter, YieldsList-from_slice_split, length, map_from_collect, nat_lt, rules, tests, ℕ, ◌==◌}
-use Rattle.kob_policy_text.proofs.lines.between_semicolons.Goals as goal
+use Rattle.kob_policy_text.proofs.properties.between_semicolons.Goals as goal
 
 pub returns : goal.returns
 returns c =

@@ -1,6 +1,6 @@
 use Rattle.kob_policy_text.proofs.Words.{ap, arith, err_from_is_err_and, into_iter_items, length, nil_from_length, suc, ◌≡◌}
 use Rattle.kob_policy_text.proofs.Making.{item_keeps, item_fails, items_end}
-use Rattle.kob_policy_text.proofs.policy.add_items.Goals as goal
+use Rattle.kob_policy_text.proofs.reading.add_items.Goals as goal
 
 pub loop-item-preserved : goal.loop-item-preserved
 loop-item-preserved c =

@@ -1,5 +1,5 @@
 use Rattle.kob_policy_text.proofs.Words.{arith, each_ends, each_fails, each_keeps, err_from_is_err_and, text_in}
-use Rattle.kob_policy_text.proofs.lines.texts_in.Goals as goal
+use Rattle.kob_policy_text.proofs.tool.texts_in.Goals as goal
 
 pub returns-in_err-text : goal.returns-in_err-text
 returns-in_err-text c =

@@ -1,5 +1,5 @@
 use Rattle.kob_policy_text.proofs.Words.{Bor, List, arith, each_ends, each_fails, each_fails_map, each_keeps, each_map, err_from_is_err_and, refl, super_item, trimmed, ℕ}
-use Rattle.kob_policy_text.proofs.lines.super_items.Goals as goal
+use Rattle.kob_policy_text.proofs.properties.super_items.Goals as goal
 
 pub returns-in_err-item : goal.returns-in_err-item
 returns-in_err-item c =
