@@ -1,5 +1,5 @@
 -- How the bindings are printed that may go together.
-use Rattle.std.specs.Prelude.{List, Some, ℕ, ◌++◌, codes, flat_map}
+use Rattle.std.specs.Prelude.{List, Some, ℕ, flat_map}
 use Rattle.kob_policy_review.specs.Removal.{removable_in}
 use Rattle.kob_policy_text.specs.Answers.{line_by}
 use Rattle.kob_policy_text.specs.Policy.{Policy, contents_of}
@@ -11,4 +11,4 @@ removable_line policy serial = line_by policy (Some serial)
 -- the bindings that may go together
 abbrev pub removable_text : Policy → List ℕ
 removable_text policy =
-    codes "removable\n" ++ flat_map (removable_line policy) (removable_in (contents_of policy))
+    flat_map (removable_line policy) (removable_in (contents_of policy))

@@ -32,6 +32,5 @@ pub fn push_removable(alloc: Global, out: &mut Vec<u8>, judge: &Judge) -> Result
     ensures { OnOk result (out.new.items ≡ out.old.items ++ removable_text judge.now) }
 {
     let found = removable(alloc, judge.authorizer())?;
-    out.extend_from_slice(b"removable\n")?;
     push_each(out, judge, &found)
 }
