@@ -22,7 +22,7 @@ Plays scenes: scripts with services, consumers and their steps.
 usage: kob play [--trace | --json] [FILE]...
 
   FILE              plays FILE; - or none: standard input. With several, == FILE comes before each
-  --trace           prints > and each line before its answers, and what a denied request needs;
+  --trace           prints > and each line before its answers, and what a request lacked;
                     the default on a terminal
   --json            prints an object for each line of an answer, with the line of the scene
   -h, --help        prints this page; kob help scene prints the language of scenes
