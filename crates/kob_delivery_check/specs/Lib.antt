@@ -1,0 +1,4 @@
+pub mod Fates
+pub mod Logs
+pub mod Printed
+pub mod Reaches
