@@ -1,14 +1,13 @@
 //! Where an event is.
 
-ghost use Rattle.std.specs.Prelude.{◌≡◌, ◌==◌, ℕ, IfOk, nat_eq};
+ghost use Rattle.std.specs.Prelude.{◌≡◌, ◌==◌, nat_eq};
 ghost use Rattle.std.specs.HashSet.{contains};
-ghost use Rattle.std.specs.List.{find, list_any};
+ghost use Rattle.std.specs.List.{find};
 ghost use Rattle.std.specs.Option.{option_copied};
-ghost use Rattle.kob_delivery_check.specs.Fates.{fate, fate_ahead, is_delivered, is_lost};
+ghost use Rattle.kob_delivery_check.specs.Fates.{fate_ahead, fate_by, is_delivered, is_lost};
 ghost use Rattle.kob_delivery_check.specs.Fates.{is_waiting};
 
 use crate::reach::Stored;
-use std::alloc::{AllocError, Global};
 use std::collections::HashSet;
 
 /// Where an event is.
@@ -25,26 +24,20 @@ pub enum Fate {
     Lost,
 }
 
-/// Which events are in the inbox, which are before the consumer, and which are in the outbox after
-/// the mark.
-#[derive(Drop)]
-pub struct Whereabouts {
-    pub taken: HashSet<u128>,
-    pub ahead: Vec<Stored>,
-    pub waiting: HashSet<u128>,
-}
-
-impl Whereabouts {
-    /// Where the event with this id is.
-    pub fn fate(&self, event: u128) -> Fate
-        ensures { result ≡ fate (contains nat_eq self.now.taken) self.now.ahead.items
-            (contains nat_eq self.now.waiting) event }
-    {
-        if self.taken.contains(&event) {
-            return Fate::Delivered;
-        }
-        fate_ahead(first_of(&self.ahead, event), self.waiting.contains(&event))
+/// Where the event with this id is.
+pub(crate) fn fate_by(
+    taken: &HashSet<u128>,
+    ahead: &[Stored],
+    waiting: &HashSet<u128>,
+    event: u128,
+) -> Fate
+    ensures { result ≡ fate_by (contains nat_eq taken.now event) ahead.now
+        (contains nat_eq waiting.now event) event }
+{
+    if taken.contains(&event) {
+        return Fate::Delivered;
     }
+    fate_ahead(first_of(ahead, event), waiting.contains(&event))
 }
 
 fn fate_ahead(stored: Option<&Stored>, waits: bool) -> Fate
@@ -94,16 +87,4 @@ impl Fate {
             _ => false,
         }
     }
-}
-
-/// The set of these ids. The error is out of memory.
-pub fn id_set(alloc: Global, ids: &[u128]) -> Result<HashSet<u128>, AllocError>
-    ensures { IfOk result (λ set. (id : ℕ) → contains nat_eq set id
-        ≡ list_any (λ other. other == id) ids.now) }
-{
-    let mut set = HashSet::new(alloc);
-    for id in ids {
-        set.insert(*id)?;
-    }
-    Ok(set)
 }
