@@ -1,8 +1,9 @@
 -- Where an event is.
-use Rattle.std.specs.Prelude.{ℕ, ◌==◌, Bool, true, false, List, Option, None, Some, if◌then◌else◌}
+use Rattle.std.specs.Prelude.{ℕ, ◌==◌, Bool, true, false, List, map, Option, None, Some, if◌then◌else◌}
 use Rattle.std.specs.List.{find, list_any}
 use Rattle.kob_delivery_check.specs.Logs.{number_of}
 use Rattle.kob_inbox.specs.declared.inbox_row.InboxRow.{InboxRow}
+use Rattle.kob_outbox.specs.declared.event.OutboxEvent.{OutboxEvent}
 use Rattle.kob_outbox.specs.declared.event.Row.{Row}
 use Rattle.kob_delivery_check.specs.declared.fate.Fate.{Fate}
 use Rattle.kob_delivery_check.specs.declared.fate.Fate.TheVariants.{Delivered, Ahead, Outbox, Lost}
@@ -33,6 +34,11 @@ is_in_outbox rows id = list_any (λ row. number_of row.event.id == id) rows
 abbrev pub fate_of : List InboxRow → List Stored → List Row → List ℕ → Fate
 fate_of taken ahead waiting id =
     fate_by (is_in_inbox taken (number_of id)) ahead (is_in_outbox waiting (number_of id)) (number_of id)
+
+-- where each of these events is
+abbrev pub fates_by : List InboxRow → List Stored → List Row → List OutboxEvent → List Fate
+fates_by taken ahead waiting events =
+    map (λ event. fate_of taken ahead waiting event.id) events
 
 abbrev pub is_delivered : Fate → Bool
 is_delivered Delivered = true

@@ -3,7 +3,7 @@
 ghost use Rattle.std.specs.Prelude.{◌≡◌, ◌==◌, ℕ, IfOk, map, nat_eq};
 ghost use Rattle.std.specs.HashSet.{contains};
 ghost use Rattle.std.specs.List.{list_any};
-ghost use Rattle.kob_delivery_check.specs.Fates.{fate_of, is_in_inbox, is_in_outbox};
+ghost use Rattle.kob_delivery_check.specs.Fates.{fates_by, is_in_inbox, is_in_outbox};
 ghost use Rattle.kob_delivery_check.specs.Logs.{number_of};
 
 use crate::fate::{Fate, fate_by};
@@ -24,8 +24,7 @@ pub fn fates_of(
     waiting: &[Row],
 ) -> Result<Vec<Fate>, AllocError>
     ensures { IfOk result (λ fates. fates.items
-        ≡ map (λ event. fate_of taken.now ahead.now waiting.now event.id)
-        (map (λ event. event.now) events.now)) }
+        ≡ fates_by taken.now ahead.now waiting.now (map (λ event. event.now) events.now)) }
 {
     let taken = ids_of_inbox(alloc, taken)?;
     let waiting = ids_of_outbox(alloc, waiting)?;

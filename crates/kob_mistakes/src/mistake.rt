@@ -60,7 +60,7 @@ fn place_of(
     if line.starts_with(b"\xef\xbb\xbf") {
         return Ok(0);
     }
-    if let (SceneFaultKind::UnknownWorker, [b"law", service, ..]) = (kind, raw) {
+    if let (SceneFaultKind::UnknownWorker, [b"law" | b"check", service, ..]) = (kind, raw) {
         return Ok(if declares(text, b"service", service) {
             2
         } else {
@@ -113,7 +113,7 @@ fn is_request(text: &[u8], words: &[Word<'_>]) -> bool {
 
 /// Whether a word begins a setting or a declaration.
 fn begins(first: &[u8]) -> bool {
-    ["super", "everyone", "service", "consumer", "journal", "law"]
+    ["super", "everyone", "service", "consumer", "journal", "law", "check"]
         .iter()
         .any(|name| name.as_bytes() == first)
 }
