@@ -107,6 +107,7 @@ hexadecimal digits stand for a byte. A line that begins with # is a comment.
     NAME tick [lose-request|lose-reply]     NAME run    NAME restart    NAME inbox
   journal               every request that was served, with its reply
   law SERVICE CONSUMER  whether the laws of delivery apply to the two
+  check SERVICE CONSUMER    which events are delivered, which wait, and which are lost
 ";
 
 /// The page on a subject, the general one for none.

@@ -60,7 +60,7 @@ fn place_of(
     if line.starts_with(b"\xef\xbb\xbf") {
         return Ok(0);
     }
-    if let (SceneFaultKind::UnknownWorker, [b"law", service, ..]) = (kind, raw) {
+    if let (SceneFaultKind::UnknownWorker, [b"law" | b"check", service, ..]) = (kind, raw) {
         return Ok(if declares(text, b"service", service) {
             2
         } else {

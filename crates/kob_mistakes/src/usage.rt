@@ -50,7 +50,7 @@ static REQUESTS: [(&str, &str); 16] = [
 ];
 
 /// The lines that begin with a word of their own.
-static LINES: [(&str, &str); 6] = [
+static LINES: [(&str, &str); 7] = [
     ("super", "super PRINCIPAL"),
     ("everyone", "everyone on|off"),
     (
@@ -63,6 +63,7 @@ static LINES: [(&str, &str); 6] = [
     ),
     ("journal", "journal"),
     ("law", "law SERVICE CONSUMER"),
+    ("check", "check SERVICE CONSUMER"),
 ];
 
 /// The steps of workers.

@@ -1,0 +1,5 @@
+pub mod Fates
+pub mod Journaled
+pub mod Logs
+pub mod Printed
+pub mod Reaches

@@ -1,0 +1,236 @@
+//! How the answer to a check is printed.
+
+ghost use Rattle.std.specs.Prelude.{◌≡◌, ◌++◌, OnOk, map, slice_get};
+ghost use Rattle.std.specs.List.{count_by, position};
+ghost use Rattle.std.specs.Option.{option_copied};
+ghost use Rattle.kob_outbox.specs.Contents.{id_text};
+ghost use Rattle.kob_delivery_check.specs.Fates.{is_delivered, is_lost, is_waiting};
+ghost use Rattle.kob_delivery_check.specs.Printed.{check_text, counted, event_text, head_text};
+ghost use Rattle.kob_delivery_check.specs.Printed.{lost_item, lost_line, lost_lines, place_text};
+ghost use Rattle.kob_delivery_check.specs.Printed.{spaced, waits_at, waits_line, waits_text, where_text};
+
+use crate::fate::Fate;
+use kob_outbox::OutboxEvent;
+use kob_router::Place;
+use kob_words::{push_bytes, push_number};
+use std::alloc::AllocError;
+use uuid::Uuid;
+
+#[tactic(auto, using(kob_words::proofs::Appending::appending))]
+fn push_spaced(out: &mut Vec<u8>, text: &[u8]) -> Result<(), AllocError>
+    ensures { OnOk result (out.new.items ≡ out.old.items ++ spaced text.now) }
+{
+    out.extend_from_slice(b" ")?;
+    push_bytes(out, text)
+}
+
+#[tactic(auto, using(kob_words::proofs::Appending::appending))]
+fn push_counted(out: &mut Vec<u8>, number: u64) -> Result<(), AllocError>
+    ensures { OnOk result (out.new.items ≡ out.old.items ++ counted number) }
+{
+    out.extend_from_slice(b" ")?;
+    push_number(out, number)
+}
+
+/// An event's id after a space, in lower case with hyphens.
+#[tactic(auto, using(kob_words::proofs::Appending::appending))]
+fn push_id(out: &mut Vec<u8>, id: Uuid) -> Result<(), AllocError>
+    ensures { OnOk result (out.new.items ≡ out.old.items ++ spaced (id_text id)) }
+{
+    let mut buffer = Uuid::encode_buffer();
+    let text = id.hyphenated().encode_lower(&mut buffer);
+    push_spaced(out, text.as_bytes())
+}
+
+/// An event by its id, its aggregate and its row.
+#[tactic(auto, using(kob_words::proofs::Appending::appending))]
+fn push_event(out: &mut Vec<u8>, row: u64, event: &OutboxEvent) -> Result<(), AllocError>
+    ensures { OnOk result (out.new.items ≡ out.old.items ++ event_text row event.now) }
+{
+    push_id(out, event.id)?;
+    push_spaced(out, event.aggregate_type.as_bytes())?;
+    push_spaced(out, event.aggregate_id.as_bytes())?;
+    out.extend_from_slice(b" row")?;
+    push_counted(out, row)
+}
+
+#[tactic(auto, using(kob_words::proofs::Appending::appending))]
+fn push_place(out: &mut Vec<u8>, offset: u64, place: Option<&Place>) -> Result<(), AllocError>
+    ensures { OnOk result (out.new.items
+        ≡ out.old.items ++ place_text offset (option_copied place.entry)) }
+{
+    match place {
+        None => Ok(()),
+        Some(place) => {
+            out.extend_from_slice(b" in")?;
+            push_spaced(out, place.topic.as_str().as_bytes())?;
+            push_counted(out, place.partition)?;
+            out.extend_from_slice(b" at")?;
+            push_counted(out, offset)
+        }
+    }
+}
+
+fn push_where(out: &mut Vec<u8>, assignment: &[Place], fate: Fate) -> Result<(), AllocError>
+    ensures { OnOk result (out.new.items ≡ out.old.items ++ where_text assignment.now fate) }
+{
+    match fate {
+        Fate::Ahead { assigned, offset } => push_place(out, offset, assignment.get(assigned)),
+        Fate::Outbox => out.extend_from_slice(b" in the outbox"),
+        Fate::Delivered => Ok(()),
+        Fate::Lost => Ok(()),
+    }
+}
+
+/// The line of an event that waits.
+#[tactic(auto, using(kob_words::proofs::Appending::appending))]
+fn push_waits(
+    out: &mut Vec<u8>,
+    assignment: &[Place],
+    place: usize,
+    event: Option<&OutboxEvent>,
+    fate: Option<Fate>,
+) -> Result<(), AllocError>
+    ensures { OnOk result (out.new.items
+        ≡ out.old.items ++ waits_line assignment.now place (option_copied event.entry) fate) }
+{
+    let (Some(event), Some(fate)) = (event, fate) else {
+        return Ok(());
+    };
+    out.extend_from_slice(b"waits")?;
+    push_event(out, (place as u64).saturating_add(1), event)?;
+    push_where(out, assignment, fate)?;
+    out.extend_from_slice(b"\n")
+}
+
+fn push_first_waiting(
+    out: &mut Vec<u8>,
+    events: &[&OutboxEvent],
+    fates: &[Fate],
+    assignment: &[Place],
+) -> Result<(), AllocError>
+    ensures { OnOk result (out.new.items ≡ out.old.items
+        ++ waits_text (map (λ event. event.now) events.now) fates.now assignment.now) }
+{
+    match first_waiting(fates) {
+        None => Ok(()),
+        Some(place) => {
+            push_waits(
+                out,
+                assignment,
+                place,
+                event_at(events, place),
+                fate_at(fates, place),
+            )
+        }
+    }
+}
+
+fn first_waiting(fates: &[Fate]) -> Option<usize>
+    ensures { result ≡ position is_waiting fates.now }
+{
+    fates.iter().position(|fate| fate.is_waiting())
+}
+
+fn event_at<'e>(events: &[&'e OutboxEvent], place: usize) -> Option<&'e OutboxEvent>
+    ensures { option_copied result ≡ slice_get (map (λ event. event.now) events.now) place }
+{
+    match events.get(place) {
+        Some(event) => Some(*event),
+        None => None,
+    }
+}
+
+fn fate_at(fates: &[Fate], place: usize) -> Option<Fate>
+    ensures { result ≡ slice_get fates.now place }
+{
+    fates.get(place).copied()
+}
+
+#[tactic(auto, using(kob_words::proofs::Appending::appending))]
+fn push_lost(
+    out: &mut Vec<u8>,
+    place: usize,
+    fate: Fate,
+    event: Option<&OutboxEvent>,
+) -> Result<(), AllocError>
+    ensures { OnOk result (out.new.items
+        ≡ out.old.items ++ lost_line place fate (option_copied event.entry)) }
+{
+    match (fate, event) {
+        (Fate::Lost, Some(event)) => {
+            out.extend_from_slice(b"lost")?;
+            push_event(out, (place as u64).saturating_add(1), event)?;
+            out.extend_from_slice(b"\n")
+        }
+        _ => Ok(()),
+    }
+}
+
+fn push_all_lost(
+    out: &mut Vec<u8>,
+    events: &[&OutboxEvent],
+    fates: &[Fate],
+) -> Result<(), AllocError>
+    ensures { OnOk result (out.new.items
+        ≡ out.old.items ++ lost_lines (map (λ event. event.now) events.now) fates.now) }
+{
+    for place in 0..fates.len() {
+        push_lost(out, place, fates[place], event_at(events, place))?;
+    }
+    Ok(())
+}
+
+#[tactic(auto, using(kob_words::proofs::Appending::appending))]
+fn push_head(out: &mut Vec<u8>, number: u64, fates: &[Fate]) -> Result<(), AllocError>
+    ensures { OnOk result (out.new.items ≡ out.old.items ++ head_text number fates.now) }
+{
+    push_number(out, number)?;
+    out.extend_from_slice(b" delivered")?;
+    push_counted(out, delivered(fates) as u64)?;
+    out.extend_from_slice(b" of")?;
+    push_counted(out, fates.len() as u64)?;
+    out.extend_from_slice(b" waiting")?;
+    push_counted(out, waiting(fates) as u64)?;
+    out.extend_from_slice(b" lost")?;
+    push_counted(out, lost(fates) as u64)?;
+    out.extend_from_slice(b"\n")
+}
+
+fn delivered(fates: &[Fate]) -> usize
+    ensures { result ≡ count_by is_delivered fates.now }
+{
+    fates.iter().filter(|fate| fate.is_delivered()).count()
+}
+
+fn waiting(fates: &[Fate]) -> usize
+    ensures { result ≡ count_by is_waiting fates.now }
+{
+    fates.iter().filter(|fate| fate.is_waiting()).count()
+}
+
+fn lost(fates: &[Fate]) -> usize
+    ensures { result ≡ count_by is_lost fates.now }
+{
+    fates.iter().filter(|fate| fate.is_lost()).count()
+}
+
+/// Prints `N delivered D of M waiting W lost L`, then a line `waits ID AGGREGATETYPE AGGREGATEID row
+/// ROW` with where for the first event that waits, and a line `lost ID AGGREGATETYPE AGGREGATEID row
+/// ROW` for each event that is lost. The events are those that a service recorded, in their order,
+/// with where each is. The error is out of memory; `out` has then grown by a part of it.
+#[tactic(auto, using(kob_words::proofs::Appending::appending))]
+pub fn print_check(
+    out: &mut Vec<u8>,
+    number: u64,
+    events: &[&OutboxEvent],
+    fates: &[Fate],
+    assignment: &[Place],
+) -> Result<(), AllocError>
+    ensures { OnOk result (out.new.items ≡ out.old.items
+        ++ check_text number (map (λ event. event.now) events.now) fates.now assignment.now) }
+{
+    push_head(out, number, fates)?;
+    push_first_waiting(out, events, fates, assignment)?;
+    push_all_lost(out, events, fates)
+}

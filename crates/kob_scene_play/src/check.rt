@@ -1,0 +1,98 @@
+//! Where each event of a service is, on its way to a consumer.
+
+ghost use Rattle.std.specs.Prelude.{◌≡◌, ◌++◌, IfOk, OnOk};
+ghost use Rattle.kob_delivery_check.specs.Printed.{check_text};
+ghost use Rattle.kob_router.specs.Line.{one_more};
+ghost use Rattle.kob_scene_play.specs.Checks.{AreFates, IsChecked, ahead_of};
+ghost use Rattle.kob_scene_play.specs.Steps.{Tells};
+
+use crate::consumer_worker::ConsumerWorker;
+use crate::fault::PlayFault;
+use crate::output::Output;
+use crate::service_worker::ServiceWorker;
+use crate::stage::Stage;
+use kob_delivery_check::{Fate, Stored, fates_of, print_check, reaches_by, records_ahead};
+use kob_shared::Journal;
+use std::alloc::{AllocError, Global};
+
+/// Prints how many events of the service are in the consumer's inbox, how many wait and how many
+/// are lost, the first one that waits with where it does, and each one that is lost.
+pub(crate) fn show_check(
+    alloc: Global,
+    stage: &mut Stage<'_>,
+    service: usize,
+    consumer: usize,
+    out: &mut Output,
+) -> Result<(), PlayFault>
+    ensures recorded { stage.new.recorded ≡ stage.old.recorded }
+    ensures services { stage.new.services.items ≡ stage.old.services.items }
+    ensures consumers { stage.new.consumers.items ≡ stage.old.consumers.items }
+    ensures done { OnOk result (Tells (IsChecked service consumer stage.old out.old.told)
+        out.old.text.items out.new.text.items) }
+    ensures told { OnOk result (out.new.told ≡ one_more out.old.told) }
+{
+    let Some(sender) = stage.services.get_mut(service) else {
+        return Err(PlayFault::NoWorker);
+    };
+    let Some(taker) = stage.consumers.get_mut(consumer) else {
+        return Err(PlayFault::NoWorker);
+    };
+    let journal = stage.recorded.journal();
+    let fates = fates_at(alloc, journal, &mut sender.service, &mut taker.consumer)?;
+    print(&sender.service, &taker.consumer, &fates, out)?;
+    Ok(())
+}
+
+/// Where each event of the service is, in the order in which they were recorded.
+fn fates_at(
+    alloc: Global,
+    journal: &Journal,
+    sender: &mut ServiceWorker<'_>,
+    taker: &mut ConsumerWorker,
+) -> Result<Vec<Fate>, PlayFault>
+    ensures sender { sender.new ≡ sender.old }
+    ensures taker { taker.new ≡ taker.old }
+    ensures fates { IfOk result (λ fates. AreFates sender.old taker.old journal.now fates.items) }
+{
+    let mark = sender.mark()?;
+    let waiting = sender.rows_after(mark, u32::MAX)?;
+    let taken = taker.rows()?;
+    let ahead = ahead_of(alloc, journal, taker)?;
+    Ok(fates_of(alloc, sender.recorded(), &taken, &ahead, &waiting)?)
+}
+
+/// The records of events that a consumer has before it.
+fn ahead_of(
+    alloc: Global,
+    journal: &Journal,
+    taker: &ConsumerWorker,
+) -> Result<Vec<Stored>, AllocError>
+    ensures { IfOk result (λ ahead. ahead.items ≡ ahead_of journal.now taker.now) }
+{
+    let reaches = reaches_by(alloc, journal, taker.consumer())?;
+    records_ahead(alloc, &reaches)
+}
+
+fn print(
+    sender: &ServiceWorker<'_>,
+    taker: &ConsumerWorker,
+    fates: &[Fate],
+    out: &mut Output,
+) -> Result<(), AllocError>
+    ensures printed { OnOk result (out.new.text.items ≡ out.old.text.items
+        ++ check_text (one_more out.old.told) sender.now.recorded fates.now
+        taker.now.fetcher.subscription.assignment) }
+    ensures told { OnOk result (out.new.told ≡ one_more out.old.told) }
+{
+    let number = out.number();
+    let assignment = taker.subscription().assignment.as_slice();
+    print_check(
+        &mut out.text,
+        number,
+        sender.recorded(),
+        fates,
+        assignment,
+    )?;
+    out.tell();
+    Ok(())
+}
