@@ -1,7 +1,6 @@
 -- An idempotent producer since Kafka 2.8.
 use Rattle.kob_policy_text.proofs.Words.{arith, nat_tests, ◌≡◌}
-use Rattle.std.proofs.Common.{Bool, true, false, inl, inr, refl, ap, ◌∙◌, sym, ◌&&◌, ◌||◌}
-use Rattle.std.proofs.lemmas.Bool.{cases_Bool}
+use Rattle.std.proofs.Common.{Bool, true, false, inr, ◌&&◌, ◌||◌}
 use Rattle.kob_rights.specs.Table.{on_cluster, on_topic}
 use Rattle.kob_names.specs.declared.kinds.Operation.TheVariants.{IdempotentWrite, Write}
 use Rattle.kob_policy_text.specs.Access.{IsAsKafkaSince28, question_on}

@@ -1,8 +1,7 @@
 -- What a line of a policy says: a listed line, a setting, or a line that creates bindings.
-use Rattle.std.specs.Prelude.{◌≡◌, ◌==◌, ◌||◌, ◌&&◌, not, ℕ, Bool, true, false, List, [], ◌∷◌, ◌++◌, map, filter, length, nat_lt, nat_eq, set, slice_get, is_some, Option, Some, None, ok_or, Result, Ok, Err, codes, if◌then◌else◌}
+use Rattle.std.specs.Prelude.{◌≡◌, ◌==◌, ◌||◌, ◌&&◌, not, ℕ, Bool, true, false, List, [], ◌∷◌, filter, length, nat_lt, nat_eq, set, slice_get, is_some, Option, Some, None, ok_or, Result, Ok, Err, codes, if◌then◌else◌}
 use Rattle.std.specs.List.{list_all, list_any, slice_split, starts_with}
 use Rattle.std.specs.Str.{bytes_eq, str_eq_ignore_ascii_case}
-use Rattle.kob_names.specs.Binding.{Binding}
 use Rattle.kob_rights.specs.declared.event.Event.{Event}
 use Rattle.kob_rights.specs.declared.request.Request.{Request}
 use Rattle.kob_rights.specs.declared.request.Request.TheVariants.{CreateAcls}
@@ -13,7 +12,7 @@ use Rattle.kob_script.specs.Words.{◌>>=◌, each, host_of, principal_of, text_
 use Rattle.kob_names.specs.TextRules.{is_topic_byte}
 use Rattle.kob_script.specs.Script.{asks_clap, lines_in, everyone_of, is_setting, is_super}
 use Rattle.kob_policy_text.specs.declared.item.Item.{Item}
-use Rattle.kob_policy_text.specs.declared.item.Item.TheVariants.{Super, Everyone, Brokers, Rule, LeftOut, Skipped}
+use Rattle.kob_policy_text.specs.declared.item.Item.TheVariants.{Super, Everyone, Brokers, LeftOut, Skipped}
 use Rattle.kob_policy_text.specs.declared.item.LeftOut.TheVariants.{Principal}
 use Rattle.kob_policy_text.specs.Options.{SaysOptions, rule_items}
 use Rattle.kob_policy_text.specs.Releases.{release_named}

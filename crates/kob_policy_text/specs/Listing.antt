@@ -13,11 +13,9 @@ use Rattle.kob_script.specs.declared.fault.FaultKind.TheVariants.{BadLine, BadWo
 use Rattle.kob_names.specs.declared.kinds.Operation.{Operation}
 use Rattle.kob_names.specs.declared.kinds.Operation.TheVariants.{All, ClusterAction, DescribeConfigs, AlterConfigs, IdempotentWrite}
 use Rattle.kob_names.specs.declared.kinds.PatternKind.{PatternKind}
-use Rattle.kob_names.specs.declared.kinds.Permission.{Permission}
 use Rattle.kob_names.specs.declared.kinds.ResourceKind.{ResourceKind}
 use Rattle.kob_names.specs.declared.kinds.ResourceKind.TheVariants.{TransactionalId}
 use Rattle.kob_words.specs.Words.{operation_named, resource_named, pattern_named, permission_named}
-use Rattle.kob_policy_text.specs.declared.item.Grant.{Grant}
 use Rattle.kob_policy_text.specs.declared.item.Item.{Item}
 use Rattle.kob_policy_text.specs.declared.item.LeftOut as kinds
 use Rattle.kob_policy_text.specs.declared.item.Target.{Target}

@@ -1,6 +1,6 @@
 -- A policy: the bindings of some files in the order in which they are read, the super users,
 -- whether what no binding matches is open to everyone, and the release of the brokers.
-use Rattle.std.specs.Prelude.{◌≡◌, ◌+◌, ◌||◌, ◌&&◌, not, ℕ, Bool, false, List, [], ◌∷◌, ◌++◌, remove, Option, Some, None, Result, Ok, Err, codes, drop, is_none, length, nat_eq, nat_lt, if◌then◌else◌, ◌==◌, position}
+use Rattle.std.specs.Prelude.{◌≡◌, ◌+◌, ◌||◌, ◌&&◌, not, ℕ, Bool, false, List, [], ◌∷◌, ◌++◌, Option, Some, None, Result, Ok, Err, codes, drop, is_none, length, nat_eq, nat_lt, if◌then◌else◌, ◌==◌, position}
 use Rattle.kob_names.specs.Binding.{Binding, draft_fault, is_granted}
 use Rattle.kob_script.specs.declared.fault.FaultKind.{FaultKind}
 use Rattle.kob_script.specs.declared.fault.FaultKind.TheVariants.{BadName, NoResource}
