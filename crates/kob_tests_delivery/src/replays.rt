@@ -67,9 +67,11 @@ fn holds(alloc: Global) -> Option<bool> {
     let second_alone = replayed(alloc, 2, &entries[1..]);
     drop(entries);
     let refused = Some(Err(ReplayFault::Differs { place: 0 }));
-    Some(both == Some(Ok((2, 5)))
-        && too_many == Some(Err(ReplayFault::JournalFull))
-        && second_alone == refused)
+    Some(
+        both == Some(Ok((2, 5)))
+            && too_many == Some(Err(ReplayFault::JournalFull))
+            && second_alone == refused,
+    )
 }
 
 // Two entries, the second of which asks for what the first one made.
