@@ -1,5 +1,5 @@
 -- What the options of `kafka-acls` say.
-use Rattle.std.specs.Prelude.{◌≡◌, ◌++◌, ℕ, Bool, List, [], ◌∷◌, map, Option, Some, None, Result, Ok, Err, codes, if◌then◌else◌, ◌||◌, ◌==◌, nat_eq, length, slice_get}
+use Rattle.std.specs.Prelude.{◌≡◌, ◌++◌, ℕ, Bool, List, [], ◌∷◌, map, Option, Some, None, Result, Ok, Err, codes, if◌then◌else◌, ◌||◌, ◌&&◌, ◌==◌, false, nat_eq, nat_lt, length, slice_get}
 use Rattle.std.specs.List.{starts_with}
 use Rattle.std.specs.Str.{bytes_eq}
 use Rattle.kob_acl_cli.specs.declared.args.CliArgs.{CliArgs}
@@ -92,10 +92,38 @@ only_command commands = if length commands == 1 then slice_get commands 0 else N
 abbrev pub added_from : CliArgs → Result (List Item) FaultKind
 added_from args = acl_commands (Some args) >>= λ made. added_of (only_command made)
 
+-- `--transactional-id` beside `--producer` is as a line of its own, for Write and Describe
+abbrev pub has_producer_ids : CliArgs → Bool
+has_producer_ids args = args.producer && nat_lt 0 (length args.transactional_ids)
+
+abbrev pub without_ids : CliArgs → CliArgs
+without_ids args = record args { transactional_ids = [] }
+
+abbrev pub ids_alone : CliArgs → CliArgs
+ids_alone args = record args {
+  producer = false;
+  consumer = false;
+  idempotent = false;
+  topics = [];
+  groups = [];
+  operations = codes "Write" ∷ codes "Describe" ∷ [];
+}
+
+-- one line after the other; the first fault counts
+abbrev pub then_added : Result (List Item) FaultKind → Result (List Item) FaultKind
+    → Result (List Item) FaultKind
+then_added first second = first >>= λ items. second >>= λ others. Ok (items ++ others)
+
+abbrev pub added_in_parts : CliArgs → Result (List Item) FaultKind
+added_in_parts args =
+    if has_producer_ids args
+    then then_added (added_from (without_ids args)) (added_from (ids_alone args))
+    else added_from args
+
 -- what options say by clap's answer to them
 abbrev pub added_by : Option CliArgs → Result (List Item) FaultKind
 added_by None = Err Usage
-added_by (Some args) = added_from (held_args args)
+added_by (Some args) = added_in_parts (held_args args)
 
 -- The words of the tool may say this, by what clap may answer.
 unfoldable pub Adds : List (List ℕ) → Result (List Item) FaultKind → Type 0

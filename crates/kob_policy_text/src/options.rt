@@ -1,12 +1,14 @@
 //! What the options of `kafka-acls` say.
 
-ghost use Rattle.std.specs.Prelude.{◌≡◌, ◌++◌, IfOk, OnOk, Some, map, option_map};
+ghost use Rattle.std.specs.Prelude.{◌≡◌, ◌++◌, ◌∷◌, [], IfOk, OnOk, Some, codes, map, option_map};
 ghost use Rattle.std.specs.Option.{option_to_list};
 ghost use Rattle.kob_acl_cli.specs.Lines.{texts};
 ghost use Rattle.kob_policy_text.specs.Options.{Adds, added_by, added_from, added_of, behind, held_args};
 ghost use Rattle.kob_policy_text.specs.Options.{held_at, held_option, held_options, is_ignored};
 ghost use Rattle.kob_policy_text.specs.Options.{is_ignored_whole, is_other, is_other_whole};
-ghost use Rattle.kob_policy_text.specs.Options.{next_place, only_command, rule_items};
+ghost use Rattle.kob_policy_text.specs.Options.{added_in_parts, has_producer_ids, ids_alone};
+ghost use Rattle.kob_policy_text.specs.Options.{next_place, only_command, rule_items, then_added};
+ghost use Rattle.kob_policy_text.specs.Options.{without_ids};
 ghost use Rattle.kob_policy_text.specs.Listing.{held_name};
 ghost use Rattle.kob_policy_text.specs.Outcomes.{MayGive};
 ghost use Rattle.kob_policy_text.specs.declared.options.Place.TheVariants.{Anywhere};
@@ -20,6 +22,7 @@ use kob_acl_cli::{AclCommand, CliArgs, CommandFault, LineFault, commands_of, rea
 use kob_names::{Draft, Items, Text};
 use kob_script::{FaultKind, LineError};
 use std::alloc::{AllocError, Global};
+use std::mem;
 
 /// Where a word of options is: maybe behind an option whose value has no effect, or behind one for a
 /// resource of another kind.
@@ -221,6 +224,60 @@ fn added_from(alloc: Global, args: &CliArgs) -> Result<Vec<Item>, LineError>
     added_of(alloc, only_command(commands))
 }
 
+fn has_producer_ids(args: &CliArgs) -> bool
+    ensures { result ≡ has_producer_ids args.now }
+{
+    args.producer && !args.transactional_ids.as_slice().is_empty()
+}
+
+/// `Write` and `Describe`.
+fn on_ids(alloc: Global) -> Result<Items<Text>, AllocError>
+    ensures { IfOk result (λ made. made ≡ codes "Write" ∷ codes "Describe" ∷ []) }
+{
+    let mut made = Vec::new(alloc);
+    made.push(Text::copied(alloc, "Write")?)?;
+    made.push(Text::copied(alloc, "Describe")?)?;
+    Ok(Items::from_vec(made))
+}
+
+/// Leaves the transactional ids alone.
+fn leave_ids(alloc: Global, args: &mut CliArgs) -> Result<(), AllocError>
+    ensures { OnOk result (args.new ≡ ids_alone args.old) }
+{
+    args.operations = on_ids(alloc)?;
+    args.topics = Items::from_vec(Vec::new(alloc));
+    args.groups = Items::from_vec(Vec::new(alloc));
+    args.producer = false;
+    args.consumer = false;
+    args.idempotent = false;
+    Ok(())
+}
+
+/// What a producer needs, and then what it needs for its transactional ids.
+fn added_for_ids(alloc: Global, args: &mut CliArgs) -> Result<Vec<Item>, LineError>
+    ensures { GivesSeen (λ items. items.items) result
+        (then_added (added_from (without_ids args.old)) (added_from (ids_alone args.old))) }
+{
+    let none = Items::from_vec(Vec::new(alloc));
+    let ids = mem::replace(&mut args.transactional_ids, none);
+    let mut items = added_from(alloc, args)?;
+    args.transactional_ids = ids;
+    leave_ids(alloc, args)?;
+    items.append(&mut added_from(alloc, args)?)?;
+    Ok(items)
+}
+
+/// What options add, for a producer with transactional ids as by two lines.
+fn added_in_parts(alloc: Global, args: &mut CliArgs) -> Result<Vec<Item>, LineError>
+    ensures { GivesSeen (λ items. items.items) result (added_in_parts args.old) }
+{
+    if has_producer_ids(args) {
+        added_for_ids(alloc, args)
+    } else {
+        added_from(alloc, args)
+    }
+}
+
 fn added_by(alloc: Global, answer: &mut Option<CliArgs>) -> Result<Vec<Item>, LineError>
     ensures { GivesSeen (λ items. items.items) result (added_by answer.old) }
 {
@@ -228,7 +285,7 @@ fn added_by(alloc: Global, answer: &mut Option<CliArgs>) -> Result<Vec<Item>, Li
         None => Err(LineError::Fault(FaultKind::Usage)),
         Some(args) => {
             hold_principals(alloc, args)?;
-            added_from(alloc, args)
+            added_in_parts(alloc, args)
         }
     }
 }

@@ -4,12 +4,12 @@ ghost use Rattle.std.specs.Prelude.{◌≡◌, ◌++◌, IfOk, OnOk, codes, flat
 ghost use Rattle.kob_words.specs.Words.{bytes_text};
 ghost use Rattle.kob_policy_review.specs.Difference.{names_all};
 ghost use Rattle.kob_policy_text.specs.Answers.{from_text, is_seen, seen_text, sees_text};
-ghost use Rattle.kob_policy_text.specs.Answers.{topic_text, who_line};
+ghost use Rattle.kob_policy_text.specs.Answers.{topic_text, topics_asked, who_line};
 ghost use Rattle.kob_policy_text.specs.Review.{grant_if_told, grant_line, granted_text, is_told};
 ghost use Rattle.kob_policy_text.specs.Review.{super_grant, target_at, who_text};
 
 use crate::asked::Asked;
-use crate::at_hand::{each_once, principals_at_hand};
+use crate::at_hand::{each_once, principals_at_hand, topics_named};
 use crate::changes::push_party;
 use crate::judge::Judge;
 use crate::printed::push_reason;
@@ -180,7 +180,6 @@ pub fn push_who(
     ensures { OnOk result
         (out.new.items ≡ out.old.items ++ who_text judge.now right.now host.now) }
 {
-    out.extend_from_slice(b"who\n")?;
     match host {
         Some(host) => push_from(alloc, out, judge, right, host),
         None => push_granted(alloc, out, judge, right),
@@ -224,8 +223,29 @@ fn push_topics(
     Ok(())
 }
 
+fn push_asked(
+    alloc: Global,
+    out: &mut Vec<u8>,
+    judge: &Judge,
+    topics: &[Text],
+    asker: &Asker,
+) -> Result<(), AllocError>
+    ensures { OnOk result (out.new.items ≡ out.old.items
+        ++ flat_map (seen_text judge.now asker.now) (topics_asked judge.now topics.now)) }
+{
+    match topics {
+        [] => {
+            let named = topics_named(alloc, judge.policy().bindings())?;
+            push_topics(out, judge, asker, named.as_slice())
+        }
+        _ => push_topics(out, judge, asker, topics),
+    }
+}
+
+/// Which of the given topics an asker may describe, or of those that bindings name.
 #[tactic(auto, using(kob_words::proofs::Appending::appending))]
 pub fn push_sees(
+    alloc: Global,
     out: &mut Vec<u8>,
     judge: &Judge,
     topics: &[Text],
@@ -234,7 +254,7 @@ pub fn push_sees(
     ensures { OnOk result (out.new.items ≡ out.old.items
         ++ sees_text judge.now topics.now asker.now) }
 {
-    out.extend_from_slice(b"topics")?;
-    push_topics(out, judge, asker, topics)?;
+    out.extend_from_slice(b"  topics")?;
+    push_asked(alloc, out, judge, topics, asker)?;
     out.extend_from_slice(b"\n")
 }
