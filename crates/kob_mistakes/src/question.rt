@@ -20,29 +20,34 @@ pub enum Lines {
 }
 
 /// The forms of questions.
-static QUESTIONS: [(&str, &str); 6] = [
+static QUESTIONS: [(&str, &str); 8] = [
     (
         "may",
         "may PRINCIPAL HOST OPERATION RESOURCE NAME, or produce TOPIC, or consume TOPIC GROUP, or a request",
     ),
+    ("expect", "expect yes or expect no, and then may .."),
     ("who", "who OPERATION RESOURCE NAME [HOST]"),
     ("sees", "sees PRINCIPAL HOST"),
     ("topic", "topic NAME"),
+    ("summary", "summary"),
     ("unused", "unused"),
     ("shadowed", "shadowed"),
 ];
 
 /// The words of questions and of bindings.
-static WORDS: [&str; 26] = [
+static WORDS: [&str; 29] = [
     "may",
+    "expect",
     "who",
     "sees",
     "topic",
+    "summary",
     "unused",
     "shadowed",
     "produce",
     "consume",
     "idempotent",
+    "transactional",
     "All",
     "Read",
     "Write",
@@ -105,7 +110,8 @@ fn form_of(words: &[&[u8]], lines: Lines) -> &'static str {
     let found = QUESTIONS.iter().find(|form| form.0.as_bytes() == first);
     match (lines, found) {
         (Lines::Questions, Some((_, form))) => form,
-        (Lines::Questions, None) => "a question: may, who, sees, topic, unused or shadowed",
+        (Lines::Questions, None) =>
+            "a question: may, expect, who, sees, topic, summary, unused or shadowed",
         (Lines::Bindings, _) => {
             "a line of kafka-acls --list or --add, create-acl or acl of scripts, or a setting"
         }
@@ -116,9 +122,14 @@ fn form_of(words: &[&[u8]], lines: Lines) -> &'static str {
 fn question_place(alloc: Global, words: &[&[u8]], kind: FaultKind) -> usize {
     match words {
         [b"may", rest @ ..] => may_place(alloc, rest, kind).saturating_add(1),
+        [b"expect", b"yes" | b"no", b"may", rest @ ..] => {
+            may_place(alloc, rest, kind).saturating_add(3)
+        }
+        [b"expect", b"yes" | b"no", ..] => words.len().min(2),
+        [b"expect", ..] => words.len().min(1),
         [b"who", rest @ ..] => right_place(rest, 0, 1).saturating_add(1),
         [b"sees", rest @ ..] => asker_place(alloc, rest).unwrap_or(2).saturating_add(1),
-        [b"topic" | b"unused" | b"shadowed", ..] => words.len().min(1),
+        [b"topic" | b"summary" | b"unused" | b"shadowed", ..] => words.len().min(1),
         _ => 0,
     }
 }
