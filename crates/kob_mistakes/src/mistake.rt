@@ -113,9 +113,11 @@ fn is_request(text: &[u8], words: &[Word<'_>]) -> bool {
 
 /// Whether a word begins a setting or a declaration.
 fn begins(first: &[u8]) -> bool {
-    ["super", "everyone", "service", "consumer", "journal", "law", "check"]
-        .iter()
-        .any(|name| name.as_bytes() == first)
+    [
+        "super", "everyone", "service", "consumer", "journal", "law", "check",
+    ]
+    .iter()
+    .any(|name| name.as_bytes() == first)
 }
 
 fn is_step(words: &[Word<'_>]) -> bool {
