@@ -14,7 +14,7 @@ checked service consumer stage sender taker fates told held now journal from to 
   check_text (one_more told) sender.service.recorded fates taker.consumer.fetcher.subscription.assignment,
   (sender, taker, first, second, (fates, rw is_journal at are, refl)),
   printed
-  ∙ ap (λ (s : Service). held ++ check_text (one_more told) s.recorded shown to.fetcher.subscription.assignment) is_from
-  ∙ ap (λ (t : Consumer). held ++ check_text (one_more told) sender.service.recorded shown t.fetcher.subscription.assignment) is_to
-  ∙ ap (λ (f : List Fate). held ++ check_text (one_more told) sender.service.recorded f taker.consumer.fetcher.subscription.assignment) is_shown,
+      ∙ ap (λ (s : Service). held ++ check_text (one_more told) s.recorded shown to.fetcher.subscription.assignment) is_from
+      ∙ ap (λ (t : Consumer). held ++ check_text (one_more told) sender.service.recorded shown t.fetcher.subscription.assignment) is_to
+      ∙ ap (λ (f : List Fate). held ++ check_text (one_more told) sender.service.recorded f taker.consumer.fetcher.subscription.assignment) is_shown,
 )

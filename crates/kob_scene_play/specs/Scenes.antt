@@ -79,7 +79,6 @@ IsStep (steps.Law service consumer) old new told then_told text =
     × (new.consumers.items ≡ old.consumers.items)
     × (then_told ≡ one_more told)
     × IsAnswered service consumer old told text
-
 IsStep (steps.Check service consumer) old new told then_told text =
     (new.recorded ≡ old.recorded)
     × (new.services.items ≡ old.services.items)

@@ -86,13 +86,7 @@ fn print(
 {
     let number = out.number();
     let assignment = taker.subscription().assignment.as_slice();
-    print_check(
-        &mut out.text,
-        number,
-        sender.recorded(),
-        fates,
-        assignment,
-    )?;
+    print_check(&mut out.text, number, sender.recorded(), fates, assignment)?;
     out.tell();
     Ok(())
 }
