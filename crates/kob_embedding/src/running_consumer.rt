@@ -98,7 +98,8 @@ impl<L: Line> RunningConsumer<L> {
     /// `Stopped`.
     pub fn take_all(&mut self, alloc: Global, most: u32) -> Result<(), ProgramFault>
         ensures same { self.new.fetcher.subscription ≡ self.old.fetcher.subscription }
-        ensures ends { IfErr result (λ fault. ((self.new ≡ self.old) × (fault ≡ ProgramFault.Stopped))
+        ensures ends { IfErr result (λ fault.
+            ((self.new ≡ self.old) × (fault ≡ ProgramFault.Stopped))
             ⊎ EndsTaking self.new.fetcher.subscription (point_of self.new.fetcher self.new.inbox
             (L.calls self.new.line) (L.unmade self.new.line)) fault) }
         ensures idle { OnOk result ((before : Point)
@@ -156,7 +157,8 @@ impl<L: Line> RunningConsumer<L> {
         ensures there { count ≤ length self.old.inbox → OnOk result (self.new ≡ self.old) }
         ensures same { self.new.fetcher.subscription ≡ self.old.fetcher.subscription }
         ensures ends { IfErr result (λ fault. (self.new ≡ self.old)
-            ⊎ (fault ≡ ProgramFault.Memory alloc_error) ⊎ EndsTaking self.new.fetcher.subscription (point_of self.new.fetcher self.new.inbox
+            ⊎ (fault ≡ ProgramFault.Memory alloc_error)
+            ⊎ EndsTaking self.new.fetcher.subscription (point_of self.new.fetcher self.new.inbox
             (L.calls self.new.line) (L.unmade self.new.line)) fault) }
         ensures line { L.becomes self.old.line self.new.line }
     {

@@ -13,7 +13,8 @@ returns-then-idle-round-clause-idle g c =
     let now = c.step.new.self in
     let before = point_of was.fetcher was.inbox (g.L.Line.calls was.line) (g.L.Line.unmade was.line) in
     let point = point_of now.fetcher now.inbox (g.L.Line.calls now.line) (g.L.Line.unmade now.line) in
-    let same : c.subscription.result.now ≡ t = c.subscription.ensures ∙ ap (λ (r : Reader g.row.L.Denot). r.fetcher.subscription) c.self.view_is in
+    let same : c.subscription.result.now ≡ t =
+    c.subscription.ensures ∙ ap (λ (r : Reader g.row.L.Denot). r.fetcher.subscription) c.self.view_is in
     let partitions : c.len.result ≡ length t.assignment =
     c.len.ensures ∙ ap (λ (u : Subscription). length u.assignment) same in
     elim c.if-is_idle.branch [
