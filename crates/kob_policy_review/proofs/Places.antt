@@ -6,18 +6,18 @@ use Rattle.std.proofs.lemmas.List.Elements.{Contains-append_left, Contains-appen
 use Rattle.std.proofs.lemmas.Option.{get_or_from_slice_get, slice_get_read, slice_get_within}
 use Rattle.std.proofs.lemmas.Slice.Eq.{bytes_eq-Decides}
 use Rattle.std.specs.Int.{to_be_bytes, w64}
-use Rattle.std.specs.List.{filter, fold, list_any}
+use Rattle.std.specs.List.{fold, list_any}
 use Rattle.kob_names.specs.Binding.{Binding}
 use Rattle.kob_names.specs.Same.{same_text}
-use Rattle.kob_authorizer.proofs.Entries.{any_passes, at_head, kept_by_filter, passing}
+use Rattle.kob_authorizer.proofs.Entries.{any_passes, at_head, passing}
 use Rattle.kob_prefix_tree.proofs.HeldLaws.{held_added_other, held_added_same}
 use Rattle.kob_prefix_tree.specs.Held.{Held, PrefixMap, added, held}
 use Rattle.kob_prefix_tree.specs.declared.kind.PatternKind.TheVariants.{Literal}
 use Rattle.kob_policy_review.proofs.Standing.{first_or_rest, target_equal}
 use Rattle.kob_policy_review.proofs.Texts.{same_when}
-use Rattle.kob_policy_review.specs.Classes.{is_on, same_target}
+use Rattle.kob_policy_review.specs.Classes.{same_target}
 use Rattle.kob_policy_review.specs.Finding.{text_of}
-use Rattle.kob_policy_review.specs.Sites.{ArePlaced, LeadsToTargets, is_at, places_in, with_place}
+use Rattle.kob_policy_review.specs.Sites.{ArePlaced, LeadsToRows, is_at, places_in, with_place}
 use Rattle.kob_policy_review.specs.declared.class.Target.{Target}
 
 module _ (tree : PrefixMap) (key : List ℕ) (place : ℕ) where
@@ -72,34 +72,31 @@ all_put place tree (first ∷ rest) entry there =
     ]
 
 -- so far, as at a step of a loop
-abbrev pub LeadsBelow : List (ℕ × Binding) → List Target → ℕ → PrefixMap → Type 0
-LeadsBelow entries targets count tree =
-    (entry : ℕ × Binding) → Contains entries entry → (place : ℕ) (target : Target) → place < count
-    → slice_get targets place ≡ Some target → is_on target entry ≡ true → Contains (places_in tree entry.0) place
+abbrev pub LeadsBelow : List (List (ℕ × Binding)) → ℕ → PrefixMap → Type 0
+LeadsBelow rows count tree =
+    (place : ℕ) (row : List (ℕ × Binding)) (entry : ℕ × Binding) → place < count
+    → slice_get rows place ≡ Some row → Contains row entry → Contains (places_in tree entry.0) place
 
-pub leads_more : (entries : List (ℕ × Binding)) (targets : List Target) (count : ℕ) (tree : PrefixMap) (target : Target)
-    → slice_get targets count ≡ Some target → LeadsBelow entries targets count tree
-    → LeadsBelow entries targets (count + 1) (fold (with_place count) tree (filter (is_on target) entries))
-leads_more entries targets count tree target at before entry there place one below at_one on =
+pub leads_more : (rows : List (List (ℕ × Binding))) (count : ℕ) (tree : PrefixMap) (row : List (ℕ × Binding))
+    → slice_get rows count ≡ Some row → LeadsBelow rows count tree
+    → LeadsBelow rows (count + 1) (fold (with_place count) tree row)
+leads_more rows count tree row at before place one entry below at_one there =
     elim (nat_cases place count below) [
-      | inl earlier ↦
-          all_kept count tree (filter (is_on target) entries) entry.0 place
-          (before entry there place one earlier at_one on)
+      | inl earlier ↦ all_kept count tree row entry.0 place (before place one entry earlier at_one there)
       | inr is ↦
-          let same : Some one ≡ Some target = sym at_one ∙ ap (slice_get targets) is ∙ at in
-          let equal : one ≡ target = cc in
-          subst (Contains (places_in (fold (with_place count) tree (filter (is_on target) entries)) entry.0)) (sym is)
-          (all_put count tree (filter (is_on target) entries) entry
-          (kept_by_filter (is_on target) entries entry there (subst (λ t. is_on t entry ≡ true) equal on)))
+          let same : Some one ≡ Some row = sym at_one ∙ ap (slice_get rows) is ∙ at in
+          let equal : one ≡ row = cc in
+          subst (Contains (places_in (fold (with_place count) tree row) entry.0)) (sym is)
+          (all_put count tree row entry (subst (λ r. Contains r entry) equal there))
     ]
   where
     nat_cases : (place count : ℕ) → place < count + 1 → (place < count) ⊎ (place ≡ count)
     nat_cases place count below = grind (arith, nat_tests)
 
-pub leads_all : (entries : List (ℕ × Binding)) (targets : List Target) (count : ℕ) (tree : PrefixMap)
-    → length targets ≤ count → LeadsBelow entries targets count tree → LeadsToTargets entries targets tree
-leads_all entries targets count tree all below entry there place target at on =
-    below entry there place target (omega (arith, all, slice_get_within targets place target at)) at on
+pub leads_all : (rows : List (List (ℕ × Binding))) (count : ℕ) (tree : PrefixMap)
+    → length rows ≤ count → LeadsBelow rows count tree → LeadsToRows rows tree
+leads_all rows count tree all below place row entry at there =
+    below place row entry (omega (arith, all, slice_get_within rows place row at)) at there
 
 -- Targets, each at the text of its names.
 

@@ -1,27 +1,27 @@
 -- A binding is needed among those that are left exactly where one of its targets needs it.
-use Rattle.std.proofs.Common.{Bool, Contains, List, None, Option, Some, [], ap, arith, codes, false, inl, inr, refl, slice_get, subst, sym, true, ℕ, ◌||◌, ◌∙◌, ◌∷◌, ◌≡◌, ◌⊎◌}
+use Rattle.std.proofs.Common.{Bool, Contains, List, None, Option, Some, Vec, [], ap, arith, codes, false, inl, inr, map, refl, slice_get, subst, sym, true, ℕ, ◌||◌, ◌∙◌, ◌∷◌, ◌≡◌, ◌⊎◌}
 use Rattle.std.proofs.lemmas.Bool.{both_ways, cases_Bool, eqb-true, or_cases}
-use Rattle.std.proofs.lemmas.Option.{get_or_from_slice_get, slice_get_read, slice_get_within}
+use Rattle.std.proofs.lemmas.Option.{get_or_from_slice_get, slice_get-map, slice_get_read, slice_get_within}
 use Rattle.std.proofs.lemmas.Slice.Eq.{bytes_eq-Decides}
 use Rattle.std.specs.List.{filter, flat_map, list_any}
-use Rattle.std.specs.Option.{option_to_list}
+use Rattle.std.specs.Option.{option_map, option_to_list}
 use Rattle.kob_names.specs.Binding.{Binding}
 use Rattle.kob_names.specs.Same.{same_text}
 use Rattle.kob_names.specs.declared.kinds.Operation.{Operation}
 use Rattle.kob_names.specs.declared.kinds.Permission.{Permission}
 use Rattle.kob_names.specs.declared.kinds.Permission.TheVariants.{Allow, Deny}
-use Rattle.kob_authorizer.proofs.Entries.{any_passes, at_head, given_by, passing, rising_filter, was_kept}
+use Rattle.kob_authorizer.proofs.Entries.{any_passes, at_head, given_by, kept_by_filter, passing, rising_filter, was_kept}
 use Rattle.kob_authorizer.specs.Decide.{Contents, IsRising}
 use Rattle.kob_prefix_tree.specs.Held.{PrefixMap}
 use Rattle.kob_policy_review.proofs.Alone.{filter_swap, one_of_serial}
 use Rattle.kob_policy_review.proofs.Needing.{alike_over, alike_without, any_flat, changes_over, changes_without, is_it, needed_over, some_flat, super_by, unfolded_by, unfolded_from, unfolded_on}
-use Rattle.kob_policy_review.proofs.Standing.{others_there, named_there, first_or_rest}
+use Rattle.kob_policy_review.proofs.Standing.{any_alike, others_there, named_there, first_or_rest}
 use Rattle.kob_policy_review.proofs.Texts.{same_when}
 use Rattle.kob_policy_review.specs.Classes.{hosts_named, is_for, is_on, operations, principals_named, targets_named, with_principal}
 use Rattle.kob_policy_review.specs.Needed.{closing, is_super_party, met, needed_by, needed_for, needed_from, needed_on, needed_to}
 use Rattle.kob_policy_review.specs.Redundancy.{is_needed, is_outside}
 use Rattle.kob_policy_review.specs.Removal.{concerned, is_needed_at, is_needed_in, without_those}
-use Rattle.kob_policy_review.specs.Sites.{LeadsToTargets, places_in}
+use Rattle.kob_policy_review.specs.Sites.{LeadsToRows, is_needed_of, places_in, row_on, rows_of}
 use Rattle.kob_policy_review.specs.declared.class.Target.{Target}
 
 sure : (b : Bool) → (b || false) ≡ true → b ≡ true
@@ -208,7 +208,7 @@ module _ (rules : Contents) (rising : IsRising 1 rules.entries rules.next) (gone
       (within x (was_kept (is_on target) left.entries x in_list).0) in_force same) principal holds in
       (was_kept (is_on target) left.entries entry found_it.0).1
 
-  module _ (tree : PrefixMap) (leads : LeadsToTargets rules.entries (targets_named rules.entries) tree) where
+  module _ (tree : PrefixMap) (leads : LeadsToRows (map (row_on rules.entries) (targets_named rules.entries)) tree) where
     abbrev at_place : ℕ → Bool
     at_place place = is_needed_at rules gone entry (slice_get (targets_named rules.entries) place)
 
@@ -236,7 +236,9 @@ module _ (rules : Contents) (rising : IsRising 1 rules.entries rules.next) (gone
         let at : slice_get (targets_named rules.entries) there.0 ≡ Some target =
         slice_get_read (targets_named rules.entries) _ there.0 target refl there.1 (sym there.2) in
         any_passes at_place (places_in tree entry.0) there.0
-        (leads entry in_force there.0 target at (on_it target holds))
+        (leads there.0 (row_on rules.entries target) entry
+        (slice_get-map (row_on rules.entries) (targets_named rules.entries) there.0 ∙ ap (option_map (row_on rules.entries)) at)
+        (kept_by_filter (is_on target) rules.entries entry in_force (on_it target holds)))
         (ap (is_needed_at rules gone entry) at ∙ at_target target ∙ holds)
 
     pub needed_is_at : list_any at_place (places_in tree entry.0) ≡ is_needed left entry.0
@@ -256,3 +258,33 @@ module _ (rules : Contents) (rising : IsRising 1 rules.entries rules.next) (gone
               absurd (changes_without left left_rising entry.0 is
               (alike_over left left_rising entry.0 rules.entries within none))
         ])
+
+abbrev by_row : Contents → (ℕ → Bool) → ℕ × Binding → Option (List (ℕ × Binding)) → Bool
+by_row rules gone entry None = false
+by_row rules gone entry (Some row) = is_needed_in rules.supers rules.everyone (filter (is_outside gone) row) entry
+
+-- the rows are those of the targets
+module _ {A : Type 0} (rules : Contents) (gone : ℕ → Bool) (entry : ℕ × Binding) (near : List (Vec (ℕ × Binding) A))
+    (rows : rows_of near ≡ map (row_on rules.entries) (targets_named rules.entries)) where
+  of_vec : (row : Option (Vec (ℕ × Binding) A))
+      → is_needed_of rules gone entry row ≡ by_row rules gone entry (option_map (λ (vec : Vec (ℕ × Binding) A). vec.items) row)
+  of_vec None = refl
+  of_vec (Some row) = refl
+
+  of_target : (target : Option Target)
+      → is_needed_at rules gone entry target ≡ by_row rules gone entry (option_map (row_on rules.entries) target)
+  of_target None = refl
+  of_target (Some target) = refl
+
+  at_row : (place : ℕ) → is_needed_of rules gone entry (slice_get near place)
+      ≡ is_needed_at rules gone entry (slice_get (targets_named rules.entries) place)
+  at_row place =
+      of_vec (slice_get near place)
+      ∙ ap (by_row rules gone entry) (sym (slice_get-map (λ (vec : Vec (ℕ × Binding) A). vec.items) near place)
+      ∙ ap (λ (rs : List (List (ℕ × Binding))). slice_get rs place) rows
+      ∙ slice_get-map (row_on rules.entries) (targets_named rules.entries) place)
+      ∙ sym (of_target (slice_get (targets_named rules.entries) place))
+
+  pub at_rows : (places : List ℕ) → list_any (λ place. is_needed_of rules gone entry (slice_get near place)) places
+      ≡ list_any (λ place. is_needed_at rules gone entry (slice_get (targets_named rules.entries) place)) places
+  at_rows places = any_alike _ _ places (λ place there. at_row place)

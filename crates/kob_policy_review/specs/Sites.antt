@@ -1,11 +1,15 @@
 -- Where each binding counts, and where a target stands among others.
-use Rattle.std.specs.Prelude.{◌≡◌, Bool, Contains, List, None, Option, ℕ, false, true, Some, slice_get}
+use Rattle.std.specs.Prelude.{◌≡◌, Bool, Contains, List, None, Option, ℕ, false, Some, Vec, map, slice_get}
 use Rattle.std.specs.Int.{to_be_bytes, w64}
+use Rattle.std.specs.List.{filter}
 use Rattle.kob_names.specs.Binding.{Binding}
+use Rattle.kob_authorizer.specs.Decide.{Contents}
 use Rattle.kob_prefix_tree.specs.Held.{PrefixMap, added, held}
 use Rattle.kob_prefix_tree.specs.declared.kind.PatternKind.TheVariants.{Literal}
 use Rattle.kob_policy_review.specs.Classes.{is_on, same_target}
 use Rattle.kob_policy_review.specs.Finding.{text_of}
+use Rattle.kob_policy_review.specs.Redundancy.{is_outside}
+use Rattle.kob_policy_review.specs.Removal.{is_needed_in}
 use Rattle.kob_policy_review.specs.declared.class.Target.{Target}
 
 -- the places among the targets that the tree has for a serial
@@ -26,9 +30,23 @@ ArePlaced targets tree =
     (place : ℕ) → (target : Target) → slice_get targets place ≡ Some target
     → Contains (held tree (text_of target.names)).0 place
 
--- the tree leads from each entry to the places of the targets that it is on
-abbrev pub LeadsToTargets : List (ℕ × Binding) → List Target → PrefixMap → Type 0
-LeadsToTargets entries targets tree =
-    (entry : ℕ × Binding) → Contains entries entry → (place : ℕ) → (target : Target)
-    → slice_get targets place ≡ Some target → is_on target entry ≡ true
+-- the entries on a target, and the lists of some
+abbrev pub row_on : List (ℕ × Binding) → Target → List (ℕ × Binding)
+row_on entries target = filter (is_on target) entries
+
+abbrev pub rows_of : {A : Type 0} → List (Vec (ℕ × Binding) A) → List (List (ℕ × Binding))
+rows_of {A = A} vecs = map (λ (vec : Vec (ℕ × Binding) A). vec.items) vecs
+
+-- the tree leads from each entry to the places of the rows that have it
+abbrev pub LeadsToRows : List (List (ℕ × Binding)) → PrefixMap → Type 0
+LeadsToRows rows tree =
+    (place : ℕ) → (row : List (ℕ × Binding)) → (entry : ℕ × Binding)
+    → slice_get rows place ≡ Some row → Contains row entry
     → Contains (places_in tree entry.0) place
+
+-- whether the entry is needed in a row, if there is one, once some are gone
+abbrev pub is_needed_of : {A : Type 0} → Contents → (ℕ → Bool) → ℕ × Binding
+    → Option (Vec (ℕ × Binding) A) → Bool
+is_needed_of rules gone entry None = false
+is_needed_of rules gone entry (Some row) =
+    is_needed_in rules.supers rules.everyone (filter (is_outside gone) row.items) entry

@@ -2,13 +2,10 @@
 
 ghost use Rattle.std.specs.Prelude.{◌≡◌, ◌==◌, Contains, IfOk, OnOk, filter};
 ghost use Rattle.std.specs.List.{list_any};
-ghost use Rattle.kob_policy_review.specs.Classes.{is_on};
 ghost use Rattle.kob_policy_review.specs.Redundancy.{is_outside};
 ghost use Rattle.kob_policy_review.specs.Removal.{ListsRemovable, concerned, is_among, is_needed_in, removable_in};
 ghost use Rattle.kob_policy_review.specs.Removal.{with_removable};
 
-use crate::class::Target;
-use crate::finder::Finder;
 use crate::gone::Gone;
 use crate::matching::principals_of;
 use crate::needed::push_needed_by;
@@ -59,21 +56,20 @@ fn is_needed_in(
     Ok(has(out.as_slice(), entry.0))
 }
 
-/// Whether the entry is needed on some names once those of the set are gone.
-pub fn is_needed_on(
+/// Whether the entry is needed on some names, of those that match these, once some are gone.
+pub fn is_needed_among(
     alloc: Global,
-    finder: &Finder<'_>,
-    target: &Target,
+    rules: &Authorizer,
+    matching: &[(u64, Binding)],
     gone: &Gone,
     entry: &(u64, Binding),
 ) -> Result<bool, AllocError>
-    ensures { IfOk result (λ needed. needed ≡ is_needed_in finder.now.supers finder.now.everyone
-        (filter (is_outside (is_among gone.now)) (filter (is_on target.now) finder.now.entries))
+    ensures { IfOk result (λ needed. needed ≡ is_needed_in rules.now.contents.supers
+        rules.now.contents.everyone (filter (is_outside (is_among gone.now)) matching.now)
         entry.now) }
 {
-    let matching = finder.matching(alloc, target)?;
-    let left = gone.left(alloc, matching.as_slice())?;
-    is_needed_in(alloc, finder.rules(), left.as_slice(), entry)
+    let left = gone.left(alloc, matching)?;
+    is_needed_in(alloc, rules, left.as_slice(), entry)
 }
 
 /// Puts a binding to the set, if no answer changes without it and the set.
