@@ -76,6 +76,7 @@ Questions, each one word of the command line or one line:
   sees PRINCIPAL HOST                   the topics that it may describe
   topic NAME                            a topic for sees
   unused                                bindings that no answer needs, and why
+  removable                             bindings that may be deleted together
   shadowed                              allows that a deny always beats
 
 Status: 0 all read, 1 a fault, 2 out of memory, 3 an answer changes. docs/POLICY.md has an example.

@@ -6,5 +6,6 @@ pub mod Options
 pub mod Outcomes
 pub mod Policy
 pub mod Questions
+pub mod Removable
 pub mod Review
 pub mod Shell

@@ -14,7 +14,7 @@ use Rattle.kob_script.specs.Script.{lines_in}
 use Rattle.kob_words.specs.Words.{operation_named, resource_named}
 use Rattle.kob_policy_text.specs.declared.question.Asker.{Asker}
 use Rattle.kob_policy_text.specs.declared.question.Question.{Question}
-use Rattle.kob_policy_text.specs.declared.question.Question.TheVariants.{May, Ask, Who, Sees, Unused, Shadowed}
+use Rattle.kob_policy_text.specs.declared.question.Question.TheVariants.{May, Ask, Who, Sees, Unused, Shadowed, Removable}
 use Rattle.kob_policy_text.specs.declared.question.Right.{Right}
 use Rattle.kob_policy_text.specs.Lines.{only_event}
 
@@ -129,7 +129,8 @@ question_by first words =
     else (if is_word first (codes "sees") then sees_words words
     else (if is_word first (codes "unused") then alone Unused words
     else (if is_word first (codes "shadowed") then alone Shadowed words
-    else Err BadLine))))
+    else (if is_word first (codes "removable") then alone Removable words
+    else Err BadLine)))))
 
 -- the names of topics that are given, and the questions in their order
 pub record Questions : Type 0 where

@@ -23,8 +23,9 @@ use Rattle.kob_policy_text.specs.Answers.{from_text, line_at, line_by, may_text,
 use Rattle.kob_policy_text.specs.AtHand.{each_once}
 use Rattle.kob_policy_text.specs.Policy.{Policy, contents_of, may, place_of}
 use Rattle.kob_policy_text.specs.Questions.{Questions}
+use Rattle.kob_policy_text.specs.Removable.{removable_text}
 use Rattle.kob_policy_text.specs.declared.question.Question.{Question}
-use Rattle.kob_policy_text.specs.declared.question.Question.TheVariants.{May, Ask, Who, Sees, Unused, Shadowed}
+use Rattle.kob_policy_text.specs.declared.question.Question.TheVariants.{May, Ask, Who, Sees, Unused, Shadowed, Removable}
 use Rattle.kob_policy_text.specs.declared.question.Right.{Right}
 use Rattle.kob_words.specs.Words.{bytes_text, operation_name, resource_name}
 
@@ -156,6 +157,7 @@ question_text policy topics (Who right host) = who_text policy right host
 question_text policy topics (Sees asker) = sees_text policy topics asker
 question_text policy topics Unused = unused_text policy
 question_text policy topics Shadowed = shadowed_text policy
+question_text policy topics Removable = removable_text policy
 
 -- an answer behind its number
 abbrev pub answer_line : Policy → List (List ℕ) → ℕ → Question → List ℕ

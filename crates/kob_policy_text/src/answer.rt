@@ -11,6 +11,7 @@ use crate::judge::Judge;
 use crate::policy::Policy;
 use crate::printed::{push_may, push_omission};
 use crate::question::{Question, Questions};
+use crate::removable::push_removable;
 use crate::request::push_request;
 use crate::shadowed::push_shadowed;
 use crate::unused::push_unused;
@@ -45,6 +46,7 @@ fn push_question(
         Question::Sees(asker) => push_sees(out, judge, topics, asker),
         Question::Unused => push_unused(alloc, out, judge),
         Question::Shadowed => push_shadowed(alloc, out, judge),
+        Question::Removable => push_removable(alloc, out, judge),
     }
 }
 

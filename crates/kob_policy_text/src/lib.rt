@@ -17,6 +17,7 @@ mod policy;
 mod printed;
 mod question;
 mod question_words;
+mod removable;
 mod request;
 mod shadowed;
 mod shell;

@@ -45,6 +45,8 @@ pub enum Question {
     Unused,
     /// Which allows does a deny always beat?
     Shadowed,
+    /// Which bindings may be deleted together?
+    Removable,
 }
 
 /// The given names of topics, and the questions in order.
@@ -170,8 +172,8 @@ fn read_lines(
     Ok(())
 }
 
-/// Reads questions, a line each, after those that were read before: `may`, `who`, `sees`, `unused`
-/// and `shadowed`, and `topic` with a name that is given. The error is the first line with a fault,
+/// Reads questions, a line each, after those that were read before: `may`, `who`, `sees`, `unused`,
+/// `shadowed` and `removable`, and `topic` with a name that is given. The error is the first line with a fault,
 /// or out of memory.
 pub fn read_questions(
     alloc: Global,

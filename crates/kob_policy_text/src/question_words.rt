@@ -257,6 +257,8 @@ pub fn question_by(
         alone(Question::Unused, words)
     } else if is_word(first, b"shadowed") {
         alone(Question::Shadowed, words)
+    } else if is_word(first, b"removable") {
+        alone(Question::Removable, words)
     } else {
         Err(LineError::Fault(FaultKind::BadLine))
     }
