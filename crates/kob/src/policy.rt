@@ -3,7 +3,7 @@
 
 ghost use Rattle.std.specs.Prelude.{◌≡◌, ◌++◌, IfOk, OnOk};
 ghost use Rattle.kob.specs.Ending.{ending_of_answers, ending_of_changes};
-ghost use Rattle.kob_policy_text.specs.Answers.{any_fails};
+ghost use Rattle.kob_policy_text.specs.Access.{any_fails};
 ghost use Rattle.kob_policy_text.specs.Review.{answers_text, changes_text};
 
 use crate::ending::Ending;
