@@ -2,9 +2,10 @@
 use Rattle.std.specs.Prelude.{ℕ, Bool, List, [], ◌++◌, ◌&&◌, ◌||◌, codes, if◌then◌else◌}
 use Rattle.std.specs.List.{list_any}
 use Rattle.kob_authorizer.specs.Decide as authorizer
-use Rattle.kob_names.specs.Binding.{Binding, is_granted, matches}
+use Rattle.kob_names.specs.Binding.{Binding, matches}
 use Rattle.kob_names.specs.Same.{same_resource, same_text}
 use Rattle.kob_names.specs.declared.verdict.Verdict.{Verdict}
+use Rattle.kob_names.specs.declared.verdict.Verdict.TheVariants.{AllowedBy, DeniedBy, NoAclFound, NoAllow, Super}
 use Rattle.kob_policy_text.specs.Policy.{Policy}
 use Rattle.kob_words.specs.Words.{bytes_text}
 
@@ -26,10 +27,14 @@ is_taken policy asked =
 unfoldable pub told_text : List ℕ → List ℕ → List ℕ
 told_text what name = what ++ bytes_text name ++ codes "\n"
 
+-- a deny that decides is on the name
 abbrev pub untaken_text : Policy → Verdict → authorizer.Question → List ℕ
-untaken_text policy verdict asked =
-    if is_granted verdict || is_taken policy asked then []
-    else told_text (codes "    no pattern takes ") asked.name
+untaken_text policy NoAllow asked =
+    if is_taken policy asked then [] else told_text (codes "    no pattern takes ") asked.name
+untaken_text policy NoAclFound asked = []
+untaken_text policy Super asked = []
+untaken_text policy (AllowedBy serial) asked = []
+untaken_text policy (DeniedBy serial) asked = []
 
 abbrev pub unnamed_text : Policy → Bool → List ℕ → List ℕ
 unnamed_text policy allowed principal =

@@ -54,7 +54,7 @@ fn push_told(out: &mut Vec<u8>, what: &[u8], name: &str) -> Result<(), AllocErro
     out.extend_from_slice(b"\n")
 }
 
-/// That no pattern takes the name, if the answer is no.
+/// That no pattern takes the name, if no allow matches. Looks through the bindings then.
 pub fn push_untaken(
     out: &mut Vec<u8>,
     policy: &Policy,
@@ -64,10 +64,12 @@ pub fn push_untaken(
     ensures { OnOk result
         (out.new.items ≡ out.old.items ++ untaken_text policy.now verdict asked.now) }
 {
-    if verdict.is_granted() || is_taken(policy, asked) {
-        return Ok(());
+    match verdict {
+        Verdict::NoAllow if !is_taken(policy, asked) => {
+            push_told(out, b"    no pattern takes ", asked.name)
+        }
+        _ => Ok(()),
     }
-    push_told(out, b"    no pattern takes ", asked.name)
 }
 
 /// That no binding names who asks, if the answer is no.
