@@ -5,8 +5,8 @@ ghost use Rattle.std.specs.List.{count_by, position};
 ghost use Rattle.std.specs.Option.{option_copied};
 ghost use Rattle.kob_outbox.specs.Contents.{id_text};
 ghost use Rattle.kob_delivery_check.specs.Fates.{is_delivered, is_lost, is_waiting};
-ghost use Rattle.kob_delivery_check.specs.Printed.{doubled_by, doubled_item, doubled_line, doubled_lines};
-ghost use Rattle.kob_delivery_check.specs.Printed.{check_text, counted, event_text, head_text};
+ghost use Rattle.kob_delivery_check.specs.Printed.{check_text, counted, doubled_by, doubled_item};
+ghost use Rattle.kob_delivery_check.specs.Printed.{doubled_line, doubled_lines, event_text, head_text};
 ghost use Rattle.kob_delivery_check.specs.Printed.{lost_item, lost_line, lost_lines, place_text};
 ghost use Rattle.kob_delivery_check.specs.Printed.{spaced, waits_at, waits_line, waits_text, where_text};
 
@@ -73,11 +73,24 @@ fn push_place(out: &mut Vec<u8>, offset: u64, place: Option<&Place>) -> Result<(
     }
 }
 
+/// The partition at a place of the assignment, and an offset in it.
+fn push_assigned(
+    out: &mut Vec<u8>,
+    assignment: &[Place],
+    assigned: usize,
+    offset: u64,
+) -> Result<(), AllocError>
+    ensures { OnOk result (out.new.items
+        ≡ out.old.items ++ place_text offset (slice_get assignment.now assigned)) }
+{
+    push_place(out, offset, assignment.get(assigned))
+}
+
 fn push_where(out: &mut Vec<u8>, assignment: &[Place], fate: Fate) -> Result<(), AllocError>
     ensures { OnOk result (out.new.items ≡ out.old.items ++ where_text assignment.now fate) }
 {
     match fate {
-        Fate::Ahead { assigned, offset } => push_place(out, offset, assignment.get(assigned)),
+        Fate::Ahead { assigned, offset } => push_assigned(out, assignment, assigned, offset),
         Fate::Outbox => out.extend_from_slice(b" in the outbox"),
         Fate::Delivered => Ok(()),
         Fate::Lost => Ok(()),
@@ -248,7 +261,7 @@ fn push_doubled_line(
 {
     out.extend_from_slice(b"doubled")?;
     push_event(out, (place as u64).saturating_add(1), event)?;
-    push_place(out, stored.offset, assignment.get(stored.assigned))?;
+    push_assigned(out, assignment, stored.assigned, stored.offset)?;
     out.extend_from_slice(b"\n")
 }
 

@@ -13,7 +13,7 @@ loop-place-preserved c =
     let known = c.contains.ensures ∙ c.loop-place.invariant.1 stored.event in (
       item_more (repeat_at records) records c.loop-place.place stored [] c.loop-place.repeats.items
           c.push_repeat.new.repeats.items c.loop-place-test.true at_place c.loop-place.invariant.0
-          (rw known at (c.in_ok-push_repeat.ensures tt)),
+          (rw known at c.in_ok-push_repeat.ensures),
       λ id. number_to (λ other. other.event) records c.loop-place.place stored stored.event id _ _ c.loop-place-test.true
           at_place refl (c.in_ok-insert.ensures.updates.0 id) (c.loop-place.invariant.1 id),
     )
