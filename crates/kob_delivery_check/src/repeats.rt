@@ -77,11 +77,7 @@ pub fn repeats_of(alloc: Global, records: &[Stored]) -> Result<Vec<Stored>, Allo
     Ok(repeats)
 }
 
-fn push_repeat(
-    repeats: &mut Vec<Stored>,
-    is_repeat: bool,
-    stored: Stored,
-) -> Result<(), AllocError>
+fn push_repeat(repeats: &mut Vec<Stored>, is_repeat: bool, stored: Stored) -> Result<(), AllocError>
     ensures { OnOk result (repeats.new.items ≡ repeats.old.items ++ repeat_by is_repeat stored) }
 {
     if is_repeat {

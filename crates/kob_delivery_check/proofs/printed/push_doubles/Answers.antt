@@ -1,4 +1,4 @@
-use Rattle.std.proofs.Common.{List, arith, get_or, length, map, rules, sym, ℕ, ◌<◌, ◌∙◌, ◌≡◌, ap}
+use Rattle.std.proofs.Common.{List, ap, get_or, length, map, rules, sym, ℕ, ◌<◌, ◌∙◌, ◌≡◌}
 use Rattle.std.proofs.lemmas.List.{get_or-map, length-map}
 use Rattle.kob_delivery_check.specs.Printed.{doubled_item}
 use Rattle.kob_delivery_check.proofs.Listed.{item_more}

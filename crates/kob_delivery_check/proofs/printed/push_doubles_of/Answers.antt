@@ -1,4 +1,4 @@
-use Rattle.std.proofs.Common.{arith, rules}
+use Rattle.std.proofs.Common.{rules}
 use Rattle.kob_delivery_check.specs.Printed.{doubled_by}
 use Rattle.kob_delivery_check.proofs.More.{parts_to}
 use Rattle.kob_delivery_check.proofs.printed.push_doubles_of.Goals as goal

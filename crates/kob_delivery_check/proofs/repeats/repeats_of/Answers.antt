@@ -1,6 +1,6 @@
-use Rattle.std.proofs.Common.{[], ap, refl, rules, sym, ◌∙◌}
+use Rattle.std.proofs.Common.{[], refl, sym, ◌∙◌}
 use Rattle.std.proofs.lemmas.Option.{get_or_from_slice_get}
-use Rattle.kob_delivery_check.specs.Repeats.{repeat_at, repeat_by}
+use Rattle.kob_delivery_check.specs.Repeats.{repeat_at}
 use Rattle.kob_delivery_check.proofs.Listed.{item_more}
 use Rattle.kob_delivery_check.proofs.More.{number_to}
 use Rattle.kob_delivery_check.proofs.repeats.repeats_of.Goals as goal
