@@ -13,7 +13,7 @@ pub checked : (service consumer : ℕ) (stage : Stage) (sender : PlayedService) 
     → Tells (IsChecked service consumer stage told) held now
 checked service consumer stage sender taker found told held now journal from to first second is_journal is_from is_to is printed =
     let text = λ (s : Service) (t : Consumer). check_text (one_more told) s.recorded found.fates.items found.repeats.items
-        t.fetcher.subscription.assignment in (
+    t.fetcher.subscription.assignment in (
       text sender.service taker.consumer,
       (sender, taker, first, second, (found, rw is_journal at is, refl)),
       printed ∙ ap (λ (s : Service). held ++ text s to) is_from ∙ ap (λ (t : Consumer). held ++ text sender.service t) is_to,

@@ -12,8 +12,9 @@ use crate::fault::PlayFault;
 use crate::output::Output;
 use crate::service_worker::ServiceWorker;
 use crate::stage::Stage;
-use kob_delivery_check::{Fate, Found, Stored, fates_of, print_check, reaches_by};
-use kob_delivery_check::{records_ahead, records_of, repeats_of};
+use kob_delivery_check::{
+    Fate, Found, Stored, fates_of, print_check, reaches_by, records_ahead, records_of, repeats_of,
+};
 use kob_shared::Journal;
 use std::alloc::{AllocError, Global};
 
