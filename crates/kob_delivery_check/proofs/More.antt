@@ -1,10 +1,10 @@
 -- What one item more adds to what a loop has made.
 use Rattle.std.proofs.Common.{Bool, List, Some, [], ap, cond, false, get_or, length, map, refl, sym, take, true, ℕ, ◌++◌, ◌+◌, ◌<◌, ◌==◌, ◌||◌, ◌∙◌, ◌∷◌, ◌≡◌}
-use Rattle.std.proofs.lemmas.List.{map-append, take_more}
+use Rattle.std.proofs.lemmas.List.{flat_map_more, map-append, take_more}
 use Rattle.std.proofs.lemmas.List.Sums.{fold_more}
 use Rattle.std.proofs.lemmas.List.Folds.{list_any-append}
 use Rattle.std.proofs.lemmas.Option.{get_or_from_slice_get}
-use Rattle.std.specs.List.{fold, list_any}
+use Rattle.std.specs.List.{flat_map, fold, list_any}
 use Rattle.std.specs.Prelude.{slice_get}
 
 -- to a fold
@@ -43,3 +43,11 @@ mapped_to f g xs k x y mid now below is made so_far more =
     more ∙ ap (λ ys. ys ++ y ∷ []) so_far ∙ ap (λ z. map f (map g (take k xs)) ++ z ∷ []) made
     ∙ sym (ap (λ zs. map f (map g zs)) (next xs k x below is) ∙ ap (map f) (map-append g (take k xs) (x ∷ []))
     ∙ map-append f (map g (take k xs)) (g x ∷ []))
+
+-- to the parts of the items of a list
+pub parts_to : {A B : Type 0} (part : A → List B) (xs : List A) (k : ℕ) (x : A) (held mid now : List B) → k < length xs
+    → slice_get xs k ≡ Some x → mid ≡ held ++ flat_map part (take k xs) → now ≡ mid ++ part x
+    → now ≡ held ++ flat_map part (take (k + 1) xs)
+parts_to part xs k x held mid now below is so_far more =
+    more ∙ ap (λ ys. ys ++ part x) so_far ∙ flat_map_more part held (take k xs) x
+    ∙ ap (λ zs. held ++ flat_map part zs) (sym (next xs k x below (sym (get_or_from_slice_get xs k x x is))))

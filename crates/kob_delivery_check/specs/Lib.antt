@@ -3,3 +3,4 @@ pub mod Journaled
 pub mod Logs
 pub mod Printed
 pub mod Reaches
+pub mod Repeats

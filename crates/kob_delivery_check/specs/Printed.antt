@@ -1,8 +1,10 @@
 -- How the answer to a check is printed.
-use Rattle.std.specs.Prelude.{ℕ, List, [], ◌++◌, Option, None, Some, codes, length, slice_get, string_bytes}
+use Rattle.std.specs.Prelude.{ℕ, ◌==◌, List, [], ◌++◌, Option, if◌then◌else◌, None, Some, codes, length, slice_get, string_bytes}
 use Rattle.std.specs.Fmt.{decimal}
 use Rattle.std.specs.List.{count_by, enumerate_from, flat_map, position}
 use Rattle.kob_delivery_check.specs.Fates.{is_delivered, is_lost, is_waiting}
+use Rattle.kob_delivery_check.specs.Logs.{number_of}
+use Rattle.kob_delivery_check.specs.declared.reach.Stored.{Stored}
 use Rattle.kob_delivery_check.specs.declared.fate.Fate.{Fate}
 use Rattle.kob_delivery_check.specs.declared.fate.Fate.TheVariants.{Delivered, Ahead, Outbox, Lost}
 use Rattle.kob_outbox.specs.Contents.{id_text}
@@ -74,7 +76,28 @@ head_text number fates =
     ++ codes " waiting" ++ counted (count_by is_waiting fates)
     ++ codes " lost" ++ counted (count_by is_lost fates) ++ codes "\n"
 
+-- the line of an event's record that has an earlier one
+abbrev pub doubled_line : List Place → ℕ → OutboxEvent → Stored → List ℕ
+doubled_line assignment place event stored =
+    codes "doubled" ++ event_text (one_more place) event
+    ++ place_text stored.offset (slice_get assignment stored.assigned) ++ codes "\n"
+
+-- the lines of an event's records that have an earlier one
+abbrev pub doubled_by : List Place → ℕ → OutboxEvent → Stored → List ℕ
+doubled_by assignment place event stored =
+    if stored.event == number_of event.id then doubled_line assignment place event stored else []
+
+abbrev pub doubled_item : List Place → List Stored → ℕ × OutboxEvent → List ℕ
+doubled_item assignment repeats (place, event) =
+    flat_map (doubled_by assignment place event) repeats
+
+-- a line for each record of an event that has an earlier one, by the rows of the events
+abbrev pub doubled_lines : List OutboxEvent → List Place → List Stored → List ℕ
+doubled_lines events assignment repeats =
+    flat_map (λ x. doubled_item assignment repeats x) (enumerate_from 0 events)
+
 -- the whole answer to a check
-abbrev pub check_text : ℕ → List OutboxEvent → List Fate → List Place → List ℕ
-check_text number events fates assignment =
+abbrev pub check_text : ℕ → List OutboxEvent → List Fate → List Stored → List Place → List ℕ
+check_text number events fates repeats assignment =
     head_text number fates ++ waits_text events fates assignment ++ lost_lines events fates
+    ++ doubled_lines events assignment repeats

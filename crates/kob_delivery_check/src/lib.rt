@@ -7,10 +7,12 @@ mod journaled;
 mod partition_log;
 mod printed;
 mod reach;
+mod repeats;
 
 pub use fate::Fate;
 pub use fates::fates_of;
 pub use journaled::{log_by, reaches_by};
 pub use partition_log::PartitionLog;
-pub use printed::print_check;
+pub use printed::{Found, print_check};
 pub use reach::{Reach, Stored, records_ahead};
+pub use repeats::{records_of, repeats_of};

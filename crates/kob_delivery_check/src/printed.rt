@@ -5,11 +5,13 @@ ghost use Rattle.std.specs.List.{count_by, position};
 ghost use Rattle.std.specs.Option.{option_copied};
 ghost use Rattle.kob_outbox.specs.Contents.{id_text};
 ghost use Rattle.kob_delivery_check.specs.Fates.{is_delivered, is_lost, is_waiting};
-ghost use Rattle.kob_delivery_check.specs.Printed.{check_text, counted, event_text, head_text};
+ghost use Rattle.kob_delivery_check.specs.Printed.{check_text, counted, doubled_by, doubled_item};
+ghost use Rattle.kob_delivery_check.specs.Printed.{doubled_line, doubled_lines, event_text, head_text};
 ghost use Rattle.kob_delivery_check.specs.Printed.{lost_item, lost_line, lost_lines, place_text};
 ghost use Rattle.kob_delivery_check.specs.Printed.{spaced, waits_at, waits_line, waits_text, where_text};
 
 use crate::fate::Fate;
+use crate::reach::{Stored, record_at};
 use kob_outbox::OutboxEvent;
 use kob_router::Place;
 use kob_words::{push_bytes, push_number};
@@ -71,11 +73,24 @@ fn push_place(out: &mut Vec<u8>, offset: u64, place: Option<&Place>) -> Result<(
     }
 }
 
+/// The partition at a place of the assignment, and an offset in it.
+fn push_assigned(
+    out: &mut Vec<u8>,
+    assignment: &[Place],
+    assigned: usize,
+    offset: u64,
+) -> Result<(), AllocError>
+    ensures { OnOk result (out.new.items
+        ≡ out.old.items ++ place_text offset (slice_get assignment.now assigned)) }
+{
+    push_place(out, offset, assignment.get(assigned))
+}
+
 fn push_where(out: &mut Vec<u8>, assignment: &[Place], fate: Fate) -> Result<(), AllocError>
     ensures { OnOk result (out.new.items ≡ out.old.items ++ where_text assignment.now fate) }
 {
     match fate {
-        Fate::Ahead { assigned, offset } => push_place(out, offset, assignment.get(assigned)),
+        Fate::Ahead { assigned, offset } => push_assigned(out, assignment, assigned, offset),
         Fate::Outbox => out.extend_from_slice(b" in the outbox"),
         Fate::Delivered => Ok(()),
         Fate::Lost => Ok(()),
@@ -215,22 +230,101 @@ fn lost(fates: &[Fate]) -> usize
     fates.iter().filter(|fate| fate.is_lost()).count()
 }
 
+/// The line of an event's record that has an earlier one; nothing for a record of another event.
+fn push_doubled(
+    out: &mut Vec<u8>,
+    assignment: &[Place],
+    place: usize,
+    event: &OutboxEvent,
+    stored: Stored,
+) -> Result<(), AllocError>
+    ensures { OnOk result (out.new.items
+        ≡ out.old.items ++ doubled_by assignment.now place event.now stored) }
+{
+    if stored.event == event.id.as_u128() {
+        push_doubled_line(out, assignment, place, event, stored)
+    } else {
+        Ok(())
+    }
+}
+
+#[tactic(auto, using(kob_words::proofs::Appending::appending))]
+fn push_doubled_line(
+    out: &mut Vec<u8>,
+    assignment: &[Place],
+    place: usize,
+    event: &OutboxEvent,
+    stored: Stored,
+) -> Result<(), AllocError>
+    ensures { OnOk result (out.new.items
+        ≡ out.old.items ++ doubled_line assignment.now place event.now stored) }
+{
+    out.extend_from_slice(b"doubled")?;
+    push_event(out, (place as u64).saturating_add(1), event)?;
+    push_assigned(out, assignment, stored.assigned, stored.offset)?;
+    out.extend_from_slice(b"\n")
+}
+
+/// The lines of an event's records that have an earlier one.
+#[tactic(auto, using(kob_words::proofs::Appending::appending))]
+fn push_doubles_of(
+    out: &mut Vec<u8>,
+    assignment: &[Place],
+    repeats: &[Stored],
+    place: usize,
+    event: &OutboxEvent,
+) -> Result<(), AllocError>
+    ensures { OnOk result (out.new.items
+        ≡ out.old.items ++ doubled_item assignment.now repeats.now (place, event.now)) }
+{
+    for at in 0..repeats.len() {
+        push_doubled(out, assignment, place, event, record_at(repeats, at))?;
+    }
+    Ok(())
+}
+
+fn push_doubles(
+    out: &mut Vec<u8>,
+    events: &[&OutboxEvent],
+    repeats: &[Stored],
+    assignment: &[Place],
+) -> Result<(), AllocError>
+    ensures { OnOk result (out.new.items ≡ out.old.items
+        ++ doubled_lines (map (λ event. event.now) events.now) assignment.now repeats.now) }
+{
+    for place in 0..events.len() {
+        push_doubles_of(out, assignment, repeats, place, events[place])?;
+    }
+    Ok(())
+}
+
+/// What a check found: where each event is that a service recorded, in their order, and the records
+/// of events in the consumer's partitions that have an earlier record of the same event.
+#[derive(Drop)]
+pub struct Found {
+    pub fates: Vec<Fate>,
+    pub repeats: Vec<Stored>,
+}
+
 /// Prints `N delivered D of M waiting W lost L`, then a line `waits ID AGGREGATETYPE AGGREGATEID row
-/// ROW` with where for the first event that waits, and a line `lost ID AGGREGATETYPE AGGREGATEID row
-/// ROW` for each event that is lost. The events are those that a service recorded, in their order,
-/// with where each is. The error is out of memory; `out` has then grown by a part of it.
+/// ROW` with where for the first event that waits, a line `lost ID AGGREGATETYPE AGGREGATEID row ROW`
+/// for each event that is lost, and a line `doubled ID AGGREGATETYPE AGGREGATEID row ROW in TOPIC
+/// PARTITION at OFFSET` for each record of an event that has an earlier one. The error is out of
+/// memory; `out` has then grown by a part of it.
 #[tactic(auto, using(kob_words::proofs::Appending::appending))]
 pub fn print_check(
     out: &mut Vec<u8>,
     number: u64,
     events: &[&OutboxEvent],
-    fates: &[Fate],
+    found: &Found,
     assignment: &[Place],
 ) -> Result<(), AllocError>
     ensures { OnOk result (out.new.items ≡ out.old.items
-        ++ check_text number (map (λ event. event.now) events.now) fates.now assignment.now) }
+        ++ check_text number (map (λ event. event.now) events.now) found.now.fates.items
+        found.now.repeats.items assignment.now) }
 {
-    push_head(out, number, fates)?;
-    push_first_waiting(out, events, fates, assignment)?;
-    push_all_lost(out, events, fates)
+    push_head(out, number, &found.fates)?;
+    push_first_waiting(out, events, &found.fates, assignment)?;
+    push_all_lost(out, events, &found.fates)?;
+    push_doubles(out, events, &found.repeats, assignment)
 }

@@ -1,6 +1,6 @@
 //! The records that a consumer has before it.
 
-ghost use Rattle.std.specs.Prelude.{◌≡◌, ◌++◌, IfOk, OnOk, map};
+ghost use Rattle.std.specs.Prelude.{◌≡◌, ◌<◌, ◌++◌, IfOk, OnOk, Some, length, slice_get};
 ghost use Rattle.std.specs.List.{enumerate_from, flat_map};
 ghost use Rattle.kob_delivery_check.specs.Reaches.{records_ahead, records_from, stored_at};
 ghost use Rattle.kob_delivery_check.specs.Reaches.{records_within};
@@ -43,7 +43,7 @@ fn push_reach(ahead: &mut Vec<Stored>, assigned: usize, reach: &Reach) -> Result
 }
 
 /// Adds the records of a partition from an offset on.
-fn push_from(
+pub(crate) fn push_from(
     ahead: &mut Vec<Stored>,
     assigned: usize,
     from: u64,
@@ -53,12 +53,12 @@ fn push_from(
         ≡ ahead.old.items ++ records_from assigned from events.now) }
 {
     for offset in 0..events.len() {
-        push_stored(ahead, assigned, from, offset as u64, events[offset])?;
+        push_record(ahead, assigned, from, offset as u64, events[offset])?;
     }
     Ok(())
 }
 
-fn push_stored(
+fn push_record(
     ahead: &mut Vec<Stored>,
     assigned: usize,
     from: u64,
@@ -79,4 +79,12 @@ fn push_stored(
         }
         _ => Ok(()),
     }
+}
+
+/// The record at a place of the list.
+pub(crate) fn record_at(records: &[Stored], place: usize) -> Stored
+    requires { place < length records.now }
+    ensures { slice_get records.now place ≡ Some result }
+{
+    records[place]
 }

@@ -1,20 +1,20 @@
 -- What is answered about where events are.
-use Rattle.kob_scene_play.proofs.Words.{AreFates, Consumer, Entry, IsChecked, List, PlayedConsumer, PlayedService, Service, Some, Stage, Tells, ap, check_text, one_more, refl, slice_get, ℕ, ◌++◌, ◌∙◌, ◌≡◌}
-use Rattle.kob_delivery_check.specs.declared.fate.Fate.{Fate}
+use Rattle.kob_scene_play.proofs.Words.{Consumer, Entry, IsChecked, IsFound, List, PlayedConsumer, PlayedService, Service, Some, Stage, Tells, ap, check_text, one_more, refl, slice_get, ℕ, ◌++◌, ◌∙◌, ◌≡◌}
+use Rattle.kob_delivery_check.specs.declared.printed.Found.{Found}
 
 -- of the service and the consumer at these places, where what was printed is of their equals
-pub checked : (service consumer : ℕ) (stage : Stage) (sender : PlayedService) (taker : PlayedConsumer) (fates : List Fate)
-    (told : ℕ) (held now : List ℕ) (journal : List Entry) (from : Service) (to : Consumer) (shown : List Fate)
+pub checked : (service consumer : ℕ) (stage : Stage) (sender : PlayedService) (taker : PlayedConsumer) (found : Found)
+    (told : ℕ) (held now : List ℕ) (journal : List Entry) (from : Service) (to : Consumer)
     → slice_get stage.services.items service ≡ Some sender → slice_get stage.consumers.items consumer ≡ Some taker
-    → journal ≡ stage.recorded.journal → from ≡ sender.service → to ≡ taker.consumer → shown ≡ fates
-    → AreFates sender.service taker.consumer journal fates
-    → now ≡ held ++ check_text (one_more told) from.recorded shown to.fetcher.subscription.assignment
+    → journal ≡ stage.recorded.journal → from ≡ sender.service → to ≡ taker.consumer
+    → IsFound sender.service taker.consumer journal found
+    → now ≡ held ++ check_text (one_more told) from.recorded found.fates.items found.repeats.items
+    to.fetcher.subscription.assignment
     → Tells (IsChecked service consumer stage told) held now
-checked service consumer stage sender taker fates told held now journal from to shown first second is_journal is_from is_to is_shown are printed = (
-  check_text (one_more told) sender.service.recorded fates taker.consumer.fetcher.subscription.assignment,
-  (sender, taker, first, second, (fates, rw is_journal at are, refl)),
-  printed
-      ∙ ap (λ (s : Service). held ++ check_text (one_more told) s.recorded shown to.fetcher.subscription.assignment) is_from
-      ∙ ap (λ (t : Consumer). held ++ check_text (one_more told) sender.service.recorded shown t.fetcher.subscription.assignment) is_to
-      ∙ ap (λ (f : List Fate). held ++ check_text (one_more told) sender.service.recorded f taker.consumer.fetcher.subscription.assignment) is_shown,
-)
+checked service consumer stage sender taker found told held now journal from to first second is_journal is_from is_to is printed =
+    let text = λ (s : Service) (t : Consumer). check_text (one_more told) s.recorded found.fates.items found.repeats.items
+    t.fetcher.subscription.assignment in (
+      text sender.service taker.consumer,
+      (sender, taker, first, second, (found, rw is_journal at is, refl)),
+      printed ∙ ap (λ (s : Service). held ++ text s to) is_from ∙ ap (λ (t : Consumer). held ++ text sender.service t) is_to,
+    )

@@ -5,7 +5,9 @@ use Rattle.kob_delivery_check.specs.Fates.{fates_by}
 use Rattle.kob_delivery_check.specs.Journaled.{reach_of}
 use Rattle.kob_delivery_check.specs.Printed.{check_text}
 use Rattle.kob_delivery_check.specs.Reaches.{records_ahead}
+use Rattle.kob_delivery_check.specs.Repeats.{records_of, repeats_of}
 use Rattle.kob_delivery_check.specs.declared.fate.Fate.{Fate}
+use Rattle.kob_delivery_check.specs.declared.printed.Found.{Found}
 use Rattle.kob_delivery_check.specs.declared.reach.Reach.{Reach}
 use Rattle.kob_delivery_check.specs.declared.reach.Stored.{Stored}
 use Rattle.kob_inbox.specs.Contents.{placed_intake}
@@ -28,6 +30,11 @@ reaches_of journal consumer =
 abbrev pub ahead_of : List Entry → Consumer → List Stored
 ahead_of journal consumer = records_ahead (reaches_of journal consumer)
 
+-- the records of events in its partitions that have an earlier record of the same event
+abbrev pub repeats_in : List Entry → Consumer → List Stored
+repeats_in journal consumer =
+    repeats_of (records_of consumer.fetcher.subscription.assignment (reaches_of journal consumer))
+
 -- where each event that the service recorded is: in the consumer's inbox, before the consumer, in
 -- the outbox after the mark, or in none of these
 abbrev pub AreFates : Service → Consumer → List Entry → List Fate → Type 0
@@ -38,11 +45,17 @@ AreFates service consumer journal fates =
     ≡ first_after service.outbox.mark 4294967295 service.outbox.events)
     × (fates ≡ fates_by taken (ahead_of journal consumer) waiting service.recorded)
 
+-- where each event is, and which records repeat one
+abbrev pub IsFound : Service → Consumer → List Entry → Found → Type 0
+IsFound service consumer journal found =
+    AreFates service consumer journal found.fates.items
+    × (found.repeats.items ≡ repeats_in journal consumer)
+
 abbrev pub IsCheck : Service → Consumer → List Entry → ℕ → List ℕ → Type 0
 IsCheck service consumer journal told text =
-    (fates : List Fate)
-    × AreFates service consumer journal fates
-    × (text ≡ check_text (one_more told) service.recorded fates
+    (found : Found)
+    × IsFound service consumer journal found
+    × (text ≡ check_text (one_more told) service.recorded found.fates.items found.repeats.items
     consumer.fetcher.subscription.assignment)
 
 -- the answer about the service and the consumer at these places

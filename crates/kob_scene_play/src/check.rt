@@ -3,7 +3,8 @@
 ghost use Rattle.std.specs.Prelude.{◌≡◌, ◌++◌, IfOk, OnOk};
 ghost use Rattle.kob_delivery_check.specs.Printed.{check_text};
 ghost use Rattle.kob_router.specs.Line.{one_more};
-ghost use Rattle.kob_scene_play.specs.Checks.{AreFates, IsChecked, ahead_of};
+ghost use Rattle.kob_scene_play.specs.Checks.{AreFates, IsChecked, IsFound, ahead_of};
+ghost use Rattle.kob_scene_play.specs.Checks.{repeats_in};
 ghost use Rattle.kob_scene_play.specs.Steps.{Tells};
 
 use crate::consumer_worker::ConsumerWorker;
@@ -11,12 +12,15 @@ use crate::fault::PlayFault;
 use crate::output::Output;
 use crate::service_worker::ServiceWorker;
 use crate::stage::Stage;
-use kob_delivery_check::{Fate, Stored, fates_of, print_check, reaches_by, records_ahead};
+use kob_delivery_check::{
+    Fate, Found, Stored, fates_of, print_check, reaches_by, records_ahead, records_of, repeats_of,
+};
 use kob_shared::Journal;
 use std::alloc::{AllocError, Global};
 
 /// Prints how many events of the service are in the consumer's inbox, how many wait and how many
-/// are lost, the first one that waits with where it does, and each one that is lost.
+/// are lost; the first one that waits with where it does; each one that is lost; and each record of
+/// one of them in the consumer's partitions that has an earlier record.
 pub(crate) fn show_check(
     alloc: Global,
     stage: &mut Stage<'_>,
@@ -38,9 +42,25 @@ pub(crate) fn show_check(
         return Err(PlayFault::NoWorker);
     };
     let journal = stage.recorded.journal();
-    let fates = fates_at(alloc, journal, &mut sender.service, &mut taker.consumer)?;
-    print(&sender.service, &taker.consumer, &fates, out)?;
+    let found = found_at(alloc, journal, &mut sender.service, &mut taker.consumer)?;
+    print(&sender.service, &taker.consumer, &found, out)?;
     Ok(())
+}
+
+/// Where each event of the service is, and which records repeat an event.
+fn found_at(
+    alloc: Global,
+    journal: &Journal,
+    sender: &mut ServiceWorker<'_>,
+    taker: &mut ConsumerWorker,
+) -> Result<Found, PlayFault>
+    ensures sender { sender.new ≡ sender.old }
+    ensures taker { taker.new ≡ taker.old }
+    ensures found { IfOk result (λ found. IsFound sender.old taker.old journal.now found) }
+{
+    let repeats = repeats_in(alloc, journal, taker)?;
+    let fates = fates_at(alloc, journal, sender, taker)?;
+    Ok(Found { fates, repeats })
 }
 
 /// Where each event of the service is, in the order in which they were recorded.
@@ -73,20 +93,34 @@ fn ahead_of(
     records_ahead(alloc, &reaches)
 }
 
+/// The records of events in a consumer's partitions that have an earlier record of the same event.
+fn repeats_in(
+    alloc: Global,
+    journal: &Journal,
+    taker: &ConsumerWorker,
+) -> Result<Vec<Stored>, AllocError>
+    ensures { IfOk result (λ repeats. repeats.items ≡ repeats_in journal.now taker.now) }
+{
+    let reaches = reaches_by(alloc, journal, taker.consumer())?;
+    let assignment = taker.subscription().assignment.as_slice();
+    let records = records_of(alloc, assignment, &reaches)?;
+    repeats_of(alloc, &records)
+}
+
 fn print(
     sender: &ServiceWorker<'_>,
     taker: &ConsumerWorker,
-    fates: &[Fate],
+    found: &Found,
     out: &mut Output,
 ) -> Result<(), AllocError>
     ensures printed { OnOk result (out.new.text.items ≡ out.old.text.items
-        ++ check_text (one_more out.old.told) sender.now.recorded fates.now
-        taker.now.fetcher.subscription.assignment) }
+        ++ check_text (one_more out.old.told) sender.now.recorded found.now.fates.items
+        found.now.repeats.items taker.now.fetcher.subscription.assignment) }
     ensures told { OnOk result (out.new.told ≡ one_more out.old.told) }
 {
     let number = out.number();
     let assignment = taker.subscription().assignment.as_slice();
-    print_check(&mut out.text, number, sender.recorded(), fates, assignment)?;
+    print_check(&mut out.text, number, sender.recorded(), found, assignment)?;
     out.tell();
     Ok(())
 }

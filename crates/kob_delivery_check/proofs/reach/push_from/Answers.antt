@@ -7,5 +7,5 @@ pub loop-offset-preserved : goal.loop-offset-preserved
 loop-offset-preserved c =
     item_more (stored_at c.args.assigned c.args.from) c.args.events.now c.loop-offset.offset
     (get_or c.args.events.now c.loop-offset.offset None) c.args.ahead.now.items c.loop-offset.ahead.items
-    c.push_stored.new.ahead.items c.loop-offset-test.true (search rules) c.loop-offset.invariant
+    c.push_record.new.ahead.items c.loop-offset-test.true (search rules) c.loop-offset.invariant
     (search rules)
