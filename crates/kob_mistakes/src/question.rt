@@ -230,19 +230,29 @@ fn has_unknown_value(word: &[u8]) -> bool {
     }
 }
 
-/// A hint on a line that is not one of a list, but one of a scene: a declaration, a step of a worker,
-/// or a request other than those that lists may have.
+/// A hint on a line that is not one of a list, but one of a scene.
 fn hint_on_list(words: &[&[u8]]) -> Option<&'static str> {
-    let is_scene = match words {
-        [b"service" | b"consumer", ..] => true,
-        [_, _, b"create-acl" | b"acl", ..] => false,
-        [who, _, command, ..] if who.contains(&b':') => is_command(command),
-        [_, step, ..] => is_step(step),
-        _ => false,
-    };
-    if is_scene {
+    if is_of_scene(words) {
         Some("this looks like a scene: kob play plays it")
     } else {
         None
     }
+}
+
+/// Whether a line looks like a declaration, a step of a worker, or a request that lists do not have.
+fn is_of_scene(words: &[&[u8]]) -> bool {
+    match words {
+        [who, _, command, ..] if who.contains(&b':') => is_played(command),
+        [first, second, ..] => is_declaration(first) || is_step(second),
+        _ => false,
+    }
+}
+
+/// Whether a word is the name of a command other than those that lists may have.
+fn is_played(command: &[u8]) -> bool {
+    is_command(command) && command != b"create-acl".as_slice() && command != b"acl".as_slice()
+}
+
+fn is_declaration(first: &[u8]) -> bool {
+    first == b"service".as_slice() || first == b"consumer".as_slice()
 }
