@@ -33,6 +33,7 @@ mod tool;
 mod unused;
 mod users;
 mod who;
+mod who_words;
 
 pub use access::any_fails;
 pub use answer::{print_answers, print_omissions, print_review};
