@@ -16,6 +16,7 @@ mod lines;
 mod listing;
 mod options;
 mod origin;
+mod other_operations;
 mod pieces;
 mod policy;
 mod printed;
