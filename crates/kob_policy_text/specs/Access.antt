@@ -16,7 +16,7 @@ use Rattle.kob_policy_text.specs.declared.question.Act.TheVariants as act
 use Rattle.kob_policy_text.specs.declared.question.Asker.{Asker}
 use Rattle.kob_policy_text.specs.declared.question.Query.{Query}
 use Rattle.kob_policy_text.specs.declared.question.Question.{Question}
-use Rattle.kob_policy_text.specs.declared.question.Question.TheVariants.{Expect}
+use Rattle.kob_policy_text.specs.declared.question.Question.TheVariants.{May, Expect, Who, WhoConsumes, Sees, Summary, Unused, Shadowed, Removable}
 use Rattle.kob_policy_text.specs.declared.question.Right.{Right}
 use Rattle.kob_policy_text.specs.declared.release.Release.{Release}
 use Rattle.kob_policy_text.specs.declared.release.Release.TheVariants.{Before28, Since28}
@@ -114,7 +114,14 @@ is_other_answer false allowed = allowed
 -- An expectation fails exactly if the answer to its `may` is the other one. No other question fails.
 abbrev pub fails : Policy → Question → Bool
 fails policy (Expect expected access) = is_other_answer expected (is_allowed policy access)
-fails policy _ = false
+fails policy (May access) = false
+fails policy (Who right host) = false
+fails policy (WhoConsumes topic group) = false
+fails policy (Sees asker) = false
+fails policy Summary = false
+fails policy Unused = false
+fails policy Shadowed = false
+fails policy Removable = false
 
 -- some expectation fails
 abbrev pub any_fails : Policy → List Query → Bool

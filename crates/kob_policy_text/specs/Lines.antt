@@ -152,7 +152,8 @@ is_release first = bytes_eq first.decoded (codes "kafka")
 abbrev pub release_line : List Word → Result (List Item) FaultKind
 release_line (version ∷ []) =
     ok_or (release_named version.decoded) BadWord >>= λ release. Ok (Brokers release ∷ [])
-release_line _ = Err BadLine
+release_line [] = Err BadLine
+release_line (version ∷ second ∷ others) = Err BadLine
 
 -- `super PRINCIPAL`, `everyone on` or `everyone off`
 unfoldable pub setting_items : Word → List Word → Result (List Item) FaultKind

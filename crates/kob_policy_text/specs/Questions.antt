@@ -11,14 +11,15 @@ use Rattle.kob_script.specs.Words.{◌>>=◌, text_of, principal_of, host_of, Wo
 use Rattle.kob_script.specs.Script.{lines_in}
 use Rattle.kob_names.specs.Same.{same_resource, same_text}
 use Rattle.kob_names.specs.declared.kinds.ResourceKind.{ResourceKind}
-use Rattle.kob_names.specs.declared.kinds.ResourceKind.TheVariants.{Cluster}
+use Rattle.kob_names.specs.declared.kinds.Operation.TheVariants.{Read, Write}
+use Rattle.kob_names.specs.declared.kinds.ResourceKind.TheVariants.{Cluster, Group, Topic}
 use Rattle.kob_policy_text.specs.declared.question.Access.{Access}
 use Rattle.kob_policy_text.specs.declared.question.Act.{Act}
 use Rattle.kob_policy_text.specs.declared.question.Act.TheVariants as act
 use Rattle.kob_policy_text.specs.declared.question.Asker.{Asker}
 use Rattle.kob_policy_text.specs.declared.question.Query.{Query}
 use Rattle.kob_policy_text.specs.declared.question.Question.{Question}
-use Rattle.kob_policy_text.specs.declared.question.Question.TheVariants.{May, Expect, Who, Sees, Summary, Unused, Shadowed, Removable}
+use Rattle.kob_policy_text.specs.declared.question.Question.TheVariants.{May, Expect, Who, WhoConsumes, Sees, Summary, Unused, Shadowed, Removable}
 use Rattle.kob_policy_text.specs.declared.question.Right.{Right}
 use Rattle.kob_policy_text.specs.Lines.{only_event}
 use Rattle.kob_policy_text.specs.Listing.{known_operation, known_resource, trimmed}
@@ -155,10 +156,34 @@ expect_words (answer ∷ may ∷ words) =
     if is_word may (codes "may") then expects answer words else Err BadLine
 expect_words _ = Err BadLine
 
--- who OPERATION RESOURCE NAME, and HOST behind it
-abbrev pub who_words : List Word → Result Question FaultKind
-who_words (operation ∷ resource ∷ name ∷ []) =
+abbrev pub right_to_write : List ℕ → Right
+right_to_write topic = record { operation = Write; resource = Topic; name = topic }
+
+abbrev pub right_to_read : ResourceKind → List ℕ → Right
+right_to_read resource name = record { operation = Read; resource = resource; name = name }
+
+-- who produce TOPIC
+abbrev pub who_produces : Word → Result Question FaultKind
+who_produces topic = text_of topic >>= λ name. Ok (Who (right_to_write name) None)
+
+-- who consume TOPIC GROUP
+abbrev pub who_consumes : Word → Word → Result Question FaultKind
+who_consumes topic group = do
+  name ← text_of topic
+  member ← text_of group
+  Ok (WhoConsumes (right_to_read Topic name) (right_to_read Group member))
+
+abbrev pub who_may : Word → Word → Word → Result Question FaultKind
+who_may operation resource name =
     right_of operation resource name >>= λ right. Ok (Who right None)
+
+-- who produce TOPIC, who consume TOPIC GROUP, who OPERATION RESOURCE NAME, and HOST behind that
+abbrev pub who_words : List Word → Result Question FaultKind
+who_words (command ∷ topic ∷ []) =
+    if is_word command (codes "produce") then who_produces topic else Err BadLine
+who_words (first ∷ second ∷ third ∷ []) =
+    if is_word first (codes "consume") then who_consumes second third
+    else who_may first second third
 who_words (operation ∷ resource ∷ name ∷ host ∷ []) = do
   right ← right_of operation resource name
   place ← host_in host

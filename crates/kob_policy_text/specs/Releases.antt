@@ -22,7 +22,7 @@ around_dot text = by_dot text (first_parts text (codes "."))
 abbrev pub is_below_8 : List ℕ → Bool
 is_below_8 [] = true
 is_below_8 (digit ∷ []) = nat_lt digit 56
-is_below_8 _ = false
+is_below_8 (digit ∷ second ∷ others) = false
 
 -- 0.x, 1.x, and 2.0 to 2.7
 abbrev pub is_before_28 : List ℕ → List ℕ → Bool

@@ -28,7 +28,7 @@ use Rattle.kob_policy_text.specs.Questions.{Questions}
 use Rattle.kob_policy_text.specs.Removable.{removable_text}
 use Rattle.kob_policy_text.specs.declared.question.Query.{Query}
 use Rattle.kob_policy_text.specs.declared.question.Question.{Question}
-use Rattle.kob_policy_text.specs.declared.question.Question.TheVariants.{May, Expect, Who, Sees, Summary, Unused, Shadowed, Removable}
+use Rattle.kob_policy_text.specs.declared.question.Question.TheVariants.{May, Expect, Who, WhoConsumes, Sees, Summary, Unused, Shadowed, Removable}
 use Rattle.kob_policy_text.specs.declared.question.Right.{Right}
 use Rattle.kob_words.specs.Words.{bytes_text, operation_name, resource_name}
 
@@ -104,6 +104,19 @@ abbrev pub who_text : Policy → Right → Option (List ℕ) → List ℕ
 who_text policy right (Some host) = from_text policy right host
 who_text policy right None = granted_text policy right
 
+-- OPERATION RESOURCE NAME, above those who may
+unfoldable pub right_line : Right → List ℕ
+right_line right =
+    codes "  " ++ operation_name right.operation ++ codes " " ++ resource_name right.resource
+    ++ codes " " ++ bytes_text right.name ++ codes "\n"
+
+abbrev pub grants_text : Policy → Right → List ℕ
+grants_text policy right = right_line right ++ granted_text policy right
+
+-- who may read the topic, and then who may read as the group
+abbrev pub consumers_text : Policy → Right → Right → List ℕ
+consumers_text policy topic group = grants_text policy topic ++ grants_text policy group
+
 -- who asks, and from where
 unfoldable pub asker_text : Class → List ℕ
 asker_text class =
@@ -151,6 +164,7 @@ abbrev pub question_text : Policy → List (List ℕ) → Question → List ℕ
 question_text policy topics (May access) = access_text policy access
 question_text policy topics (Expect expected access) = expect_text policy expected access
 question_text policy topics (Who right host) = who_text policy right host
+question_text policy topics (WhoConsumes topic group) = consumers_text policy topic group
 question_text policy topics (Sees asker) = sees_text policy topics asker
 question_text policy topics Summary = summary_text policy
 question_text policy topics Unused = unused_text policy

@@ -94,7 +94,14 @@ fn fails(judge: &Judge, question: &Question) -> bool
 {
     match question {
         Question::Expect(expected, access) => is_other_answer(*expected, is_allowed(judge, access)),
-        _ => false,
+        Question::May(_)
+        | Question::Who(_, _)
+        | Question::WhoConsumes(_, _)
+        | Question::Sees(_)
+        | Question::Summary
+        | Question::Unused
+        | Question::Shadowed
+        | Question::Removable => false,
     }
 }
 

@@ -15,7 +15,7 @@ use crate::removable::push_removable;
 use crate::shadowed::push_shadowed;
 use crate::summary::push_summary;
 use crate::unused::push_unused;
-use crate::who::{push_sees, push_who};
+use crate::who::{push_consumers, push_sees, push_who};
 use kob_names::Text;
 use kob_words::push_number;
 use std::alloc::{AllocError, Global};
@@ -34,6 +34,7 @@ fn push_question(
         Question::May(access) => push_access(out, judge, access),
         Question::Expect(expected, access) => push_expected(out, judge, *expected, access),
         Question::Who(right, host) => push_who(alloc, out, judge, right, host),
+        Question::WhoConsumes(topic, group) => push_consumers(alloc, out, judge, topic, group),
         Question::Sees(asker) => push_sees(alloc, out, judge, topics, asker),
         Question::Summary => push_summary(alloc, out, judge),
         Question::Unused => push_unused(alloc, out, judge),

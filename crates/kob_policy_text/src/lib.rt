@@ -16,6 +16,7 @@ mod lines;
 mod listing;
 mod options;
 mod origin;
+mod other_operations;
 mod pieces;
 mod policy;
 mod printed;
@@ -33,6 +34,7 @@ mod tool;
 mod unused;
 mod users;
 mod who;
+mod who_words;
 
 pub use access::any_fails;
 pub use answer::{print_answers, print_omissions, print_review};

@@ -64,7 +64,7 @@ impl<'a> Model for TargetWords<'a> {
 }
 
 /// Whether the operation is one that is left out.
-fn is_other_operation(word: &[u8]) -> bool
+pub fn is_other_operation(word: &[u8]) -> bool
     ensures { result ≡ is_other_operation word.now }
 {
     word.eq_ignore_ascii_case(b"CREATE_TOKENS")

@@ -60,6 +60,8 @@ pub enum Question {
     Expect(bool, Access),
     /// Who may do this, from this host, or from one that no binding names?
     Who(Right, Option<Host>),
+    /// Who may read this topic, and who may read as this group?
+    WhoConsumes(Right, Right),
     /// Which topics may this principal describe?
     Sees(Asker),
     /// How many are there of what the policy has?

@@ -5,12 +5,13 @@ ghost use Rattle.kob_policy_text.specs.Questions.{access_of, alone, asker_of, ex
 ghost use Rattle.kob_policy_text.specs.Questions.{expects, full_name, host_in, may_repeat, may_six, may_transact};
 ghost use Rattle.kob_policy_text.specs.Questions.{is_word, may_by, may_consume, may_produce, may_request};
 ghost use Rattle.kob_policy_text.specs.Questions.{may_right, may_words, produces, question_by};
-ghost use Rattle.kob_policy_text.specs.Questions.{right_of, sees_words, who_words};
+ghost use Rattle.kob_policy_text.specs.Questions.{right_of, sees_words};
 ghost use Rattle.kob_script.specs.Words.{Gives};
 
 use crate::lines::only_event;
 use crate::listing::{known, known_operation, known_resource};
 use crate::question::{Access, Act, Asker, Question, Right};
+use crate::who_words::who_words;
 use kob_names::{Batch, Host, Items, ResourceKind, Text};
 use kob_rights::{Event, OffsetCommit, Produce, Request};
 use kob_script::{
@@ -26,7 +27,7 @@ pub fn is_word(word: &Word<'_>, text: &[u8]) -> bool
 }
 
 #[tactic(auto, unfolding(crate::specs::Questions::host_in))]
-fn host_in(alloc: Global, word: &Word<'_>) -> Result<Host, LineError>
+pub fn host_in(alloc: Global, word: &Word<'_>) -> Result<Host, LineError>
     ensures { Gives result (host_in word.now) }
 {
     host_of(alloc, lent_text_of(word)?)
@@ -54,7 +55,7 @@ fn full_name(alloc: Global, resource: ResourceKind, name: Text) -> Result<Text, 
 }
 
 #[tactic(auto, unfolding(crate::specs::Questions::right_of))]
-fn right_of(
+pub fn right_of(
     alloc: Global,
     operation: &Word<'_>,
     resource: &Word<'_>,
@@ -296,22 +297,6 @@ fn expect_words(alloc: Global, words: &[Word<'_>]) -> Result<Question, LineError
 {
     match words {
         [answer, may, arguments @ ..] if is_word(may, b"may") => expects(alloc, answer, arguments),
-        _ => Err(LineError::Fault(FaultKind::BadLine)),
-    }
-}
-
-fn who_words(alloc: Global, words: &[Word<'_>]) -> Result<Question, LineError>
-    ensures { Gives result (who_words words.now) }
-{
-    match words {
-        [operation, resource, name] => {
-            Ok(Question::Who(right_of(alloc, operation, resource, name)?, None))
-        }
-        [operation, resource, name, host] => {
-            let right = right_of(alloc, operation, resource, name)?;
-            let host = host_in(alloc, host)?;
-            Ok(Question::Who(right, Some(host)))
-        }
         _ => Err(LineError::Fault(FaultKind::BadLine)),
     }
 }

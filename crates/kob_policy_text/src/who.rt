@@ -7,6 +7,7 @@ ghost use Rattle.kob_policy_text.specs.Answers.{from_text, is_seen, seen_text, s
 ghost use Rattle.kob_policy_text.specs.Answers.{topic_text, topics_asked, who_line};
 ghost use Rattle.kob_policy_text.specs.Review.{grant_if_told, grant_line, granted_text, is_told};
 ghost use Rattle.kob_policy_text.specs.Review.{super_grant, target_at, who_text};
+ghost use Rattle.kob_policy_text.specs.Review.{consumers_text, grants_text, right_line};
 
 use crate::asked::Asked;
 use crate::at_hand::{each_once, principals_at_hand, topics_named};
@@ -16,7 +17,7 @@ use crate::printed::push_reason;
 use crate::question::{Asker, Right};
 use kob_names::{Host, Operation, PlainValue, Principal, ResourceKind, Text};
 use kob_policy_review::{Answer, Names, Target, who};
-use kob_words::push_bytes;
+use kob_words::{operation_name, push_bytes, resource_name};
 use std::alloc::{AllocError, Global};
 
 #[tactic(auto, using(kob_words::proofs::Appending::appending), unfolding(crate::specs::Answers::who_line))]
@@ -184,6 +185,48 @@ pub fn push_who(
         Some(host) => push_from(alloc, out, judge, right, host),
         None => push_granted(alloc, out, judge, right),
     }
+}
+
+#[tactic(auto, using(kob_words::proofs::Appending::appending), unfolding(crate::specs::Review::right_line))]
+fn push_right_line(out: &mut Vec<u8>, right: &Right) -> Result<(), AllocError>
+    ensures { OnOk result (out.new.items ≡ out.old.items ++ right_line right.now) }
+{
+    out.extend_from_slice(b"  ")?;
+    out.extend_from_slice(operation_name(right.operation).as_bytes())?;
+    out.extend_from_slice(b" ")?;
+    out.extend_from_slice(resource_name(right.resource).as_bytes())?;
+    out.extend_from_slice(b" ")?;
+    push_bytes(out, right.name.as_str().as_bytes())?;
+    out.extend_from_slice(b"\n")
+}
+
+#[tactic(auto, using(kob_words::proofs::Appending::appending))]
+fn push_grants_of(
+    alloc: Global,
+    out: &mut Vec<u8>,
+    judge: &Judge,
+    right: &Right,
+) -> Result<(), AllocError>
+    ensures { OnOk result (out.new.items ≡ out.old.items ++ grants_text judge.now right.now) }
+{
+    push_right_line(out, right)?;
+    push_granted(alloc, out, judge, right)
+}
+
+/// Prints who may read a topic, and then who may read as a group, each below the right.
+#[tactic(auto, using(kob_words::proofs::Appending::appending))]
+pub fn push_consumers(
+    alloc: Global,
+    out: &mut Vec<u8>,
+    judge: &Judge,
+    topic: &Right,
+    group: &Right,
+) -> Result<(), AllocError>
+    ensures { OnOk result
+        (out.new.items ≡ out.old.items ++ consumers_text judge.now topic.now group.now) }
+{
+    push_grants_of(alloc, out, judge, topic)?;
+    push_grants_of(alloc, out, judge, group)
 }
 
 fn is_seen(judge: &Judge, asker: &Asker, topic: &Text) -> bool
