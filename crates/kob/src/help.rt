@@ -75,6 +75,8 @@ Questions, each one word of the command line or one line:
   expect yes|no may ..                  the same, and whether it is as expected
   who OPERATION RESOURCE NAME           super users, and each principal and host that is granted
   who OPERATION RESOURCE NAME HOST      yes or no for each principal that a binding names
+  who produce TOPIC                     as who Write Topic TOPIC
+  who consume TOPIC GROUP               who may read the topic, then who may read the group
   sees PRINCIPAL HOST                   the topics that it may describe
   topic NAME                            a topic for sees, in place of those of the list
   summary                               how many of each there are; asked if nothing else is
@@ -107,7 +109,7 @@ hexadecimal digits stand for a byte. A line that begins with # is a comment.
     NAME tick [lose-request|lose-reply]     NAME run    NAME restart    NAME inbox
   journal               every request that was served, with its reply
   law SERVICE CONSUMER  whether the laws of delivery apply to the two
-  check SERVICE CONSUMER    which events are delivered, which wait, and which are lost
+  check SERVICE CONSUMER    which events are delivered, waiting, lost or doubled
 ";
 
 /// The page on a subject, the general one for none.

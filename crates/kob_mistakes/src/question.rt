@@ -21,22 +21,26 @@ pub enum Lines {
 }
 
 /// The forms of questions.
-static QUESTIONS: [(&str, &str); 8] = [
+static QUESTIONS: [(&str, &str); 9] = [
     (
         "may",
         "may PRINCIPAL HOST OPERATION RESOURCE NAME, or produce TOPIC, or consume TOPIC GROUP, or a request",
     ),
     ("expect", "expect yes or expect no, and then may .."),
-    ("who", "who OPERATION RESOURCE NAME [HOST]"),
+    (
+        "who",
+        "who OPERATION RESOURCE NAME [HOST], or produce TOPIC, or consume TOPIC GROUP",
+    ),
     ("sees", "sees PRINCIPAL HOST"),
     ("topic", "topic NAME"),
     ("summary", "summary"),
     ("unused", "unused"),
     ("shadowed", "shadowed"),
+    ("removable", "removable"),
 ];
 
 /// The words of questions and of bindings.
-static WORDS: [&str; 29] = [
+static WORDS: [&str; 30] = [
     "may",
     "expect",
     "who",
@@ -45,6 +49,7 @@ static WORDS: [&str; 29] = [
     "summary",
     "unused",
     "shadowed",
+    "removable",
     "produce",
     "consume",
     "idempotent",
