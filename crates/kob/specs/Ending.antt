@@ -1,5 +1,5 @@
 -- The exit status: 0 where all was done, 1 for a fault, 2 out of memory, 3 where answers differ.
-use Rattle.std.specs.Prelude.{ℕ, List, [], ◌∷◌, Result, Ok, Err}
+use Rattle.std.specs.Prelude.{ℕ, Bool, true, false, List, [], ◌∷◌, Result, Ok, Err}
 use Rattle.kob.specs.declared.ending.Ending.{Ending}
 use Rattle.kob.specs.declared.ending.Ending.TheVariants.{Whole, Differs, Failed, OutOfMemory}
 use Rattle.kob_scene_play.specs.declared.fault.PlayFault.{PlayFault}
@@ -40,6 +40,11 @@ ending_of_play (Ok ended.Clean) = Whole
 ending_of_play (Ok (ended.Fault fault)) = Failed
 ending_of_play (Ok (ended.Stopped fault)) = ending_of_fault fault
 ending_of_play (Err fault) = ending_of_fault fault
+
+-- an answer that is not the one that was expected
+abbrev pub ending_of_answers : Bool → Ending
+ending_of_answers true = Differs
+ending_of_answers false = Whole
 
 -- a difference of two lists that says nothing is none
 abbrev pub ending_of_changes : List ℕ → Ending

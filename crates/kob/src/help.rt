@@ -22,7 +22,7 @@ Plays scenes: scripts with services, consumers and their steps.
 usage: kob play [--trace | --json] [FILE]...
 
   FILE              plays FILE; - or none: standard input. With several, == FILE comes before each
-  --trace           prints > and each line before its answers, and what a denied request needs;
+  --trace           prints > and each line before its answers, and what a request lacked;
                     the default on a terminal
   --json            prints an object for each line of an answer, with the line of the scene
   -h, --help        prints this page; kob help scene prints the language of scenes
@@ -58,27 +58,34 @@ usage: kob policy [FILE]... [--skip] [QUESTION]...
   --topics FILE     names of topics, one on a line; repeated
   --before FILE     prints what changes from these bindings ..
   --after FILE      .. to these; questions are answered by these; --policy counts for both
+  --kafka VERSION   the release of the brokers, as 2.7; the newest if none is given
   --skip            continues after bindings that are left out
   --next            begins another list with its questions; == FILE comes before each
   -h, --help        prints this page
 
 A list has lines of kafka-acls --list (1.x, 2.x and 3.x), kafka-acls --add .., lines
-create-acl and acl of scripts, super USER, everyone on or off, and the lines of a broker's
-server.properties. Lines that begin with # are skipped.
+create-acl and acl of scripts, super USER, everyone on or off, kafka VERSION, and the lines of a
+broker's server.properties. Lines that begin with # are skipped.
 
 Questions, each one word of the command line or one line:
   may PRINCIPAL HOST OPERATION RESOURCE NAME
-  may PRINCIPAL HOST produce TOPIC [idempotent]
+  may PRINCIPAL HOST produce TOPIC [idempotent|transactional ID]
   may PRINCIPAL HOST consume TOPIC GROUP
   may PRINCIPAL HOST REQUEST ..         a request as in a script
+  expect yes|no may ..                  the same, and whether it is as expected
   who OPERATION RESOURCE NAME           super users, and each principal and host that is granted
   who OPERATION RESOURCE NAME HOST      yes or no for each principal that a binding names
+  who produce TOPIC                     as who Write Topic TOPIC
+  who consume TOPIC GROUP               who may read the topic, then who may read the group
   sees PRINCIPAL HOST                   the topics that it may describe
-  topic NAME                            a topic for sees
+  topic NAME                            a topic for sees, in place of those of the list
+  summary                               how many of each there are; asked if nothing else is
   unused                                bindings that no answer needs, and why
+  removable                             bindings that may be deleted together
   shadowed                              allows that a deny always beats
 
-Status: 0 all read, 1 a fault, 2 out of memory, 3 an answer changes. docs/POLICY.md has an example.
+Status: 0 all read, 1 a fault, 2 out of memory, 3 an answer changes or is not as
+expected. docs/POLICY.md has an example.
 ";
 
 /// The page on the language of scenes and scripts.
@@ -102,6 +109,7 @@ hexadecimal digits stand for a byte. A line that begins with # is a comment.
     NAME tick [lose-request|lose-reply]     NAME run    NAME restart    NAME inbox
   journal               every request that was served, with its reply
   law SERVICE CONSUMER  whether the laws of delivery apply to the two
+  check SERVICE CONSUMER    which events are delivered, waiting, lost or doubled
 ";
 
 /// The page on a subject, the general one for none.

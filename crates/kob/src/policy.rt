@@ -2,8 +2,9 @@
 //! from one to the other.
 
 ghost use Rattle.std.specs.Prelude.{◌≡◌, ◌++◌, IfOk, OnOk};
-ghost use Rattle.kob.specs.Ending.{ending_of_changes};
-ghost use Rattle.kob_policy_text.specs.Review.{changes_text};
+ghost use Rattle.kob.specs.Ending.{ending_of_answers, ending_of_changes};
+ghost use Rattle.kob_policy_text.specs.Access.{any_fails};
+ghost use Rattle.kob_policy_text.specs.Review.{answers_text, changes_text};
 
 use crate::ending::Ending;
 use crate::input::{Kind, text_of};
@@ -14,7 +15,7 @@ use kob_authorizer::CreateFault;
 use kob_mistakes::{Lines, line_mistake};
 use kob_names::Text;
 use kob_policy_text::{
-    Judge, Policy, Questions, print_answers, print_changes, print_omissions, read_file,
+    Judge, Policy, Questions, any_fails, print_answers, print_changes, print_omissions, read_file,
     read_questions, read_topics,
 };
 use kob_script::{Fault, ScriptError, print_fault};
@@ -120,7 +121,8 @@ fn answer_part<R: AllocGlobal + Files + Input + Eprint>(
     }
 }
 
-/// The questions of the files, and then those of the words.
+/// The questions of the files, and then those of the words. A list of which nothing is asked is
+/// summed up.
 fn push_questions<R: AllocGlobal + Files + Input + Eprint>(
     rt: &R,
     out: &mut Vec<u8>,
@@ -141,7 +143,11 @@ fn push_questions<R: AllocGlobal + Files + Input + Eprint>(
     for word in options.words.as_slice() {
         let text = word.as_str().as_bytes();
         let read = read_questions(alloc, questions, text);
-        unless_fault(rt, out, &questions_in("question", text), read)?;
+        unless_fault(rt, out, &questions_in(word.as_str(), text), read)?;
+    }
+    if options.before.is_empty() && questions.asked().is_empty() {
+        let read = read_questions(alloc, questions, b"summary");
+        unless_fault(rt, out, &questions_in("summary", b"summary"), read)?;
     }
     Ok(())
 }
@@ -220,8 +226,9 @@ fn open_judge<R: AllocGlobal + Eprint>(
     rt: &R,
     out: &mut Vec<u8>,
     options: &Options,
-    policy: Policy,
+    mut policy: Policy,
 ) -> Result<Judge, Stop> {
+    read_releases(rt, out, &mut policy, &options.kafka)?;
     print_omissions(out, &policy)?;
     report::skipped(rt, policy.skipped().len());
     if !options.skip && !policy.omissions().is_empty() {
@@ -242,14 +249,38 @@ fn read_list<R: AllocGlobal + Files + Input + Eprint>(
     file: &str,
 ) -> Result<(), Stop> {
     let text = list_of(rt, file)?;
-    let name = Text::copied(rt.alloc(), file)?;
-    let read = read_file(rt.alloc(), policy, &name, &text);
+    read_text(rt, out, policy, file, &text)
+}
+
+fn read_text<R: AllocGlobal + Eprint>(
+    rt: &R,
+    out: &mut Vec<u8>,
+    policy: &mut Policy,
+    name: &str,
+    text: &[u8],
+) -> Result<(), Stop> {
+    let file = Text::copied(rt.alloc(), name)?;
+    let read = read_file(rt.alloc(), policy, &file, text);
     let source = Source {
-        name: file,
-        text: &text,
+        name,
+        text,
         lines: Lines::Bindings,
     };
     unless_fault(rt, out, &source, read)
+}
+
+/// Reads each `--kafka VERSION` as a line `kafka VERSION` behind all files.
+fn read_releases<R: AllocGlobal + Eprint>(
+    rt: &R,
+    out: &mut Vec<u8>,
+    policy: &mut Policy,
+    releases: &[String],
+) -> Result<(), Stop> {
+    for release in releases {
+        let text = format!(in rt.alloc(); "kafka {release}")?;
+        read_text(rt, out, policy, "--kafka", text.as_bytes())?;
+    }
+    Ok(())
 }
 
 fn answer_by_one<R: AllocGlobal + Files + Input + Eprint>(
@@ -265,14 +296,27 @@ fn answer_by_one<R: AllocGlobal + Files + Input + Eprint>(
     } else {
         judge_of(rt, out, options, &[&options.policy])?
     };
-    print_answers(
-        rt.alloc(),
-        out,
-        &judge,
-        questions.topics(),
-        questions.asked(),
-    )?;
-    Ok(Ending::Whole)
+    Ok(push_answers(rt.alloc(), out, &judge, questions)?)
+}
+
+/// The answers, which end with `Differs` if one of them is not as expected.
+fn push_answers(
+    alloc: Global,
+    out: &mut Vec<u8>,
+    judge: &Judge,
+    questions: &Questions,
+) -> Result<Ending, AllocError>
+    ensures printed { OnOk result (out.new.items ≡ out.old.items
+        ++ answers_text judge.now questions.now.topics 1 questions.now.asked) }
+    ensures ending { IfOk result (λ ending. ending
+        ≡ ending_of_answers (any_fails judge.now questions.now.asked)) }
+{
+    print_answers(alloc, out, judge, questions.topics(), questions.asked())?;
+    if any_fails(judge, questions.asked()) {
+        Ok(Ending::Differs)
+    } else {
+        Ok(Ending::Whole)
+    }
 }
 
 /// What changes, and then the answers of the second list. The lists differ if anything changes.
@@ -310,8 +354,7 @@ fn push_review(
     after: &Judge,
 ) -> Result<Ending, AllocError> {
     let ending = push_changes(alloc, out, before, after)?;
-    print_answers(alloc, out, after, questions.topics(), questions.asked())?;
-    Ok(ending)
+    Ok(ending.worse(push_answers(alloc, out, after, questions)?))
 }
 
 fn push_changes(

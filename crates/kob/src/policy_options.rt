@@ -15,6 +15,8 @@ pub struct Options {
     pub after: Vec<String>,
     /// The questions among the other words.
     pub words: Vec<String>,
+    /// The releases of the brokers, of which the last counts.
+    pub kafka: Vec<String>,
     pub skip: bool,
 }
 
@@ -26,6 +28,12 @@ pub fn command<'a>(alloc: Global) -> Result<Command<'a>, AllocError> {
     }
     made = made.arg(files(alloc, "before").requires_arg("after")?)?;
     made = made.arg(files(alloc, "after").requires_arg("before")?)?;
+    made = made.arg(
+        Arg::new(alloc, "kafka")
+            .long("kafka")
+            .value_name("VERSION")
+            .action(ArgAction::Append),
+    )?;
     made = made.arg(
         Arg::new(alloc, "skip")
             .long("skip")
@@ -72,6 +80,7 @@ fn options_in(alloc: Global, matches: &ArgMatches<'_>) -> Result<Options, AllocE
         topics: values_of(alloc, matches, "topics")?,
         before: values_of(alloc, matches, "before")?,
         after: values_of(alloc, matches, "after")?,
+        kafka: values_of(alloc, matches, "kafka")?,
         words: Vec::new(alloc),
         skip: matches.get_flag("skip"),
     };

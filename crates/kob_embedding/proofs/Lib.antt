@@ -1,3 +1,4 @@
+pub mod Endings
 mod Entries
 mod Idling
 pub mod Reachings

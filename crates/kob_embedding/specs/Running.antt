@@ -1,8 +1,10 @@
 -- A service and a consumer since they began.
-use Rattle.std.specs.Prelude.{ℕ, List, ◌≡◌, suc, zero}
+use Rattle.std.specs.Prelude.{ℕ, List, ◌≡◌, Option, Some, None, Result, Ok, Err, ◌⊎◌, suc, zero}
 use Rattle.kob_inbox.specs.Contents.{Contents}
 use Rattle.kob_inbox.specs.declared.fetcher.Fetcher.{Fetcher}
-use Rattle.kob_lines.specs.Relayed.{HasConsumerRun, Relayed, HasServiceRun}
+use Rattle.kob_lines.specs.Relayed.{HasConsumerRun, IsTick, Relayed, HasServiceRun}
+use Rattle.kob_lines.specs.declared.program_fault.ProgramFault.{ProgramFault}
+use Rattle.kob_lines.specs.declared.program_fault.ProgramFault.TheVariants as program
 use Rattle.kob_outbox.specs.Contents.{Event}
 use Rattle.kob_pipeline.specs.Plans.{ReachesInOrder}
 use Rattle.kob_router.specs.Run.{dispatch_of}
@@ -13,11 +15,20 @@ use Rattle.kob_embedding.specs.declared.reaching.DeliveryFault.TheVariants as fa
 use Rattle.kob_inbox.specs.Tick as consumer
 use Rattle.kob_inbox.specs.Tick.{Point, Ticks}
 use Rattle.kob_inbox.specs.declared.fetcher.Subscription.{Subscription}
+use Rattle.kob_inbox.specs.declared.tick.Tick.{Tick}
 use Rattle.kob_inbox.specs.declared.tick.Tick.TheVariants.{Idle}
+use Rattle.kob_inbox.specs.declared.tick.Tick.TheVariants as took
+use Rattle.kob_inbox.specs.declared.tick.StopReason.{StopReason}
+use Rattle.kob_inbox.specs.declared.tick.StopReason.TheVariants as untaken
+use Rattle.kob_rights.specs.declared.code.Code.{Code}
+use Rattle.kob_rights.specs.declared.code.Code.TheVariants.{OffsetOutOfRange}
 use Rattle.kob_pipeline.specs.Served.{served_to}
 use Rattle.kob_pipeline.specs.View.{ArePrivate, IsBreach}
 use Rattle.kob_router.specs.Line.{AreServed}
 use Rattle.kob_router.specs.Tick as router
+use Rattle.kob_router.specs.declared.tick.Tick as router_tick
+use Rattle.kob_router.specs.declared.tick.Tick.TheVariants as sent
+use Rattle.kob_router.specs.declared.tick.StopReason.TheVariants as unsent
 
 -- a service: its outbox with its router, and its line
 pub record Service (L : Type 0) : Type 0 where
@@ -44,9 +55,61 @@ abbrev pub RecordsNoRow : Relayed → List Call → Relayed → List Call → Ty
 RecordsNoRow old calls new then_calls =
     (rows : List Event) → IsSenderRun old calls rows → IsSenderRun new then_calls rows
 
+-- where the work of sending all rows stands after a tick: it is done, or the next tick may go on
+-- (`Stopped`), or no further tick mends what stopped it
+abbrev pub sending_after : router_tick.Tick → Result (Unit {0}) ProgramFault
+sending_after sent.Idle = Ok tt
+sending_after (sent.Moved seq) = Err program.Stopped
+sending_after sent.Repeat = Err program.Stopped
+sending_after (sent.Stopped (unsent.Denied code verdicts)) = Err program.Stopped
+sending_after (sent.Stopped (unsent.Refused code reason)) = Err program.Stopped
+sending_after (sent.Stopped unsent.BadTopic) = Err program.BadText
+sending_after (sent.Stopped (unsent.Memory refused)) = Err (program.Memory refused)
+sending_after (sent.Stopped unsent.Store) = Err program.Store
+
+-- a tick led to this state, after which the work stands so
+pub record SendsAs (now : Relayed) (calls : List Call) (unmade : ℕ)
+    (stands : Result (Unit {0}) ProgramFault) : Type 0 where
+  pub before : Relayed
+  pub calls_before : List Call
+  pub unmade_before : ℕ
+  pub tick : router_tick.Tick
+  pub made : IsTick before now calls_before calls unmade_before unmade tick
+  pub tells : stands ≡ sending_after tick
+
 -- a consumer that began with an empty inbox made these calls
 abbrev pub IsReaderRun : Fetcher → Contents → List Call → Type 0
 IsReaderRun f inbox calls = HasConsumerRun f.subscription (consumer.state_of f inbox) calls
+
+-- a refusal that no further tick mends: the position is not an offset of the partition
+abbrev pub fault_of_code : Code → Option ProgramFault
+fault_of_code OffsetOutOfRange = Some program.NotServed
+fault_of_code _ = None
+
+-- why the work of taking records in ends at a step that stopped, if it does
+abbrev pub fault_of_stop : StopReason → Option ProgramFault
+fault_of_stop (untaken.Denied code verdicts) = None
+fault_of_stop (untaken.Refused code reason) = fault_of_code code
+fault_of_stop (untaken.Memory refused) = Some (program.Memory refused)
+fault_of_stop untaken.Store = Some program.Store
+
+-- why it ends at a tick, if it does
+abbrev pub taking_after : Tick → Option ProgramFault
+taking_after (took.Stopped reason) = fault_of_stop reason
+taking_after _ = None
+
+-- a tick led to this point, and told this
+pub record TakesAs (t : Subscription) (now : Point) (told : Option ProgramFault) : Type 0 where
+  pub before : Point
+  pub tick : Tick
+  pub made : Ticks t before now tick
+  pub tells : told ≡ taking_after tick
+
+-- the tick that led to this point ended the work with this fault, or it is `Stopped` after a tick
+-- after which the work goes on
+abbrev pub EndsTaking : Subscription → Point → ProgramFault → Type 0
+EndsTaking t now fault =
+    TakesAs t now (Some fault) ⊎ ((fault ≡ program.Stopped) × TakesAs t now None)
 
 -- so many ticks in a row that found no record
 abbrev pub AreIdle : Subscription → ℕ → Point → Point → Type 0

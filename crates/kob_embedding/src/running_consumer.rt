@@ -1,9 +1,10 @@
 //! A consumer that takes records into its inbox over a line.
 
 ghost use Rattle.std.specs.Prelude.{◌≡◌, ◌≤◌, ◌↔◌, [], IfErr, IfOk, IsErrOf, IsTrue, OnErr, OnOk};
-ghost use Rattle.std.specs.Prelude.{alloc_error};
+ghost use Rattle.std.specs.Prelude.{alloc_error, None, Some, ◌⊎◌};
 ghost use Rattle.std.specs.Prelude.{length, map, max};
-ghost use Rattle.kob_embedding.specs.Running.{AreIdle};
+ghost use Rattle.kob_embedding.specs.Running.{AreIdle, EndsTaking, TakesAs, fault_of_code};
+ghost use Rattle.kob_embedding.specs.Running.{taking_after};
 ghost use Rattle.std.specs.List.{enumerate_from};
 ghost use Rattle.kob_inbox.specs.Contents.{placed_intake};
 ghost use Rattle.kob_inbox.specs.Run.Move.{Restarted};
@@ -12,8 +13,9 @@ ghost use Rattle.kob_inbox.specs.Tick.{Point, Ticks, point_of, state_of};
 
 use crate::consumer_end::ConsumerEnd;
 use crate::part::Part;
-use kob_inbox::{Consumer, Inbox, InboxFault, InboxRow, Subscription, Tick};
+use kob_inbox::{Consumer, Inbox, InboxFault, InboxRow, StopReason, Subscription, Tick};
 use kob_lines::{IntoCalls, ProgramFault, a_consumer_run_goes_on};
+use kob_rights::Code;
 use kob_router::Line;
 use std::alloc::Global;
 use std::marker::Model;
@@ -89,11 +91,17 @@ impl<L: Line> RunningConsumer<L> {
     }
 
     /// Ticks until no assigned partition has a record, at most `most` times: it is done once each of
-    /// them had its turn, and all these ticks returned `Idle`. It goes on if a tick is denied or its
-    /// call is lost. The error is `Stopped`.
+    /// them had its turn, and all these ticks returned `Idle`. It goes on if a tick is denied or
+    /// refused, or its call is lost: then a later tick may take the records in. It ends at once where
+    /// none can: the error is `NotServed` if a position is not an offset of its partition
+    /// (`OFFSET_OUT_OF_RANGE`), `Memory`, or `Store` if the database failed. Otherwise the error is
+    /// `Stopped`.
     pub fn take_all(&mut self, alloc: Global, most: u32) -> Result<(), ProgramFault>
         ensures same { self.new.fetcher.subscription ≡ self.old.fetcher.subscription }
-        ensures stopped { IfErr result (λ fault. fault ≡ ProgramFault.Stopped) }
+        ensures ends { IfErr result (λ fault.
+            ((self.new ≡ self.old) × (fault ≡ ProgramFault.Stopped))
+            ⊎ EndsTaking self.new.fetcher.subscription (point_of self.new.fetcher self.new.inbox
+            (L.calls self.new.line) (L.unmade self.new.line)) fault) }
         ensures idle { OnOk result ((before : Point)
             × AreIdle self.old.fetcher.subscription
             (max 1 (length self.old.fetcher.subscription.assignment)) before
@@ -104,7 +112,8 @@ impl<L: Line> RunningConsumer<L> {
         let round = self.consumer.subscription().assignment.len().max(1);
         let mut idle = 0;
         for _ in 0..most {
-            idle = if self.finds_none(alloc) { idle + 1 } else { 0 };
+            let tick = self.step(alloc)?;
+            idle = if is_idle(tick) { idle + 1 } else { 0 };
             if idle >= round {
                 return Ok(());
             }
@@ -113,33 +122,52 @@ impl<L: Line> RunningConsumer<L> {
         Err(ProgramFault::Stopped)
     }
 
-    /// Makes one step, and returns whether there was no record.
-    fn finds_none(&mut self, alloc: Global) -> bool
+    /// Makes one step. The error is what no further step mends.
+    #[tactic(auto, using(crate::proofs::Endings::takes_as))]
+    fn step(&mut self, alloc: Global) -> Result<Tick, ProgramFault>
         ensures same { self.new.fetcher.subscription ≡ self.old.fetcher.subscription }
-        ensures idle { IsTrue result → Ticks self.old.fetcher.subscription
+        ensures done { IfOk result (λ tick. Ticks self.old.fetcher.subscription
             (point_of self.old.fetcher self.old.inbox
             (L.calls self.old.line) (L.unmade self.old.line))
             (point_of self.new.fetcher self.new.inbox
             (L.calls self.new.line) (L.unmade self.new.line))
-            Tick.Idle }
+            tick) }
+        ensures goes_on { OnOk result (TakesAs self.new.fetcher.subscription
+            (point_of self.new.fetcher self.new.inbox
+            (L.calls self.new.line) (L.unmade self.new.line)) None) }
+        ensures ends { IfErr result (λ fault. TakesAs self.new.fetcher.subscription
+            (point_of self.new.fetcher self.new.inbox
+            (L.calls self.new.line) (L.unmade self.new.line)) (Some fault)) }
         ensures line { L.becomes self.old.line self.new.line }
     {
-        matches!(self.tick(alloc), Tick::Idle)
+        let tick = self.tick(alloc);
+        match fault_of(&tick) {
+            Some(fault) => {
+                drop(tick);
+                Err(fault)
+            }
+            None => Ok(tick),
+        }
     }
 
     /// Ticks until the inbox has `count` rows or more, at most `most` times; not at all if it has
-    /// them already. The error is out of memory, or `Stopped`: after no tick it had as many.
+    /// them already. The errors are those of `take_all`: after no tick it had as many.
     pub fn take_rows(&mut self, alloc: Global, count: usize, most: u32) -> Result<(), ProgramFault>
         ensures taken { OnOk result (count ≤ length self.new.inbox) }
         ensures there { count ≤ length self.old.inbox → OnOk result (self.new ≡ self.old) }
         ensures same { self.new.fetcher.subscription ≡ self.old.fetcher.subscription }
+        ensures ends { IfErr result (λ fault. (self.new ≡ self.old)
+            ⊎ (fault ≡ ProgramFault.Memory alloc_error)
+            ⊎ EndsTaking self.new.fetcher.subscription (point_of self.new.fetcher self.new.inbox
+            (L.calls self.new.line) (L.unmade self.new.line)) fault) }
         ensures line { L.becomes self.old.line self.new.line }
     {
         if self.has_enough(count)? {
             return Ok(());
         }
         for _ in 0..most {
-            if self.has_rows(alloc, count)? {
+            let tick = self.step(alloc)?;
+            if self.has_rows(tick, count)? {
                 return Ok(());
             }
             thread::yield_now();
@@ -147,24 +175,32 @@ impl<L: Line> RunningConsumer<L> {
         Err(ProgramFault::Stopped)
     }
 
-    /// Makes one step, and returns whether it took records in and the inbox then has `count` rows.
-    fn has_rows(&mut self, alloc: Global, count: usize) -> Result<bool, ProgramFault>
-        ensures taken { IfOk result (λ has. IsTrue has → count ≤ length self.new.inbox) }
-        ensures same { self.new.fetcher.subscription ≡ self.old.fetcher.subscription }
-        ensures line { L.becomes self.old.line self.new.line }
+    /// Whether the inbox has `count` rows or more after a step that took records in.
+    fn has_rows(&mut self, tick: Tick, count: usize) -> Result<bool, ProgramFault>
+        ensures taken { IfOk result (λ has. IsTrue has → count ≤ length self.old.inbox) }
+        ensures memory { IfErr result (λ fault. fault ≡ ProgramFault.Memory alloc_error) }
+        ensures same { self.new ≡ self.old }
     {
-        if let Tick::Took(_) = self.tick(alloc) {
-            return self.has_enough(count);
+        match tick {
+            Tick::Took(_) => self.has_enough(count),
+            _ => Ok(false),
         }
-        Ok(false)
     }
 
     /// Whether the inbox has `count` rows or more.
     fn has_enough(&mut self, count: usize) -> Result<bool, ProgramFault>
         ensures has { IfOk result (λ has. IsTrue has ↔ (count ≤ length self.old.inbox)) }
+        ensures memory { IfErr result (λ fault. fault ≡ ProgramFault.Memory alloc_error) }
         ensures same { self.new ≡ self.old }
     {
         Ok(self.taken()?.len() >= count)
+    }
+
+    /// The line, with the calls that were made. Does not allocate.
+    pub fn line(&self) -> &L
+        ensures { result.now ≡ self.now.line }
+    {
+        &self.line
     }
 
     /// Restarts the consumer, as [`Consumer::restart`] does: it forgets all positions.
@@ -188,6 +224,34 @@ impl<L: Line> RunningConsumer<L> {
         ensures same { self.new ≡ self.old }
     {
         self.inbox.taken()
+    }
+}
+
+/// Whether a step found no record.
+fn is_idle(tick: Tick) -> bool
+    ensures { IsTrue result → tick ≡ Tick.Idle }
+{
+    matches!(tick, Tick::Idle)
+}
+
+/// Why the work of taking records in ends at a step, if no further step mends what stopped it.
+fn fault_of(tick: &Tick) -> Option<ProgramFault>
+    ensures { result ≡ taking_after tick.now }
+{
+    match tick {
+        Tick::Stopped(StopReason::Refused { code, .. }) => fault_of_code(*code),
+        Tick::Stopped(StopReason::Memory(refused)) => Some(ProgramFault::Memory(*refused)),
+        Tick::Stopped(StopReason::Store) => Some(ProgramFault::Store),
+        _ => None,
+    }
+}
+
+fn fault_of_code(code: Code) -> Option<ProgramFault>
+    ensures { result ≡ fault_of_code code }
+{
+    match code {
+        Code::OffsetOutOfRange => Some(ProgramFault::NotServed),
+        _ => None,
     }
 }
 

@@ -1,5 +1,6 @@
 //! A consumer of partitions that it assigned to itself.
 
+use crate::cursors::standing_of;
 use crate::fetcher::{Fetcher, Subscription};
 use crate::inbox::Inbox;
 use crate::tick::Tick;
@@ -30,9 +31,9 @@ impl Model for Consumer {
 }
 
 impl Consumer {
-    ghost use Rattle.std.specs.Prelude.{◌≡◌, []};
+    ghost use Rattle.std.specs.Prelude.{◌≡◌, [], option_map};
     ghost use Rattle.kob_inbox.specs.Contents.{Contents};
-    ghost use Rattle.kob_inbox.specs.Run.{after};
+    ghost use Rattle.kob_inbox.specs.Run.{after, cursor_of, standing};
     ghost use Rattle.kob_inbox.specs.Run.Move.{Restarted};
     ghost use Rattle.kob_inbox.specs.Tick.{Ticks, point_of, state_of};
 
@@ -82,6 +83,16 @@ impl Consumer {
         ensures { result.now ≡ self.now.subscription }
     {
         &self.fetcher.subscription
+    }
+
+    /// The offset of the next record that it takes in from this partition. None where it has not
+    /// asked for its group's commit since it was made or restarted. Does not allocate.
+    pub fn position(&self, place: &Place) -> Option<u64>
+        ensures { result ≡ option_map (λ standing. standing.position)
+            (standing (cursor_of self.now.cursors.items place.now)) }
+    {
+        let standing = standing_of(&self.fetcher.cursors, place)?;
+        Some(standing.position)
     }
 
     /// Forgets all positions and which records were processed, as a consumer that restarts does.

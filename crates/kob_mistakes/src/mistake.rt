@@ -4,7 +4,7 @@ use crate::hint::hint_on;
 use crate::option::option_place;
 use crate::request::request_place;
 use crate::spelling::nearest;
-use crate::usage::{form_of, names_at};
+use crate::usage::{form_of, is_keyword, is_step, names_at};
 use crate::words::{escape_place, is_blank, raw_words};
 use crate::worker::worker_place;
 use bstr::ByteSlice;
@@ -60,7 +60,7 @@ fn place_of(
     if line.starts_with(b"\xef\xbb\xbf") {
         return Ok(0);
     }
-    if let (SceneFaultKind::UnknownWorker, [b"law", service, ..]) = (kind, raw) {
+    if let (SceneFaultKind::UnknownWorker, [b"law" | b"check", service, ..]) = (kind, raw) {
         return Ok(if declares(text, b"service", service) {
             2
         } else {
@@ -108,25 +108,8 @@ fn place_in_request(
 /// Whether a line is no setting, no declaration and no step.
 fn is_request(text: &[u8], words: &[Word<'_>]) -> bool {
     let first = words.first().map_or(b"".as_slice(), |word| word.decoded());
-    first.contains(&b':') || !(begins(first) || is_worker(text, first) || is_step(words))
-}
-
-/// Whether a word begins a setting or a declaration.
-fn begins(first: &[u8]) -> bool {
-    ["super", "everyone", "service", "consumer", "journal", "law"]
-        .iter()
-        .any(|name| name.as_bytes() == first)
-}
-
-fn is_step(words: &[Word<'_>]) -> bool {
-    let Some(step) = words.get(1) else {
-        return false;
-    };
-    [
-        "record", "business", "tick", "run", "restart", "sweep", "outbox", "inbox",
-    ]
-    .iter()
-    .any(|name| name.as_bytes() == step.decoded())
+    let is_named = is_keyword(first) || is_worker(text, first);
+    first.contains(&b':') || !(is_named || words.get(1).is_some_and(|step| is_step(step.decoded())))
 }
 
 fn is_worker(text: &[u8], name: &[u8]) -> bool {

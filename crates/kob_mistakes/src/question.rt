@@ -4,6 +4,7 @@ use crate::hint::hint_on;
 use crate::mistake::Mistake;
 use crate::option::option_place;
 use crate::spelling::nearest;
+use crate::usage::{is_command, is_step};
 use crate::words::raw_words;
 use bstr::ByteSlice;
 use kob_names::{Host, Principal, Text};
@@ -20,29 +21,39 @@ pub enum Lines {
 }
 
 /// The forms of questions.
-static QUESTIONS: [(&str, &str); 6] = [
+static QUESTIONS: [(&str, &str); 9] = [
     (
         "may",
         "may PRINCIPAL HOST OPERATION RESOURCE NAME, or produce TOPIC, or consume TOPIC GROUP, or a request",
     ),
-    ("who", "who OPERATION RESOURCE NAME [HOST]"),
+    ("expect", "expect yes or expect no, and then may .."),
+    (
+        "who",
+        "who OPERATION RESOURCE NAME [HOST], or produce TOPIC, or consume TOPIC GROUP",
+    ),
     ("sees", "sees PRINCIPAL HOST"),
     ("topic", "topic NAME"),
+    ("summary", "summary"),
     ("unused", "unused"),
     ("shadowed", "shadowed"),
+    ("removable", "removable"),
 ];
 
 /// The words of questions and of bindings.
-static WORDS: [&str; 26] = [
+static WORDS: [&str; 30] = [
     "may",
+    "expect",
     "who",
     "sees",
     "topic",
+    "summary",
     "unused",
     "shadowed",
+    "removable",
     "produce",
     "consume",
     "idempotent",
+    "transactional",
     "All",
     "Read",
     "Write",
@@ -105,7 +116,8 @@ fn form_of(words: &[&[u8]], lines: Lines) -> &'static str {
     let found = QUESTIONS.iter().find(|form| form.0.as_bytes() == first);
     match (lines, found) {
         (Lines::Questions, Some((_, form))) => form,
-        (Lines::Questions, None) => "a question: may, who, sees, topic, unused or shadowed",
+        (Lines::Questions, None) =>
+            "a question: may, expect, who, sees, topic, summary, unused or shadowed",
         (Lines::Bindings, _) => {
             "a line of kafka-acls --list or --add, create-acl or acl of scripts, or a setting"
         }
@@ -116,9 +128,14 @@ fn form_of(words: &[&[u8]], lines: Lines) -> &'static str {
 fn question_place(alloc: Global, words: &[&[u8]], kind: FaultKind) -> usize {
     match words {
         [b"may", rest @ ..] => may_place(alloc, rest, kind).saturating_add(1),
+        [b"expect", b"yes" | b"no", b"may", rest @ ..] => {
+            may_place(alloc, rest, kind).saturating_add(3)
+        }
+        [b"expect", b"yes" | b"no", ..] => words.len().min(2),
+        [b"expect", ..] => words.len().min(1),
         [b"who", rest @ ..] => right_place(rest, 0, 1).saturating_add(1),
         [b"sees", rest @ ..] => asker_place(alloc, rest).unwrap_or(2).saturating_add(1),
-        [b"topic" | b"unused" | b"shadowed", ..] => words.len().min(1),
+        [b"topic" | b"summary" | b"unused" | b"shadowed", ..] => words.len().min(1),
         _ => 0,
     }
 }
@@ -218,11 +235,29 @@ fn has_unknown_value(word: &[u8]) -> bool {
     }
 }
 
-/// A hint on a line that is not one of a list.
+/// A hint on a line that is not one of a list, but one of a scene.
 fn hint_on_list(words: &[&[u8]]) -> Option<&'static str> {
-    let first = words.first().copied().unwrap_or(b"".as_slice());
-    if first == b"service".as_slice() || first == b"consumer".as_slice() {
-        return Some("this looks like a scene: kob play plays it");
+    if is_of_scene(words) {
+        Some("this looks like a scene: kob play plays it")
+    } else {
+        None
     }
-    None
+}
+
+/// Whether a line looks like a declaration, a step of a worker, or a request that lists do not have.
+fn is_of_scene(words: &[&[u8]]) -> bool {
+    match words {
+        [who, _, command, ..] if who.contains(&b':') => is_played(command),
+        [first, second, ..] => is_declaration(first) || is_step(second),
+        _ => false,
+    }
+}
+
+/// Whether a word is the name of a command other than those that lists may have.
+fn is_played(command: &[u8]) -> bool {
+    is_command(command) && command != b"create-acl".as_slice() && command != b"acl".as_slice()
+}
+
+fn is_declaration(first: &[u8]) -> bool {
+    first == b"service".as_slice() || first == b"consumer".as_slice()
 }

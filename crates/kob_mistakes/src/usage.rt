@@ -50,7 +50,7 @@ static REQUESTS: [(&str, &str); 16] = [
 ];
 
 /// The lines that begin with a word of their own.
-static LINES: [(&str, &str); 6] = [
+static LINES: [(&str, &str); 7] = [
     ("super", "super PRINCIPAL"),
     ("everyone", "everyone on|off"),
     (
@@ -63,6 +63,7 @@ static LINES: [(&str, &str); 6] = [
     ),
     ("journal", "journal"),
     ("law", "law SERVICE CONSUMER"),
+    ("check", "check SERVICE CONSUMER"),
 ];
 
 /// The steps of workers.
@@ -155,6 +156,21 @@ static PARTS: [&str; 13] = [
 fn form_in(forms: &'static [(&'static str, &'static str)], word: &[u8]) -> Option<&'static str> {
     let (_, form) = forms.iter().find(|form| form.0.as_bytes() == word)?;
     Some(form)
+}
+
+/// Whether a word is the name of a command.
+pub(crate) fn is_command(word: &[u8]) -> bool {
+    form_in(&REQUESTS, word).is_some()
+}
+
+/// Whether a word begins a setting, a declaration, or a line that prints.
+pub(crate) fn is_keyword(word: &[u8]) -> bool {
+    form_in(&LINES, word).is_some()
+}
+
+/// Whether a word is the name of a step.
+pub(crate) fn is_step(word: &[u8]) -> bool {
+    form_in(&STEPS, word).is_some()
 }
 
 /// The form of a line, by the word that says what it is: the command of a request, the first word

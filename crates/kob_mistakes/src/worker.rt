@@ -43,13 +43,18 @@ static SWITCH: [Mark; 1] = [Mark {
 /// number of words if one is missing.
 pub(crate) fn worker_place(words: &[Word<'_>], kind: SceneFaultKind) -> usize {
     match kind {
-        SceneFaultKind::UnknownWorker => if is(words, 0, b"law") { 1 } else { 0 },
+        SceneFaultKind::UnknownWorker => if is_question(words) { 1 } else { 0 },
         SceneFaultKind::BadWorkerName | SceneFaultKind::NameTaken => 1,
         SceneFaultKind::BadId => 2,
         SceneFaultKind::BadPartitions => 5,
         SceneFaultKind::BadRoute => route_place(words),
         SceneFaultKind::Script(kind) => script_place(words, kind),
     }
+}
+
+/// Whether a line asks about a service and a consumer.
+fn is_question(words: &[Word<'_>]) -> bool {
+    is(words, 0, b"law") || is(words, 0, b"check")
 }
 
 fn is(words: &[Word<'_>], place: usize, name: &[u8]) -> bool {
@@ -120,7 +125,7 @@ fn line_place(words: &[Word<'_>]) -> usize {
         marked_place(words, &CONSUMER, 10, usize::MAX)
     } else if is(words, 0, b"journal") {
         marked_place(words, &[], 1, 1)
-    } else if is(words, 0, b"law") {
+    } else if is_question(words) {
         marked_place(words, &[], 3, 3)
     } else if is(words, 0, b"super") {
         marked_place(words, &[], 2, 2)

@@ -4,10 +4,13 @@ pub mod Changing
 pub mod Deciders
 pub mod Deciding
 pub mod Finding
+pub mod Going
 pub mod Listing
 pub mod Marks
 pub mod Naming
 pub mod Needing
+pub mod Places
+pub mod Removing
 pub mod Shadowing
 pub mod Standing
 pub mod Texts

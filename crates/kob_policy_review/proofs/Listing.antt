@@ -11,7 +11,7 @@ use Rattle.kob_policy_review.specs.Needed.{needed}
 use Rattle.kob_policy_review.specs.Redundancy.{ListsUnused, is_needed, is_outside, unneeded, unused_entry, unused_in}
 use Rattle.kob_policy_review.specs.declared.redundant.Unneeded.{Unneeded}
 
-filter_alike : {A : Type 0} (p q : A → Bool) (xs : List A) → ((x : A) → p x ≡ q x) → filter p xs ≡ filter q xs
+pub filter_alike : {A : Type 0} (p q : A → Bool) (xs : List A) → ((x : A) → p x ≡ q x) → filter p xs ≡ filter q xs
 filter_alike p q [] same = refl
 filter_alike p q (x ∷ xs) same =
     ap (λ b. cond b (x ∷ filter p xs) (filter p xs)) (same x)

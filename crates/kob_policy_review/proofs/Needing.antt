@@ -30,7 +30,7 @@ module _ {A B : Type 0} (p : B → Bool) (f : A → List B) where
   none_flat xs x none there = none_passes (λ y. list_any p (f y)) xs x (sym (any_flat xs) ∙ none) there
 
   -- what is found is found in a part
-  some_flat : (xs : List A) → list_any p (flat_map f xs) ≡ true
+  pub some_flat : (xs : List A) → list_any p (flat_map f xs) ≡ true
       → (x : A) × (Contains xs x × (list_any p (f x) ≡ true))
   some_flat xs found = passing (λ y. list_any p (f y)) xs (sym (any_flat xs) ∙ found)
 
@@ -84,16 +84,16 @@ super_yes rules question super =
     (rules.everyone && not (list_any (is_match question) rules.entries)) super
 
 module _ (serial : ℕ) where
-  abbrev is_it : ℕ → Bool
+  abbrev pub is_it : ℕ → Bool
   is_it s = s == serial
 
-  unfolded_on : (rules : Contents) (target : Target) → list_any is_it (needed_on rules target)
+  pub unfolded_on : (rules : Contents) (target : Target) → list_any is_it (needed_on rules target)
       ≡ list_any is_it (flat_map (needed_by rules.supers rules.everyone (filter (is_on target) rules.entries))
       (principals_named (filter (is_on target) rules.entries)))
   unfolding needed_on
   unfolded_on rules target = refl
 
-  unfolded_by : (supers : List (List ℕ)) (everyone : Bool) (matching : List (ℕ × Binding)) (principal : Option (List ℕ))
+  pub unfolded_by : (supers : List (List ℕ)) (everyone : Bool) (matching : List (ℕ × Binding)) (principal : Option (List ℕ))
       → is_super_party supers principal ≡ false
       → needed_by supers everyone matching principal
       ≡ flat_map (needed_from (closing everyone matching) (filter (is_for principal) matching))
@@ -101,17 +101,22 @@ module _ (serial : ℕ) where
   unfolding needed_by
   unfolded_by supers everyone matching principal plain = rw plain refl
 
-  super_by : (supers : List (List ℕ)) (everyone : Bool) (matching : List (ℕ × Binding)) (principal : Option (List ℕ))
+  pub super_by : (supers : List (List ℕ)) (everyone : Bool) (matching : List (ℕ × Binding)) (principal : Option (List ℕ))
       → is_super_party supers principal ≡ true → list_any is_it (needed_by supers everyone matching principal) ≡ false
   unfolding needed_by
   super_by supers everyone matching principal super = rw super refl
 
-  unfolded_from : (alone : Option ℕ) (asking : List (ℕ × Binding)) (host : Option (List ℕ))
+  pub unfolded_from : (alone : Option ℕ) (asking : List (ℕ × Binding)) (host : Option (List ℕ))
       → needed_from alone asking host ≡ flat_map (needed_to alone asking host) operations
   unfolding needed_from
   unfolded_from alone asking host = refl
 
-module _ (rules : Contents) (rising : IsRising 1 rules.entries rules.next) (serial : ℕ) where
+-- what is needed on the names that a longer list of entries tells apart
+abbrev pub needed_over : List (ℕ × Binding) → Contents → List ℕ
+needed_over all rules = flat_map (needed_on rules) (targets_named all)
+
+module _ (rules : Contents) (rising : IsRising 1 rules.entries rules.next) (serial : ℕ) (all : List (ℕ × Binding))
+    (within : (entry : ℕ × Binding) → Contains rules.entries entry → Contains all entry) where
   abbrev on_target : Target → List (ℕ × Binding)
   on_target target = filter (is_on target) rules.entries
 
@@ -130,12 +135,12 @@ module _ (rules : Contents) (rising : IsRising 1 rules.entries rules.next) (seri
   was_there entry there = (was_kept (λ (e : ℕ × Binding). not (e.0 == serial)) rules.entries entry there).0
 
   -- without a binding that is needed nowhere, no answer changes
-  pub alike_without : list_any (is_it serial) (needed rules) ≡ false → AnswerAlike rules (without serial rules)
-  alike_without none question askable =
+  pub alike_over : list_any (is_it serial) (needed_over all rules) ≡ false → AnswerAlike rules (without serial rules)
+  alike_over none question askable =
       elim (cases_Bool (is_super rules.supers question.principal)) [
         | inl super ↦ super_yes rules question super ∙ sym (super_yes (without serial rules) question super)
         | inr plain ↦
-            let target : Target = target_for rules.entries question.resource question.name in
+            let target : Target = target_for all question.resource question.name in
             let matching : List (ℕ × Binding) = on_target target in
             let principal : Option (List ℕ) = party_for (principals_of matching) question.principal in
             let asking : List (ℕ × Binding) = filter (is_for principal) matching in
@@ -150,16 +155,14 @@ module _ (rules : Contents) (rising : IsRising 1 rules.entries rules.next) (seri
             (kept_by_filter (is_for principal) matching entry
             (kept_by_filter (is_on target) rules.entries entry there on) asks) in
             let before = answered_as question target principal host rules
-            (stands_for rules.entries rules.entries question (principals_of matching) (hosts_of asking) askable
-            (λ entry there. there) who where_from) in
+            (stands_for all rules.entries question (principals_of matching) (hosts_of asking) askable
+            within who where_from) in
             let after = answered_as question target principal host (without serial rules)
-            (stands_for rules.entries (without serial rules).entries question (principals_of matching) (hosts_of asking)
-            askable was_there (λ entry there. who entry (was_there entry there))
+            (stands_for all (without serial rules).entries question (principals_of matching) (hosts_of asking)
+            askable (λ entry there. within entry (was_there entry there)) (λ entry there. who entry (was_there entry there))
             (λ entry there. where_from entry (was_there entry there))) in
-            let at_target = none_flat (is_it serial) (needed_on rules) (targets_named rules.entries) target
-            (ap (list_any (is_it serial)) (sym (needed_is rules)) ∙ none)
-            (all_named open_targets rules.entries target
-            (target_there rules.entries question.resource question.name)) in
+            let at_target = none_flat (is_it serial) (needed_on rules) (targets_named all) target none
+            (all_named open_targets all target (target_there all question.resource question.name)) in
             let at_principal = none_flat (is_it serial) (needed_by rules.supers rules.everyone matching)
             (principals_named matching) principal (sym (unfolded_on serial rules target) ∙ at_target)
             (subst (λ ps. Contains ps principal) (sym (principals_are matching))
@@ -189,7 +192,7 @@ module _ (rules : Contents) (rising : IsRising 1 rules.entries rules.next) (seri
   clear_user user there = omega (arith, in_sum sum rules.supers user there)
 
   -- the representative of a class in which a binding is needed
-  changed : (class : Class) → Contains (targets rules.entries) class.target → Contains operations class.operation
+  changed : (class : Class) → Contains (targets all) class.target → Contains operations class.operation
       → is_super_party rules.supers class.principal ≡ false
       → list_any (is_it serial) (needed_to (closing rules.everyone (on_target class.target))
       (filter (is_for class.principal) (on_target class.target)) class.host class.operation) ≡ true
@@ -201,7 +204,7 @@ module _ (rules : Contents) (rising : IsRising 1 rules.entries rules.next) (seri
       (stands_marked (spare rules) class rules.entries clear) in
       let after = answered_as question class.target class.principal class.host (without serial rules)
       (stands_marked (spare rules) class (without serial rules).entries (λ entry there. clear entry (was_there entry there))) in
-      let same = alike question (askable_marked (spare rules) class rules.entries op on) in
+      let same = alike question (askable_marked (spare rules) class all op on) in
       let both : yes_in false rules.everyone (on_target class.target) class.principal class.host class.operation
       ≡ yes_in false rules.everyone (filter (is_on class.target) (without serial rules).entries) class.principal class.host class.operation =
       ap (λ s. yes_in s rules.everyone (on_target class.target) class.principal class.host class.operation) (sym no_super)
@@ -213,10 +216,9 @@ module _ (rules : Contents) (rising : IsRising 1 rules.entries rules.next) (seri
       class.operation) both (told_at class.target class.principal class.host class.operation ∙ found)
 
   -- where a binding is needed, an answer changes without it
-  pub changes_without : list_any (is_it serial) (needed rules) ≡ true → AnswerAlike rules (without serial rules) → ⊥
-  changes_without some alike =
-      let (target, (on, at_target)) = some_flat (is_it serial) (needed_on rules) (targets_named rules.entries)
-      (ap (list_any (is_it serial)) (sym (needed_is rules)) ∙ some) in
+  pub changes_over : list_any (is_it serial) (needed_over all rules) ≡ true → AnswerAlike rules (without serial rules) → ⊥
+  changes_over some alike =
+      let (target, (on, at_target)) = some_flat (is_it serial) (needed_on rules) (targets_named all) some in
       let matching : List (ℕ × Binding) = on_target target in
       let (principal, (named, at_principal)) = some_flat (is_it serial) (needed_by rules.supers rules.everyone matching)
       (principals_named matching) (sym (unfolded_on serial rules target) ∙ at_target) in
@@ -231,5 +233,16 @@ module _ (rules : Contents) (rising : IsRising 1 rules.entries rules.next) (seri
             operations
             (ap (list_any (is_it serial)) (sym (unfolded_from serial (closing rules.everyone matching) asking host)) ∙ at_host) in
             changed (record { principal = principal; host = host; operation = operation; target = target })
-            (only_named open_targets rules.entries target on) op plain found alike
+            (only_named open_targets all target on) op plain found alike
       ]
+
+module _ (rules : Contents) (rising : IsRising 1 rules.entries rules.next) (serial : ℕ) where
+  pub alike_without : list_any (is_it serial) (needed rules) ≡ false → AnswerAlike rules (without serial rules)
+  alike_without none =
+      alike_over rules rising serial rules.entries (λ entry there. there)
+      (ap (list_any (is_it serial)) (sym (needed_is rules)) ∙ none)
+
+  pub changes_without : list_any (is_it serial) (needed rules) ≡ true → AnswerAlike rules (without serial rules) → ⊥
+  changes_without some =
+      changes_over rules rising serial rules.entries (λ entry there. there)
+      (ap (list_any (is_it serial)) (sym (needed_is rules)) ∙ some)

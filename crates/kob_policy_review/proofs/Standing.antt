@@ -311,6 +311,19 @@ pub hosts_are : (entries : List (ℕ × Binding)) → hosts_named entries ≡ pa
 unfolding with_host
 hosts_are entries = fold_named (λ (entry : ℕ × Binding). entry.1.host) (None ∷ []) entries
 
+-- all others are among the principals, and so is that of each entry
+pub others_there : (entries : List (ℕ × Binding)) → Contains (principals_named entries) None
+others_there entries =
+    subst (λ ps. Contains ps None) (sym (principals_are entries))
+    (party_kept (None ∷ []) (principals_of entries) None (at_head None []))
+
+pub named_there : (entries : List (ℕ × Binding)) (entry : ℕ × Binding) → Contains entries entry
+    → Contains (principals_named entries) (Some entry.1.principal)
+named_there entries entry there =
+    subst (λ ps. Contains ps (Some entry.1.principal)) (sym (principals_are entries))
+    (party_made (None ∷ []) (principals_of entries) entry.1.principal
+    (among_mapped (λ (e : ℕ × Binding). e.1.principal) entries entry there))
+
 -- Each target once.
 
 names_equal : (one other : Names) → same_names one other ≡ true → one ≡ other
@@ -319,7 +332,7 @@ names_equal (Below one) (Below other) same = ap Below ((bytes_eq-Decides one oth
 names_equal (Exactly one) (Below other) same = absurd cc
 names_equal (Below one) (Exactly other) same = absurd cc
 
-target_equal : (one other : Target) → same_target one other ≡ true → one ≡ other
+pub target_equal : (one other : Target) → same_target one other ≡ true → one ≡ other
 target_equal one other same =
     let parts = and_parts _ _ same in
     let kinds = (resource_decides one.resource other.resource).0 parts.0 in

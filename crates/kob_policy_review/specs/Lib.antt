@@ -5,5 +5,7 @@ pub mod Finding
 pub mod Granting
 pub mod Needed
 pub mod Redundancy
+pub mod Removal
 pub mod Shadows
+pub mod Sites
 pub mod Users

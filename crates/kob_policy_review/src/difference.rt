@@ -9,9 +9,10 @@ ghost use Rattle.kob_policy_review.specs.Difference.{same_outcome, targets_in};
 
 use crate::class::{Class, Names, Target};
 use crate::finder::Finder;
-use crate::matching::{OPERATIONS, add_targets, targets_of};
+use crate::matching::OPERATIONS;
 use crate::needed::is_super_party;
 use crate::sides::{Sides, sides_on};
+use crate::targets::Targets;
 use kob_authorizer::Authorizer;
 use kob_names::{Operation, PlainValue, Principal, Text};
 use std::alloc::{AllocError, Global};
@@ -286,9 +287,9 @@ fn targets_in(
     ensures { IfOk result (λ made.
         made.items ≡ targets_in before.now.contents after.now.contents) }
 {
-    let mut made = targets_of(alloc, before.entries())?;
-    add_targets(alloc, &mut made, after.entries())?;
-    Ok(made)
+    let mut made = Targets::of(alloc, before.entries())?;
+    made.add_all(alloc, after.entries())?;
+    Ok(made.into_vec())
 }
 
 fn push_all(

@@ -70,7 +70,8 @@ impl<'a> Finder<'a> {
     }
 }
 
-fn text_of(names: &Names) -> &Text
+/// The name, or the text that the names begin with.
+pub fn text_of(names: &Names) -> &Text
     ensures { result.now ≡ text_of names.entry.now }
 {
     match names {

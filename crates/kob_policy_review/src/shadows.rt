@@ -11,9 +11,10 @@ ghost use Rattle.kob_policy_review.specs.Shadows.{shadowed_in};
 
 use crate::class::{Target, is_met};
 use crate::finder::Finder;
-use crate::matching::{OPERATIONS, asking, hosts_of, principals_of, targets_of};
+use crate::matching::{OPERATIONS, asking, hosts_of, principals_of};
 use crate::needed::{is_super_party, met};
 use crate::redundant::set_of;
+use crate::targets::targets_of;
 use kob_authorizer::Authorizer;
 use kob_names::{Binding, Operation, Permission, Principal, Text};
 use std::alloc::{AllocError, Global};

@@ -1,11 +1,11 @@
 -- Lists of lines that grow at their ends.
 use Rattle.kob_policy_text.proofs.Words.{List, Policy, answer_line, append-nil, append_assoc, arith, drop, drop_more, drop_of_length-le, get_or, length, nat_tests, ℕ, ◌++◌, ◌+◌, ◌<◌, ◌≡◌, ◌≤◌}
 use Rattle.kob_policy_text.specs.Review.{answers_text}
-use Rattle.kob_policy_text.specs.declared.question.Question as of_text
+use Rattle.kob_policy_text.specs.declared.question.Query as of_text
 
 -- the answer to the first of the questions that are left stands behind
-pub answered_more : (policy : Policy) (topics : List (List ℕ)) (number : ℕ) (questions : List of_text.Question)
-    (i : ℕ) (d x : of_text.Question) (out new whole : List ℕ)
+pub answered_more : (policy : Policy) (topics : List (List ℕ)) (number : ℕ) (questions : List of_text.Query)
+    (i : ℕ) (d x : of_text.Query) (out new whole : List ℕ)
     → out ++ answers_text policy topics number (drop i questions) ≡ whole → i < length questions
     → x ≡ get_or questions i d → new ≡ out ++ answer_line policy topics number x
     → new ++ answers_text policy topics (number + 1) (drop (i + 1) questions) ≡ whole
@@ -13,7 +13,7 @@ unfolding answers_text
 answered_more policy topics number questions i d x out new whole kept below is more =
     grind (arith, nat_tests, drop_more, append_assoc)
 
-pub answered_all : (policy : Policy) (topics : List (List ℕ)) (number : ℕ) (questions : List of_text.Question)
+pub answered_all : (policy : Policy) (topics : List (List ℕ)) (number : ℕ) (questions : List of_text.Query)
     (i : ℕ) (out whole : List ℕ)
     → out ++ answers_text policy topics number (drop i questions) ≡ whole → length questions ≤ i → out ≡ whole
 unfolding answers_text

@@ -1,18 +1,15 @@
 -- How answers are printed.
-use Rattle.std.specs.Prelude.{◌+◌, ℕ, Bool, true, false, List, [], ◌∷◌, ◌++◌, flat_map, Option, Some, None, codes, slice_get, unwrap_or, if◌then◌else◌}
+use Rattle.std.specs.Prelude.{ℕ, Bool, true, false, List, [], ◌∷◌, ◌++◌, flat_map, Option, Some, None, codes, slice_get, unwrap_or, if◌then◌else◌}
 use Rattle.std.specs.Fmt.{decimal}
-use Rattle.std.specs.List.{list_all, list_any}
 use Rattle.kob_authorizer.specs.Decide.{question_of}
 use Rattle.kob_authorizer.specs.Decide as authorizer
 use Rattle.kob_names.specs.Binding.{Binding, is_granted}
 use Rattle.kob_names.specs.declared.kinds.Operation.TheVariants.{Describe}
 use Rattle.kob_names.specs.declared.kinds.ResourceKind.TheVariants.{Topic}
 use Rattle.kob_names.specs.declared.verdict.Verdict.{Verdict}
-use Rattle.kob_rights.specs.Table.{Check, rights}
-use Rattle.kob_rights.specs.declared.event.Event.{Event}
 use Rattle.kob_script.specs.Printed.{verdict_text}
 use Rattle.kob_words.specs.Words.{operation_name, resource_name, bytes_text, binding_text}
-use Rattle.kob_policy_text.specs.AtHand.{principals_at_hand}
+use Rattle.kob_policy_text.specs.AtHand.{principals_at_hand, topics_named}
 use Rattle.kob_policy_text.specs.declared.item.LeftOut.{LeftOut}
 use Rattle.kob_policy_text.specs.declared.item.LeftOut.TheVariants as left_out
 use Rattle.kob_policy_text.specs.declared.origin.Omission.{Omission}
@@ -75,49 +72,13 @@ line_by policy (Some serial) = line_at policy (place_of policy serial)
 -- an answer, and below it the binding that decides
 abbrev pub may_text : Policy → Verdict → List ℕ
 may_text policy verdict =
-    answer_text verdict ++ codes "\n" ++ line_by policy (deciding verdict)
+    codes "  " ++ answer_text verdict ++ codes "\n" ++ line_by policy (deciding verdict)
 
 -- OPERATION RESOURCE NAME
 abbrev pub right_text : authorizer.Question → List ℕ
 right_text asked =
     operation_name asked.operation ++ codes " " ++ resource_name asked.resource ++ codes " "
     ++ bytes_text asked.name
-
--- a right of a request with its answer, behind the number of its clause
-abbrev pub check_text : Policy → ℕ → authorizer.Question → List ℕ
-check_text policy number asked =
-    codes "  " ++ decimal number ++ codes " " ++ right_text asked ++ codes " "
-    ++ reason_text policy (may policy asked) ++ codes "\n"
-
-abbrev pub question_on : List ℕ → List ℕ → Check → authorizer.Question
-question_on principal host check =
-    question_of principal host check.operation check.resource check.name
-
-abbrev pub clause_text : Policy → ℕ → List ℕ → List ℕ → List Check → List ℕ
-clause_text policy number principal host clause =
-    flat_map (λ check. check_text policy number (question_on principal host check)) clause
-
--- the clauses are numbered from 1
-unfoldable pub clauses_text : Policy → ℕ → List ℕ → List ℕ → List (List Check) → List ℕ
-clauses_text policy number principal host [] = []
-clauses_text policy number principal host (clause ∷ others) =
-    clause_text policy number principal host clause
-    ++ clauses_text policy (number + 1) principal host others
-
--- each clause has an alternative that is granted
-abbrev pub is_clause_met : Policy → List ℕ → List ℕ → List Check → Bool
-is_clause_met policy principal host clause =
-    list_any (λ check. is_yes policy (question_on principal host check)) clause
-
-abbrev pub are_met : Policy → List ℕ → List ℕ → List (List Check) → Bool
-are_met policy principal host clauses =
-    list_all (is_clause_met policy principal host) clauses
-
--- a request: yes or no, and then each clause with its answers
-abbrev pub request_text : Policy → Event → List ℕ
-request_text policy event =
-    yes_or_no (are_met policy event.principal event.host (rights event.request)) ++ codes "\n"
-    ++ clauses_text policy 1 event.principal event.host (rights event.request)
 
 unfoldable pub who_line : Policy → Right → List ℕ → List ℕ → List ℕ
 who_line policy right host principal =
@@ -142,9 +103,14 @@ topic_text topic = codes " " ++ bytes_text topic
 abbrev pub seen_text : Policy → Asker → List ℕ → List ℕ
 seen_text policy asker topic = if is_seen policy asker topic then topic_text topic else []
 
+-- the given topics, or those that the bindings name where none is given
+abbrev pub topics_asked : Policy → List (List ℕ) → List (List ℕ)
+topics_asked policy [] = topics_named policy.bindings
+topics_asked policy (first ∷ rest) = first ∷ rest
+
 abbrev pub sees_text : Policy → List (List ℕ) → Asker → List ℕ
 sees_text policy topics asker =
-    codes "topics" ++ flat_map (seen_text policy asker) topics ++ codes "\n"
+    codes "  topics" ++ flat_map (seen_text policy asker) (topics_asked policy topics) ++ codes "\n"
 
 abbrev pub left_out_word : LeftOut → List ℕ
 left_out_word left_out.Resource = codes "resource"

@@ -1,10 +1,15 @@
+pub mod Access
 pub mod Answers
 pub mod AtHand
+pub mod Hints
 pub mod Lines
 pub mod Listing
 pub mod Options
 pub mod Outcomes
 pub mod Policy
 pub mod Questions
+pub mod Releases
+pub mod Removable
 pub mod Review
 pub mod Shell
+pub mod Summary

@@ -1,8 +1,7 @@
 -- What a line of a policy says: a listed line, a setting, or a line that creates bindings.
-use Rattle.std.specs.Prelude.{◌≡◌, ◌==◌, ◌||◌, ◌&&◌, not, ℕ, Bool, true, false, List, [], ◌∷◌, ◌++◌, map, filter, length, nat_lt, nat_eq, set, slice_get, is_some, Option, Some, None, Result, Ok, Err, codes, if◌then◌else◌}
+use Rattle.std.specs.Prelude.{◌≡◌, ◌==◌, ◌||◌, ◌&&◌, not, ℕ, Bool, true, false, List, [], ◌∷◌, filter, length, nat_lt, nat_eq, set, slice_get, is_some, Option, Some, None, ok_or, Result, Ok, Err, codes, if◌then◌else◌}
 use Rattle.std.specs.List.{list_all, list_any, slice_split, starts_with}
 use Rattle.std.specs.Str.{bytes_eq, str_eq_ignore_ascii_case}
-use Rattle.kob_names.specs.Binding.{Binding}
 use Rattle.kob_rights.specs.declared.event.Event.{Event}
 use Rattle.kob_rights.specs.declared.request.Request.{Request}
 use Rattle.kob_rights.specs.declared.request.Request.TheVariants.{CreateAcls}
@@ -13,9 +12,10 @@ use Rattle.kob_script.specs.Words.{◌>>=◌, each, host_of, principal_of, text_
 use Rattle.kob_names.specs.TextRules.{is_topic_byte}
 use Rattle.kob_script.specs.Script.{asks_clap, lines_in, everyone_of, is_setting, is_super}
 use Rattle.kob_policy_text.specs.declared.item.Item.{Item}
-use Rattle.kob_policy_text.specs.declared.item.Item.TheVariants.{Super, Everyone, Rule, LeftOut, Skipped}
+use Rattle.kob_policy_text.specs.declared.item.Item.TheVariants.{Super, Everyone, Brokers, LeftOut, Skipped}
 use Rattle.kob_policy_text.specs.declared.item.LeftOut.TheVariants.{Principal}
 use Rattle.kob_policy_text.specs.Options.{SaysOptions, rule_items}
+use Rattle.kob_policy_text.specs.Releases.{release_named}
 use Rattle.kob_policy_text.specs.Shell.{shell_words}
 use Rattle.kob_policy_text.specs.Listing.{heading_item, newer_grant, older_grant, is_other_kind, other_principal, user_in, around_first, first_parts, holds_mark, last_parts, trimmed}
 
@@ -145,6 +145,16 @@ abbrev pub super_line : List Word → Result (List Item) FaultKind
 super_line (name ∷ []) = said (super_item name.decoded)
 super_line _ = Err BadLine
 
+abbrev pub is_release : Word → Bool
+is_release first = bytes_eq first.decoded (codes "kafka")
+
+-- the release of a line `kafka VERSION`
+abbrev pub release_line : List Word → Result (List Item) FaultKind
+release_line (version ∷ []) =
+    ok_or (release_named version.decoded) BadWord >>= λ release. Ok (Brokers release ∷ [])
+release_line [] = Err BadLine
+release_line (version ∷ second ∷ others) = Err BadLine
+
 -- `super PRINCIPAL`, `everyone on` or `everyone off`
 unfoldable pub setting_items : Word → List Word → Result (List Item) FaultKind
 setting_items first arguments =
@@ -192,7 +202,8 @@ unfoldable pub words_items : List Word → Result (List Item) FaultKind
 words_items [] = Ok []
 words_items (first ∷ arguments) =
     if is_setting first then setting_items first arguments
-    else (held_words (first ∷ arguments) >>= events_of None >>= rules_of)
+    else (if is_release first then release_line arguments
+    else (held_words (first ∷ arguments) >>= events_of None >>= rules_of))
 
 abbrev pub asker_of : List ℕ → List ℕ → Result (List ℕ × List ℕ) FaultKind
 asker_of name address =
@@ -242,7 +253,8 @@ SaysTrimmed line read = SaysIf (is_listed line) line read
 -- words that no form of a policy has; a comment has none
 abbrev pub are_foreign : Result (List Word) FaultKind → Bool
 are_foreign (Ok []) = false
-are_foreign (Ok (first ∷ arguments)) = not (is_setting first || is_creation (first ∷ arguments))
+are_foreign (Ok (first ∷ arguments)) =
+    not (is_setting first || (is_release first || is_creation (first ∷ arguments)))
 are_foreign (Err kind) = true
 
 -- A line that is of no form, such as one that a wrapper or a logger printed.

@@ -1,7 +1,7 @@
 -- Principals of the kind `User`, and those of other kinds, which are left out.
 use Rattle.std.specs.Prelude.{Bool, false, not, ℕ, List, Option, Some, None, Result, Ok, Err, codes, is_none, if◌then◌else◌, ◌+◌, drop, take, length, is_some, ok_or, unwrap_or, [], ◌||◌, nat_eq}
 use Rattle.std.specs.List.{position, before_first, starts_with}
-use Rattle.std.specs.Str.{bytes_eq}
+use Rattle.std.specs.Str.{bytes_eq, str_eq_ignore_ascii_case}
 use Rattle.kob_names.specs.TextRules.{is_colon}
 use Rattle.kob_script.specs.declared.fault.FaultKind.{FaultKind}
 use Rattle.kob_script.specs.Words.{◌>>=◌, text_in, principal_of, host_of}
@@ -13,11 +13,9 @@ use Rattle.kob_script.specs.declared.fault.FaultKind.TheVariants.{BadLine, BadWo
 use Rattle.kob_names.specs.declared.kinds.Operation.{Operation}
 use Rattle.kob_names.specs.declared.kinds.Operation.TheVariants.{All, ClusterAction, DescribeConfigs, AlterConfigs, IdempotentWrite}
 use Rattle.kob_names.specs.declared.kinds.PatternKind.{PatternKind}
-use Rattle.kob_names.specs.declared.kinds.Permission.{Permission}
 use Rattle.kob_names.specs.declared.kinds.ResourceKind.{ResourceKind}
 use Rattle.kob_names.specs.declared.kinds.ResourceKind.TheVariants.{TransactionalId}
 use Rattle.kob_words.specs.Words.{operation_named, resource_named, pattern_named, permission_named}
-use Rattle.kob_policy_text.specs.declared.item.Grant.{Grant}
 use Rattle.kob_policy_text.specs.declared.item.Item.{Item}
 use Rattle.kob_policy_text.specs.declared.item.LeftOut as kinds
 use Rattle.kob_policy_text.specs.declared.item.Target.{Target}
@@ -92,27 +90,46 @@ trimmed bytes = trim_end_by is_whitespace (trim_start_by is_whitespace bytes)
 -- `ResourcePattern(..)` and a binding by `(principal=.., host=.., ..)`; those of earlier versions by
 -- `Topic:orders` or `Topic:LITERAL:orders`, and by `User:x has Allow permission for operations: ..`.
 
--- an operation in capitals, with underscores, or as it stands in scripts; nothing for one that is
--- left out
+-- a word, in any case
+abbrev pub is_spelled : List ℕ → List ℕ → Bool
+is_spelled word text = str_eq_ignore_ascii_case word text
+
+-- operations on tokens and on two phases are left out
+abbrev pub is_other_operation : List ℕ → Bool
+is_other_operation word =
+    is_spelled word (codes "CREATE_TOKENS") || (is_spelled word (codes "CreateTokens")
+    || (is_spelled word (codes "DESCRIBE_TOKENS") || (is_spelled word (codes "DescribeTokens")
+    || (is_spelled word (codes "TWO_PHASE_COMMIT") || is_spelled word (codes "TwoPhaseCommit")))))
+
+-- resources of these kinds are left out
+abbrev pub is_other_resource : List ℕ → Bool
+is_other_resource word =
+    is_spelled word (codes "DELEGATION_TOKEN")
+    || (is_spelled word (codes "DelegationToken") || is_spelled word (codes "USER"))
+
+-- an operation with underscores, or as it stands in scripts; nothing for one that is left out
 abbrev pub listed_operation : List ℕ → Option (Option Operation)
 listed_operation word =
-    if bytes_eq word (codes "CLUSTER_ACTION") then Some (Some ClusterAction)
-    else (if bytes_eq word (codes "DESCRIBE_CONFIGS") then Some (Some DescribeConfigs)
-    else (if bytes_eq word (codes "ALTER_CONFIGS") then Some (Some AlterConfigs)
-    else (if bytes_eq word (codes "IDEMPOTENT_WRITE") then Some (Some IdempotentWrite)
-    else (if bytes_eq word (codes "CREATE_TOKENS") then Some None
-    else (if bytes_eq word (codes "DESCRIBE_TOKENS") then Some None
-    else (if bytes_eq word (codes "TWO_PHASE_COMMIT") then Some None
-    else option_map (λ operation. Some operation) (operation_named word)))))))
+    if is_spelled word (codes "CLUSTER_ACTION") then Some (Some ClusterAction)
+    else (if is_spelled word (codes "DESCRIBE_CONFIGS") then Some (Some DescribeConfigs)
+    else (if is_spelled word (codes "ALTER_CONFIGS") then Some (Some AlterConfigs)
+    else (if is_spelled word (codes "IDEMPOTENT_WRITE") then Some (Some IdempotentWrite)
+    else (if is_other_operation word then Some None
+    else option_map (λ operation. Some operation) (operation_named word)))))
 
--- a kind of resource in capitals, or as it stands in scripts; nothing for one that is left out
+-- a kind of resource with an underscore, or as it stands in scripts; nothing for one that is left out
 abbrev pub listed_resource : List ℕ → Option (Option ResourceKind)
 listed_resource word =
-    if bytes_eq word (codes "TRANSACTIONAL_ID") then Some (Some TransactionalId)
-    else (if bytes_eq word (codes "DELEGATION_TOKEN") then Some None
-    else (if bytes_eq word (codes "DelegationToken") then Some None
-    else (if bytes_eq word (codes "USER") then Some None
-    else option_map (λ kind. Some kind) (resource_named word))))
+    if is_spelled word (codes "TRANSACTIONAL_ID") then Some (Some TransactionalId)
+    else (if is_other_resource word then Some None
+    else option_map (λ kind. Some kind) (resource_named word))
+
+-- one of those that a policy has, for questions
+abbrev pub known_operation : List ℕ → Option Operation
+known_operation word = unwrap_or (listed_operation word) None
+
+abbrev pub known_resource : List ℕ → Option ResourceKind
+known_resource word = unwrap_or (listed_resource word) None
 
 -- a word without the parenthesis that closes the list in which it is the last
 abbrev pub unclosed_by : List ℕ → Option (List ℕ × List ℕ) → List ℕ

@@ -1,6 +1,6 @@
 -- What the options of `kafka-acls` say.
-use Rattle.std.specs.Prelude.{◌≡◌, ◌++◌, ℕ, Bool, List, [], ◌∷◌, map, Option, Some, None, Result, Ok, Err, codes, if◌then◌else◌, ◌||◌, ◌==◌, nat_eq, length, slice_get}
-use Rattle.std.specs.List.{starts_with}
+use Rattle.std.specs.Prelude.{◌≡◌, ◌++◌, ℕ, Bool, List, [], ◌∷◌, map, Option, Some, None, Result, Ok, Err, codes, if◌then◌else◌, ◌||◌, ◌&&◌, ◌==◌, false, flat_map, nat_eq, nat_lt, length, slice_get}
+use Rattle.std.specs.List.{list_all, list_any, starts_with}
 use Rattle.std.specs.Str.{bytes_eq}
 use Rattle.kob_acl_cli.specs.declared.args.CliArgs.{CliArgs}
 use Rattle.kob_acl_cli.specs.declared.commands.AclCommand.{AclCommand}
@@ -8,10 +8,10 @@ use Rattle.kob_acl_cli.specs.declared.commands.AclCommand.TheVariants.{Create}
 use Rattle.kob_names.specs.Binding.{Binding}
 use Rattle.kob_script.specs.CommandLines.{acl_commands}
 use Rattle.kob_script.specs.Script.{MayAnswer}
-use Rattle.kob_script.specs.Words.{◌>>=◌}
+use Rattle.kob_script.specs.Words.{◌>>=◌, principal_of}
 use Rattle.kob_script.specs.declared.fault.FaultKind.{FaultKind}
 use Rattle.kob_script.specs.declared.fault.FaultKind.TheVariants.{BadLine, Usage}
-use Rattle.kob_policy_text.specs.Listing.{held_name, other_resource}
+use Rattle.kob_policy_text.specs.Listing.{held_name, is_other_operation, other_operation, other_resource}
 use Rattle.kob_policy_text.specs.declared.item.Item.{Item}
 use Rattle.kob_policy_text.specs.declared.item.Item.TheVariants.{Rule}
 use Rattle.kob_policy_text.specs.declared.options.Place.{Place}
@@ -81,21 +81,95 @@ abbrev pub rule_items : List Binding → List Item
 rule_items drafts = map (λ (draft : Binding). Rule draft) drafts
 
 -- the bindings that are added; a line that removes or lists is a fault
-abbrev pub added_of : Option AclCommand → Result (List Item) FaultKind
-added_of (Some (Create drafts)) = Ok (rule_items drafts)
+abbrev pub added_of : Option AclCommand → Result (List Binding) FaultKind
+added_of (Some (Create drafts)) = Ok drafts
 added_of _ = Err BadLine
 
 -- the only command, where there is one and no more
 abbrev pub only_command : List AclCommand → Option AclCommand
 only_command commands = if length commands == 1 then slice_get commands 0 else None
 
+abbrev pub drafts_from : CliArgs → Result (List Binding) FaultKind
+drafts_from args = acl_commands (Some args) >>= λ made. added_of (only_command made)
+
 abbrev pub added_from : CliArgs → Result (List Item) FaultKind
-added_from args = acl_commands (Some args) >>= λ made. added_of (only_command made)
+added_from args = drafts_from args >>= λ drafts. Ok (rule_items drafts)
+
+-- `--transactional-id` beside `--producer` is as a line of its own, for Write and Describe
+abbrev pub has_producer_ids : CliArgs → Bool
+has_producer_ids args = args.producer && nat_lt 0 (length args.transactional_ids)
+
+abbrev pub without_ids : CliArgs → CliArgs
+without_ids args = record args { transactional_ids = [] }
+
+abbrev pub ids_alone : CliArgs → CliArgs
+ids_alone args = record args {
+  producer = false;
+  consumer = false;
+  idempotent = false;
+  topics = [];
+  groups = [];
+  operations = codes "Write" ∷ codes "Describe" ∷ [];
+}
+
+-- one line after the other; the first fault counts
+abbrev pub then_added : Result (List Item) FaultKind → Result (List Item) FaultKind
+    → Result (List Item) FaultKind
+then_added first second = first >>= λ items. second >>= λ others. Ok (items ++ others)
+
+-- Operations that are left out are left out one by one, and not the line: each is read as All, and the
+-- bindings are for the principal that is in their place.
+
+abbrev pub has_other_operation : CliArgs → Bool
+has_other_operation args = list_any is_other_operation args.operations
+
+abbrev pub has_others_alone : CliArgs → Bool
+has_others_alone args = list_all is_other_operation args.operations
+
+abbrev pub own_alone : List ℕ → List (List ℕ)
+own_alone word = if is_other_operation word then [] else word ∷ []
+
+abbrev pub all_if_other : List ℕ → List (List ℕ)
+all_if_other word = if is_other_operation word then codes "All" ∷ [] else []
+
+abbrev pub with_own_operations : CliArgs → CliArgs
+with_own_operations args = record args { operations = flat_map own_alone args.operations }
+
+abbrev pub with_other_operations : CliArgs → CliArgs
+with_other_operations args = record args { operations = flat_map all_if_other args.operations }
+
+unfoldable pub left_out_principal : Result (List ℕ) FaultKind
+left_out_principal = principal_of other_operation
+
+abbrev pub left_out_rule : List ℕ → Binding → Item
+left_out_rule principal draft = Rule (record draft { principal = principal })
+
+abbrev pub left_out_from : CliArgs → Result (List Item) FaultKind
+left_out_from args = left_out_principal >>= λ principal. drafts_from args
+    >>= λ drafts. Ok (map (left_out_rule principal) drafts)
+
+abbrev pub added_on_both : CliArgs → Result (List Item) FaultKind
+added_on_both args =
+    then_added (added_from (with_own_operations args)) (left_out_from (with_other_operations args))
+
+abbrev pub added_with_others : CliArgs → Result (List Item) FaultKind
+added_with_others args =
+    if has_others_alone args then left_out_from (with_other_operations args) else added_on_both args
+
+abbrev pub added_by_operations : CliArgs → Result (List Item) FaultKind
+added_by_operations args =
+    if has_other_operation args then added_with_others args else added_from args
+
+abbrev pub added_in_parts : CliArgs → Result (List Item) FaultKind
+added_in_parts args =
+    if has_producer_ids args
+    then then_added (added_from (without_ids args)) (added_from (ids_alone args))
+    else added_by_operations args
 
 -- what options say by clap's answer to them
 abbrev pub added_by : Option CliArgs → Result (List Item) FaultKind
 added_by None = Err Usage
-added_by (Some args) = added_from (held_args args)
+added_by (Some args) = added_in_parts (held_args args)
 
 -- The words of the tool may say this, by what clap may answer.
 unfoldable pub Adds : List (List ℕ) → Result (List Item) FaultKind → Type 0

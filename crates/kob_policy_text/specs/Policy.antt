@@ -1,6 +1,6 @@
--- A policy: the bindings of some files in the order in which they are read, the super users, and
--- whether what no binding matches is open to everyone.
-use Rattle.std.specs.Prelude.{◌≡◌, ◌+◌, ◌||◌, ◌&&◌, not, ℕ, Bool, false, List, [], ◌∷◌, ◌++◌, remove, Option, Some, None, Result, Ok, Err, codes, drop, is_none, length, nat_eq, nat_lt, if◌then◌else◌, ◌==◌, position}
+-- A policy: the bindings of some files in the order in which they are read, the super users,
+-- whether what no binding matches is open to everyone, and the release of the brokers.
+use Rattle.std.specs.Prelude.{◌≡◌, ◌+◌, ◌||◌, ◌&&◌, not, ℕ, Bool, false, List, [], ◌∷◌, ◌++◌, Option, Some, None, Result, Ok, Err, codes, drop, is_none, length, nat_eq, nat_lt, if◌then◌else◌, ◌==◌, position}
 use Rattle.kob_names.specs.Binding.{Binding, draft_fault, is_granted}
 use Rattle.kob_script.specs.declared.fault.FaultKind.{FaultKind}
 use Rattle.kob_script.specs.declared.fault.FaultKind.TheVariants.{BadName, NoResource}
@@ -30,6 +30,8 @@ use Rattle.kob_names.specs.declared.verdict.Verdict.{Verdict}
 use Rattle.kob_script.specs.declared.fault.ScriptError.TheVariants as script_error
 use Rattle.kob_script.specs.declared.fault.LineError.TheVariants as line_error
 use Rattle.kob_policy_text.specs.declared.item.Item.TheVariants as item
+use Rattle.kob_policy_text.specs.declared.release.Release.{Release}
+use Rattle.kob_policy_text.specs.declared.release.Release.TheVariants.{Since28}
 use Rattle.kob_policy_text.specs.declared.item.LeftOut.TheVariants as left_out
 use Rattle.kob_names.specs.declared.verdict.Verdict.TheVariants as verdict
 
@@ -38,6 +40,7 @@ use Rattle.kob_names.specs.declared.verdict.Verdict.TheVariants as verdict
 pub record Policy : Type 0 where
   pub supers : List (List ℕ)
   pub everyone : Bool
+  pub release : Release
   pub bindings : List Binding
   pub origins : List Origin
   pub closings : List Binding
@@ -50,6 +53,7 @@ abbrev pub empty_policy : Policy
 empty_policy = record {
   supers = [];
   everyone = false;
+  release = Since28;
   bindings = [];
   origins = [];
   closings = [];
@@ -154,6 +158,7 @@ unfoldable pub with_item : Policy → Origin → Item → Result Policy FaultKin
 with_item policy origin (item.Super user) =
     Ok (record policy { supers = policy.supers ++ user ∷ [] })
 with_item policy origin (item.Everyone everyone) = Ok (record policy { everyone = everyone })
+with_item policy origin (item.Brokers release) = Ok (record policy { release = release })
 with_item policy origin (item.Rule draft) = with_draft policy origin draft
 with_item policy origin (item.Resource target) = with_heading policy target
 with_item policy origin (item.Grant grant) = with_grant policy origin policy.heading grant

@@ -1,9 +1,7 @@
 -- Questions, a line each.
-use Rattle.std.specs.Prelude.{◌+◌, ℕ, List, [], ◌∷◌, ◌++◌, Bool, true, false, not, is_some, Option, Some, None, Result, Ok, Err, codes, if◌then◌else◌, ok_or}
+use Rattle.std.specs.Prelude.{◌+◌, ℕ, List, [], ◌∷◌, ◌++◌, Bool, true, false, not, ◌&&◌, is_some, Option, Some, None, Result, Ok, Err, codes, if◌then◌else◌, ok_or}
 use Rattle.std.specs.Str.{bytes_eq}
-use Rattle.kob_names.specs.declared.batch.Idem.{Idem}
 use Rattle.kob_rights.specs.declared.event.Event.{Event}
-use Rattle.kob_rights.specs.declared.request.Request.{Request}
 use Rattle.kob_rights.specs.declared.request.Request.TheVariants.{Produce, OffsetCommit}
 use Rattle.kob_script.specs.CommandLines.{events_of}
 use Rattle.kob_script.specs.declared.fault.FaultKind.{FaultKind}
@@ -11,12 +9,20 @@ use Rattle.kob_script.specs.declared.fault.FaultKind.TheVariants.{BadLine, BadWo
 use Rattle.kob_script.specs.declared.fault.Fault.{Fault}
 use Rattle.kob_script.specs.Words.{◌>>=◌, text_of, principal_of, host_of, Word, words_of}
 use Rattle.kob_script.specs.Script.{lines_in}
-use Rattle.kob_words.specs.Words.{operation_named, resource_named}
+use Rattle.kob_names.specs.Same.{same_resource, same_text}
+use Rattle.kob_names.specs.declared.kinds.ResourceKind.{ResourceKind}
+use Rattle.kob_names.specs.declared.kinds.Operation.TheVariants.{Read, Write}
+use Rattle.kob_names.specs.declared.kinds.ResourceKind.TheVariants.{Cluster, Group, Topic}
+use Rattle.kob_policy_text.specs.declared.question.Access.{Access}
+use Rattle.kob_policy_text.specs.declared.question.Act.{Act}
+use Rattle.kob_policy_text.specs.declared.question.Act.TheVariants as act
 use Rattle.kob_policy_text.specs.declared.question.Asker.{Asker}
+use Rattle.kob_policy_text.specs.declared.question.Query.{Query}
 use Rattle.kob_policy_text.specs.declared.question.Question.{Question}
-use Rattle.kob_policy_text.specs.declared.question.Question.TheVariants.{May, Ask, Who, Sees, Unused, Shadowed}
+use Rattle.kob_policy_text.specs.declared.question.Question.TheVariants.{May, Expect, Who, WhoConsumes, Sees, Summary, Unused, Shadowed, Removable}
 use Rattle.kob_policy_text.specs.declared.question.Right.{Right}
 use Rattle.kob_policy_text.specs.Lines.{only_event}
+use Rattle.kob_policy_text.specs.Listing.{known_operation, known_resource, trimmed}
 
 unfoldable pub host_in : Word → Result (List ℕ) FaultKind
 host_in word = text_of word >>= host_of
@@ -28,84 +34,156 @@ asker_of principal host = do
   place ← host_in host
   Ok (record { principal = who; host = place })
 
+-- the cluster has one name
+abbrev pub full_name : ResourceKind → List ℕ → List ℕ
+full_name resource name =
+    if same_resource resource Cluster && same_text name (codes "cluster")
+    then codes "kafka-cluster" else name
+
 -- OPERATION RESOURCE NAME
 unfoldable pub right_of : Word → Word → Word → Result Right FaultKind
 right_of operation resource name = do
-  kind ← ok_or (operation_named operation.decoded) BadWord
-  on ← ok_or (resource_named resource.decoded) BadWord
+  kind ← ok_or (known_operation operation.decoded) BadWord
+  on ← ok_or (known_resource resource.decoded) BadWord
   text ← text_of name
-  Ok (record { operation = kind; resource = on; name = text })
+  Ok (record { operation = kind; resource = on; name = full_name on text })
 
--- may PRINCIPAL HOST OPERATION RESOURCE NAME
-unfoldable pub may_right : Word → Word → Word → Word → Word → Result Question FaultKind
+abbrev pub by : Asker → Act → Access
+by asker act = record { asker = asker; act = act }
+
+-- PRINCIPAL HOST OPERATION RESOURCE NAME
+unfoldable pub may_right : Word → Word → Word → Word → Word → Result Access FaultKind
 may_right principal host operation resource name = do
   asker ← asker_of principal host
   right ← right_of operation resource name
-  Ok (May asker right)
+  Ok (by asker (act.Right right))
 
--- an idempotent producer puts its first batch on the topic, or another producer does
-abbrev pub first_of_producer : Option Idem
-first_of_producer = Some (record { id = 0; epoch = 0; base = 0 })
+abbrev pub produces : List ℕ → Act
+produces topic = act.Request
+    (Produce
+    (record { topic = topic; partition = 0; batch = record { idem = None; records = [] } }))
 
-abbrev pub asks : Asker → Request → Question
-asks asker request =
-    Ask (record { principal = asker.principal; host = asker.host; request = request })
-
-abbrev pub produces : Option Idem → List ℕ → Request
-produces idem topic =
-    Produce
-    (record { topic = topic; partition = 0; batch = record { idem = idem; records = [] } })
-
--- may PRINCIPAL HOST produce TOPIC, and `idempotent` behind it
-unfoldable pub may_produce : Option Idem → Word → Word → Word → Result Question FaultKind
-may_produce idem principal host topic = do
+-- PRINCIPAL HOST produce TOPIC
+unfoldable pub may_produce : Word → Word → Word → Result Access FaultKind
+may_produce principal host topic = do
   asker ← asker_of principal host
   name ← text_of topic
-  Ok (asks asker (produces idem name))
+  Ok (by asker (produces name))
 
--- may PRINCIPAL HOST consume TOPIC GROUP: fetch from the topic and commit offsets for the group
-unfoldable pub may_consume : Word → Word → Word → Word → Result Question FaultKind
+-- PRINCIPAL HOST produce TOPIC idempotent
+unfoldable pub may_repeat : Word → Word → Word → Result Access FaultKind
+may_repeat principal host topic = do
+  asker ← asker_of principal host
+  name ← text_of topic
+  Ok (by asker (act.Idempotent name))
+
+-- PRINCIPAL HOST produce TOPIC transactional ID
+unfoldable pub may_transact : Word → Word → Word → Word → Result Access FaultKind
+may_transact principal host topic id = do
+  asker ← asker_of principal host
+  name ← text_of topic
+  transaction ← text_of id
+  Ok (by asker (act.Transactional name transaction))
+
+-- PRINCIPAL HOST consume TOPIC GROUP: fetch from the topic and commit offsets for the group
+unfoldable pub may_consume : Word → Word → Word → Word → Result Access FaultKind
 may_consume principal host topic group = do
   asker ← asker_of principal host
   name ← text_of topic
   member ← text_of group
-  Ok (asks asker
-      (OffsetCommit (record { group = member; topic = name; partition = 0; offset = 0 })))
+  Ok (by asker (act.Request
+      (OffsetCommit (record { group = member; topic = name; partition = 0; offset = 0 }))))
 
-abbrev pub event_or_bad_line : Option Event → Result Question FaultKind
-event_or_bad_line (Some event) = Ok (Ask event)
+abbrev pub access_of : Event → Access
+access_of event =
+    by (record { principal = event.principal; host = event.host }) (act.Request event.request)
+
+abbrev pub event_or_bad_line : Option Event → Result Access FaultKind
+event_or_bad_line (Some event) = Ok (access_of event)
 event_or_bad_line None = Err BadLine
 
--- may PRINCIPAL HOST COMMAND .., as a request stands in a script; `acl` is none
-unfoldable pub may_request : List Word → Result Question FaultKind
+-- PRINCIPAL HOST COMMAND .., as a request stands in a script; `acl` is none
+unfoldable pub may_request : List Word → Result Access FaultKind
 may_request words = events_of None words >>= λ events. event_or_bad_line (only_event events)
 
 abbrev pub is_word : Word → List ℕ → Bool
 is_word word text = bytes_eq word.decoded text
 
--- may PRINCIPAL HOST with three words more, the first of which says what is asked
-unfoldable pub may_by : List Word → Word → Word → Word → Word → Word → Result Question FaultKind
+-- PRINCIPAL HOST with three words more, the first of which says what is asked
+unfoldable pub may_by : List Word → Word → Word → Word → Word → Word → Result Access FaultKind
 may_by words principal host command one other =
-    if is_some (operation_named command.decoded)
+    if is_some (known_operation command.decoded)
     then may_right principal host command one other
     else (if is_word command (codes "consume") then may_consume principal host one other
     else (if not (is_word command (codes "produce")) then may_request words
     else (if is_word other (codes "idempotent")
-    then may_produce first_of_producer principal host one else Err BadLine)))
+    then may_repeat principal host one else Err BadLine)))
+
+-- PRINCIPAL HOST produce TOPIC transactional ID, or a request of six words
+unfoldable pub may_six : List Word → Word → Word → Word → Word → Word → Word
+    → Result Access FaultKind
+may_six words principal host command topic how id =
+    if is_word command (codes "produce") && is_word how (codes "transactional")
+    then may_transact principal host topic id else may_request words
 
 -- the words after `may`
-abbrev pub may_words : List Word → Result Question FaultKind
+abbrev pub may_words : List Word → Result Access FaultKind
 may_words (principal ∷ host ∷ command ∷ topic ∷ []) =
-    if is_word command (codes "produce") then may_produce None principal host topic
+    if is_word command (codes "produce") then may_produce principal host topic
     else may_request (principal ∷ host ∷ command ∷ topic ∷ [])
 may_words (principal ∷ host ∷ command ∷ one ∷ other ∷ []) =
     may_by (principal ∷ host ∷ command ∷ one ∷ other ∷ []) principal host command one other
+may_words (principal ∷ host ∷ command ∷ topic ∷ how ∷ id ∷ []) =
+    may_six (principal ∷ host ∷ command ∷ topic ∷ how ∷ id ∷ []) principal host command topic how id
 may_words words = may_request words
 
--- who OPERATION RESOURCE NAME, and HOST behind it
-abbrev pub who_words : List Word → Result Question FaultKind
-who_words (operation ∷ resource ∷ name ∷ []) =
+-- `yes` or `no`
+abbrev pub expected_by : Word → Result Bool FaultKind
+expected_by word =
+    if is_word word (codes "yes") then Ok true
+    else (if is_word word (codes "no") then Ok false else Err BadWord)
+
+-- what is expected of the words after `may`
+unfoldable pub expects : Word → List Word → Result Question FaultKind
+expects answer words = do
+  expected ← expected_by answer
+  asked ← may_words words
+  Ok (Expect expected asked)
+
+-- expect yes MAY-QUESTION, expect no MAY-QUESTION
+abbrev pub expect_words : List Word → Result Question FaultKind
+expect_words (answer ∷ may ∷ words) =
+    if is_word may (codes "may") then expects answer words else Err BadLine
+expect_words _ = Err BadLine
+
+abbrev pub right_to_write : List ℕ → Right
+right_to_write topic = record { operation = Write; resource = Topic; name = topic }
+
+abbrev pub right_to_read : ResourceKind → List ℕ → Right
+right_to_read resource name = record { operation = Read; resource = resource; name = name }
+
+-- who produce TOPIC
+abbrev pub who_produces : Word → Result Question FaultKind
+who_produces topic = text_of topic >>= λ name. Ok (Who (right_to_write name) None)
+
+-- who consume TOPIC GROUP
+abbrev pub who_consumes : Word → Word → Result Question FaultKind
+who_consumes topic group = do
+  name ← text_of topic
+  member ← text_of group
+  Ok (WhoConsumes (right_to_read Topic name) (right_to_read Group member))
+
+abbrev pub who_may : Word → Word → Word → Result Question FaultKind
+who_may operation resource name =
     right_of operation resource name >>= λ right. Ok (Who right None)
+
+-- who produce TOPIC, who consume TOPIC GROUP, who OPERATION RESOURCE NAME, and HOST behind that
+abbrev pub who_words : List Word → Result Question FaultKind
+who_words (command ∷ topic ∷ []) =
+    if is_word command (codes "produce") then who_produces topic else Err BadLine
+who_words (first ∷ second ∷ third ∷ []) =
+    if is_word first (codes "consume") then who_consumes second third
+    else who_may first second third
 who_words (operation ∷ resource ∷ name ∷ host ∷ []) = do
   right ← right_of operation resource name
   place ← host_in host
@@ -124,17 +202,20 @@ alone question _ = Err BadLine
 -- a question by its first word
 unfoldable pub question_by : Word → List Word → Result Question FaultKind
 question_by first words =
-    if is_word first (codes "may") then may_words words
+    if is_word first (codes "may") then (may_words words >>= λ asked. Ok (May asked))
+    else (if is_word first (codes "expect") then expect_words words
     else (if is_word first (codes "who") then who_words words
     else (if is_word first (codes "sees") then sees_words words
+    else (if is_word first (codes "summary") then alone Summary words
     else (if is_word first (codes "unused") then alone Unused words
     else (if is_word first (codes "shadowed") then alone Shadowed words
-    else Err BadLine))))
+    else (if is_word first (codes "removable") then alone Removable words
+    else Err BadLine)))))))
 
--- the names of topics that are given, and the questions in their order
+-- the names of topics that are given, and the questions in their order, each beside its text
 pub record Questions : Type 0 where
   pub topics : List (List ℕ)
-  pub asked : List Question
+  pub asked : List Query
 
 abbrev pub with_topic : Questions → List ℕ → Questions
 with_topic so_far name = record so_far { topics = so_far.topics ++ name ∷ [] }
@@ -144,21 +225,25 @@ abbrev pub topic_words : Questions → List Word → Result Questions FaultKind
 topic_words so_far (name ∷ []) = text_of name >>= λ text. Ok (with_topic so_far text)
 topic_words so_far _ = Err BadLine
 
-abbrev pub with_question : Questions → Word → List Word → Result Questions FaultKind
-with_question so_far first words =
+-- a question beside its line, without white space at the ends
+abbrev pub query : List ℕ → Question → Query
+query line question = record { text = trimmed line; question = question }
+
+abbrev pub with_question : List ℕ → Questions → Word → List Word → Result Questions FaultKind
+with_question line so_far first words =
     question_by first words
-    >>= λ question. Ok (record so_far { asked = so_far.asked ++ question ∷ [] })
+    >>= λ question. Ok (record so_far { asked = so_far.asked ++ query line question ∷ [] })
 
 -- a line more, of a file of names or of questions; a skipped line has no words
-abbrev pub with_words : Bool → Questions → List Word → Result Questions FaultKind
-with_words are_names so_far [] = Ok so_far
-with_words are_names so_far (first ∷ words) =
+abbrev pub with_words : Bool → List ℕ → Questions → List Word → Result Questions FaultKind
+with_words are_names line so_far [] = Ok so_far
+with_words are_names line so_far (first ∷ words) =
     if are_names then topic_words so_far (first ∷ words)
     else (if is_word first (codes "topic") then topic_words so_far words
-    else with_question so_far first words)
+    else with_question line so_far first words)
 
 unfoldable pub with_line : Bool → Questions → List ℕ → Result Questions FaultKind
-with_line are_names so_far line = words_of line >>= with_words are_names so_far
+with_line are_names so_far line = words_of line >>= with_words are_names line so_far
 
 abbrev pub then_lines : ℕ → Result Questions FaultKind → (Questions → Result Questions Fault)
     → Result Questions Fault

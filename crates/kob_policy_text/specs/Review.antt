@@ -1,7 +1,7 @@
 -- How answers over all principals, hosts and names are printed, and all answers in their order.
 use Rattle.std.specs.Prelude.{ℕ, ◌+◌, ◌&&◌, ◌||◌, not, Bool, true, false, List, [], ◌∷◌, ◌++◌, Option, Some, None, codes, flat_map, if◌then◌else◌}
 use Rattle.std.specs.Fmt.{decimal}
-use Rattle.kob_authorizer.specs.Decide.{is_super, question_of}
+use Rattle.kob_authorizer.specs.Decide.{is_super}
 use Rattle.kob_names.specs.Binding.{is_granted}
 use Rattle.kob_policy_review.specs.Classes.{target}
 use Rattle.kob_policy_review.specs.Difference.{changes_of, names_all}
@@ -19,12 +19,16 @@ use Rattle.kob_policy_review.specs.declared.difference.Outcome.TheVariants.{Same
 use Rattle.kob_policy_review.specs.declared.redundant.Reason.{Reason}
 use Rattle.kob_policy_review.specs.declared.redundant.Reason.TheVariants.{CoveredBy, DeniedBy, Super, Together}
 use Rattle.kob_policy_review.specs.declared.redundant.Unneeded.{Unneeded}
-use Rattle.kob_policy_text.specs.Answers.{from_text, line_at, line_by, may_text, reason_text, request_text, sees_text}
+use Rattle.kob_policy_text.specs.Access.{access_text, expect_text}
+use Rattle.kob_policy_text.specs.Answers.{from_text, line_at, line_by, reason_text, sees_text}
 use Rattle.kob_policy_text.specs.AtHand.{each_once}
-use Rattle.kob_policy_text.specs.Policy.{Policy, contents_of, may, place_of}
+use Rattle.kob_policy_text.specs.Policy.{Policy, contents_of, place_of}
+use Rattle.kob_policy_text.specs.Summary.{summary_text}
 use Rattle.kob_policy_text.specs.Questions.{Questions}
+use Rattle.kob_policy_text.specs.Removable.{removable_text}
+use Rattle.kob_policy_text.specs.declared.question.Query.{Query}
 use Rattle.kob_policy_text.specs.declared.question.Question.{Question}
-use Rattle.kob_policy_text.specs.declared.question.Question.TheVariants.{May, Ask, Who, Sees, Unused, Shadowed}
+use Rattle.kob_policy_text.specs.declared.question.Question.TheVariants.{May, Expect, Who, WhoConsumes, Sees, Summary, Unused, Shadowed, Removable}
 use Rattle.kob_policy_text.specs.declared.question.Right.{Right}
 use Rattle.kob_words.specs.Words.{bytes_text, operation_name, resource_name}
 
@@ -45,16 +49,14 @@ unneeded_text policy one = unneeded_at policy one.reason (place_of policy one.se
 
 -- the bindings without which, each taken alone, no answer at all changes
 abbrev pub unused_text : Policy → List ℕ
-unused_text policy =
-    codes "unused\n" ++ flat_map (unneeded_text policy) (unused_in (contents_of policy))
+unused_text policy = flat_map (unneeded_text policy) (unused_in (contents_of policy))
 
 -- an allow that a deny always beats
 unfoldable pub shadowed_line : Policy → ℕ → List ℕ
 shadowed_line policy serial = line_by policy (Some serial)
 
 abbrev pub shadowed_text : Policy → List ℕ
-shadowed_text policy =
-    codes "shadowed\n" ++ flat_map (shadowed_line policy) (shadowed_in (contents_of policy))
+shadowed_text policy = flat_map (shadowed_line policy) (shadowed_in (contents_of policy))
 
 -- a principal or a host, or all that no binding names
 abbrev pub party_text : List ℕ → Option (List ℕ) → List ℕ
@@ -97,12 +99,23 @@ granted_text policy right =
     ++ flat_map (grant_if_told policy)
     (answers_on (contents_of policy) right.operation (target_at right))
 
-abbrev pub who_by : Policy → Right → Option (List ℕ) → List ℕ
-who_by policy right (Some host) = from_text policy right host
-who_by policy right None = granted_text policy right
-
+-- the answer from one host, or from every host
 abbrev pub who_text : Policy → Right → Option (List ℕ) → List ℕ
-who_text policy right host = codes "who\n" ++ who_by policy right host
+who_text policy right (Some host) = from_text policy right host
+who_text policy right None = granted_text policy right
+
+-- OPERATION RESOURCE NAME, above those who may
+unfoldable pub right_line : Right → List ℕ
+right_line right =
+    codes "  " ++ operation_name right.operation ++ codes " " ++ resource_name right.resource
+    ++ codes " " ++ bytes_text right.name ++ codes "\n"
+
+abbrev pub grants_text : Policy → Right → List ℕ
+grants_text policy right = right_line right ++ granted_text policy right
+
+-- who may read the topic, and then who may read as the group
+abbrev pub consumers_text : Policy → Right → Right → List ℕ
+consumers_text policy topic group = grants_text policy topic ++ grants_text policy group
 
 -- who asks, and from where
 unfoldable pub asker_text : Class → List ℕ
@@ -148,25 +161,27 @@ changes_text before after =
 
 -- the answer to a question, with the names of topics that are given
 abbrev pub question_text : Policy → List (List ℕ) → Question → List ℕ
-question_text policy topics (May asker right) = may_text policy
-    (may policy
-    (question_of asker.principal asker.host right.operation right.resource right.name))
-question_text policy topics (Ask event) = request_text policy event
+question_text policy topics (May access) = access_text policy access
+question_text policy topics (Expect expected access) = expect_text policy expected access
 question_text policy topics (Who right host) = who_text policy right host
+question_text policy topics (WhoConsumes topic group) = consumers_text policy topic group
 question_text policy topics (Sees asker) = sees_text policy topics asker
+question_text policy topics Summary = summary_text policy
 question_text policy topics Unused = unused_text policy
 question_text policy topics Shadowed = shadowed_text policy
+question_text policy topics Removable = removable_text policy
 
--- an answer behind its number
-abbrev pub answer_line : Policy → List (List ℕ) → ℕ → Question → List ℕ
-answer_line policy topics number question =
-    decimal number ++ codes " " ++ question_text policy topics question
+-- a question as it was asked, behind its number, and below it the answer
+abbrev pub answer_line : Policy → List (List ℕ) → ℕ → Query → List ℕ
+answer_line policy topics number query =
+    decimal number ++ codes " " ++ query.text ++ codes "\n"
+    ++ question_text policy topics query.question
 
 -- the answers, numbered from one on
-unfoldable pub answers_text : Policy → List (List ℕ) → ℕ → List Question → List ℕ
+unfoldable pub answers_text : Policy → List (List ℕ) → ℕ → List Query → List ℕ
 answers_text policy topics number [] = []
-answers_text policy topics number (question ∷ others) =
-    answer_line policy topics number question ++ answers_text policy topics (number + 1) others
+answers_text policy topics number (query ∷ others) =
+    answer_line policy topics number query ++ answers_text policy topics (number + 1) others
 
 -- what changes, and then the answers of the second policy
 abbrev pub review_text : Policy → Policy → Questions → List ℕ

@@ -5,16 +5,17 @@ ghost use Rattle.kob_policy_text.specs.Answers.{omissions_text};
 ghost use Rattle.kob_policy_text.specs.Review.{answer_line, answers_text, question_text};
 ghost use Rattle.kob_policy_text.specs.Review.{review_text};
 
-use crate::asked::Asked;
+use crate::access::{push_access, push_expected};
 use crate::changes::print_changes;
 use crate::judge::Judge;
 use crate::policy::Policy;
-use crate::printed::{push_may, push_omission};
-use crate::question::{Question, Questions};
-use crate::request::push_request;
+use crate::printed::push_omission;
+use crate::question::{Query, Question, Questions};
+use crate::removable::push_removable;
 use crate::shadowed::push_shadowed;
+use crate::summary::push_summary;
 use crate::unused::push_unused;
-use crate::who::{push_sees, push_who};
+use crate::who::{push_consumers, push_sees, push_who};
 use kob_names::Text;
 use kob_words::push_number;
 use std::alloc::{AllocError, Global};
@@ -30,21 +31,15 @@ fn push_question(
         ++ question_text judge.now topics.now question.now) }
 {
     match question {
-        Question::May(asker, right) => {
-            let asked = Asked {
-                principal: &asker.principal,
-                host: &asker.host,
-                operation: right.operation,
-                resource: right.resource,
-                name: right.name.as_str(),
-            };
-            push_may(out, judge, judge.verdict(&asked))
-        }
-        Question::Ask(event) => push_request(out, judge, event),
+        Question::May(access) => push_access(out, judge, access),
+        Question::Expect(expected, access) => push_expected(out, judge, *expected, access),
         Question::Who(right, host) => push_who(alloc, out, judge, right, host),
-        Question::Sees(asker) => push_sees(out, judge, topics, asker),
+        Question::WhoConsumes(topic, group) => push_consumers(alloc, out, judge, topic, group),
+        Question::Sees(asker) => push_sees(alloc, out, judge, topics, asker),
+        Question::Summary => push_summary(alloc, out, judge),
         Question::Unused => push_unused(alloc, out, judge),
         Question::Shadowed => push_shadowed(alloc, out, judge),
+        Question::Removable => push_removable(alloc, out, judge),
     }
 }
 
@@ -55,31 +50,33 @@ fn push_answer_line(
     judge: &Judge,
     topics: &[Text],
     number: u64,
-    question: &Question,
+    query: &Query,
 ) -> Result<(), AllocError>
     ensures { OnOk result (out.new.items ≡ out.old.items
-        ++ answer_line judge.now topics.now number question.now) }
+        ++ answer_line judge.now topics.now number query.now) }
 {
     push_number(out, number)?;
     out.extend_from_slice(b" ")?;
-    push_question(alloc, out, judge, topics, question)
+    out.extend_from_slice(query.text.as_slice())?;
+    out.extend_from_slice(b"\n")?;
+    push_question(alloc, out, judge, topics, &query.question)
 }
 
-/// Prints the answers to questions, numbered from 1. The error is out of memory; `out` has then
+/// Prints each question and its answer, numbered from 1. The error is out of memory; `out` has then
 /// grown by a part of them.
 pub fn print_answers(
     alloc: Global,
     out: &mut Vec<u8>,
     judge: &Judge,
     topics: &[Text],
-    questions: &[Question],
+    queries: &[Query],
 ) -> Result<(), AllocError>
     ensures { OnOk result (out.new.items ≡ out.old.items
-        ++ answers_text judge.now topics.now 1 questions.now) }
+        ++ answers_text judge.now topics.now 1 queries.now) }
 {
     let mut number: u64 = 1;
-    for question in questions {
-        push_answer_line(alloc, out, judge, topics, number, question)?;
+    for query in queries {
+        push_answer_line(alloc, out, judge, topics, number, query)?;
         number += 1;
     }
     Ok(())

@@ -1,5 +1,6 @@
 //! What the lines of a policy say.
 
+use crate::release::Release;
 use kob_names::{Draft, Host, Operation, Pattern, Permission, Principal, ResourceKind};
 
 /// What a listed binding is on.
@@ -32,6 +33,8 @@ pub enum LeftOut {
 pub enum Item {
     Super(Principal),
     Everyone(bool),
+    /// The release of the brokers.
+    Brokers(Release),
     Rule(Draft),
     /// The bindings that are listed below are on this, or are left out.
     Resource(Option<Target>),

@@ -2,6 +2,8 @@
 
 ghost use Rattle.std.specs.Prelude.{◌≡◌, codes, ok_or};
 ghost use Rattle.kob_policy_text.specs.Listing.{grant_item, headed, heading_item, holder_by};
+ghost use Rattle.kob_policy_text.specs.Listing.{is_other_operation, is_other_resource, known_operation};
+ghost use Rattle.kob_policy_text.specs.Listing.{known_resource};
 ghost use Rattle.kob_policy_text.specs.Listing.{listed_operation, listed_resource, one_principal};
 ghost use Rattle.kob_policy_text.specs.Listing.{unclosed};
 ghost use Rattle.kob_policy_text.specs.Listing.{is_pattern_word, newer_grant, newer_resource};
@@ -61,22 +63,38 @@ impl<'a> Model for TargetWords<'a> {
     } };
 }
 
+/// Whether the operation is one that is left out.
+pub fn is_other_operation(word: &[u8]) -> bool
+    ensures { result ≡ is_other_operation word.now }
+{
+    word.eq_ignore_ascii_case(b"CREATE_TOKENS")
+        || word.eq_ignore_ascii_case(b"CreateTokens")
+        || word.eq_ignore_ascii_case(b"DESCRIBE_TOKENS")
+        || word.eq_ignore_ascii_case(b"DescribeTokens")
+        || word.eq_ignore_ascii_case(b"TWO_PHASE_COMMIT")
+        || word.eq_ignore_ascii_case(b"TwoPhaseCommit")
+}
+
+fn is_other_resource(word: &[u8]) -> bool
+    ensures { result ≡ is_other_resource word.now }
+{
+    word.eq_ignore_ascii_case(b"DELEGATION_TOKEN")
+        || word.eq_ignore_ascii_case(b"DelegationToken")
+        || word.eq_ignore_ascii_case(b"USER")
+}
+
 fn listed_operation(word: &[u8]) -> Option<Option<Operation>>
     ensures { result ≡ listed_operation word.now }
 {
-    if word == b"CLUSTER_ACTION".as_slice() {
+    if word.eq_ignore_ascii_case(b"CLUSTER_ACTION") {
         Some(Some(Operation::ClusterAction))
-    } else if word == b"DESCRIBE_CONFIGS".as_slice() {
+    } else if word.eq_ignore_ascii_case(b"DESCRIBE_CONFIGS") {
         Some(Some(Operation::DescribeConfigs))
-    } else if word == b"ALTER_CONFIGS".as_slice() {
+    } else if word.eq_ignore_ascii_case(b"ALTER_CONFIGS") {
         Some(Some(Operation::AlterConfigs))
-    } else if word == b"IDEMPOTENT_WRITE".as_slice() {
+    } else if word.eq_ignore_ascii_case(b"IDEMPOTENT_WRITE") {
         Some(Some(Operation::IdempotentWrite))
-    } else if word == b"CREATE_TOKENS".as_slice() {
-        Some(None)
-    } else if word == b"DESCRIBE_TOKENS".as_slice() {
-        Some(None)
-    } else if word == b"TWO_PHASE_COMMIT".as_slice() {
+    } else if is_other_operation(word) {
         Some(None)
     } else {
         match operation_named(word) {
@@ -89,13 +107,9 @@ fn listed_operation(word: &[u8]) -> Option<Option<Operation>>
 fn listed_resource(word: &[u8]) -> Option<Option<ResourceKind>>
     ensures { result ≡ listed_resource word.now }
 {
-    if word == b"TRANSACTIONAL_ID".as_slice() {
+    if word.eq_ignore_ascii_case(b"TRANSACTIONAL_ID") {
         Some(Some(ResourceKind::TransactionalId))
-    } else if word == b"DELEGATION_TOKEN".as_slice() {
-        Some(None)
-    } else if word == b"DelegationToken".as_slice() {
-        Some(None)
-    } else if word == b"USER".as_slice() {
+    } else if is_other_resource(word) {
         Some(None)
     } else {
         match resource_named(word) {
@@ -103,6 +117,20 @@ fn listed_resource(word: &[u8]) -> Option<Option<ResourceKind>>
             None => None,
         }
     }
+}
+
+/// An operation that a policy may have.
+pub fn known_operation(word: &[u8]) -> Option<Operation>
+    ensures { result ≡ known_operation word.now }
+{
+    listed_operation(word).unwrap_or(None)
+}
+
+/// A kind of resource that a policy may have.
+pub fn known_resource(word: &[u8]) -> Option<ResourceKind>
+    ensures { result ≡ known_resource word.now }
+{
+    listed_resource(word).unwrap_or(None)
 }
 
 /// The word without the parenthesis that closes a list.

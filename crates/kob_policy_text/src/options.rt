@@ -1,12 +1,16 @@
 //! What the options of `kafka-acls` say.
 
-ghost use Rattle.std.specs.Prelude.{◌≡◌, ◌++◌, IfOk, OnOk, Some, map, option_map};
+ghost use Rattle.std.specs.Prelude.{◌≡◌, ◌++◌, ◌∷◌, [], IfOk, OnOk, Some, codes, map, option_map};
 ghost use Rattle.std.specs.Option.{option_to_list};
 ghost use Rattle.kob_acl_cli.specs.Lines.{texts};
 ghost use Rattle.kob_policy_text.specs.Options.{Adds, added_by, added_from, added_of, behind, held_args};
 ghost use Rattle.kob_policy_text.specs.Options.{held_at, held_option, held_options, is_ignored};
 ghost use Rattle.kob_policy_text.specs.Options.{is_ignored_whole, is_other, is_other_whole};
-ghost use Rattle.kob_policy_text.specs.Options.{next_place, only_command, rule_items};
+ghost use Rattle.kob_policy_text.specs.Options.{added_in_parts, has_producer_ids, ids_alone};
+ghost use Rattle.kob_policy_text.specs.Options.{next_place, only_command, rule_items, then_added};
+ghost use Rattle.kob_policy_text.specs.Options.{without_ids, drafts_from, with_other_operations};
+ghost use Rattle.kob_policy_text.specs.Options.{added_by_operations, added_on_both, added_with_others};
+ghost use Rattle.kob_policy_text.specs.Options.{left_out_from};
 ghost use Rattle.kob_policy_text.specs.Listing.{held_name};
 ghost use Rattle.kob_policy_text.specs.Outcomes.{MayGive};
 ghost use Rattle.kob_policy_text.specs.declared.options.Place.TheVariants.{Anywhere};
@@ -15,11 +19,16 @@ ghost use Rattle.kob_script.specs.CommandLines.{acl_commands, error_of};
 ghost use Rattle.kob_script.specs.Words.{GivesSeen};
 
 use crate::item::Item;
+use crate::other_operations::{
+    has_other_operation, has_others_alone, left_out_principal, left_out_rules, others_as_all,
+    own_operations,
+};
 use crate::users::{OTHER_RESOURCE, held_name};
 use kob_acl_cli::{AclCommand, CliArgs, CommandFault, LineFault, commands_of, read_line};
 use kob_names::{Draft, Items, Text};
 use kob_script::{FaultKind, LineError};
 use std::alloc::{AllocError, Global};
+use std::mem;
 
 /// Where a word of options is: maybe behind an option whose value has no effect, or behind one for a
 /// resource of another kind.
@@ -166,11 +175,11 @@ pub fn rule_items(alloc: Global, drafts: Vec<Draft>) -> Result<Vec<Item>, AllocE
 }
 
 /// What the only command adds. Commands that remove or list are a fault.
-fn added_of(alloc: Global, command: Option<AclCommand>) -> Result<Vec<Item>, LineError>
-    ensures { GivesSeen (λ items. items.items) result (added_of command) }
+fn added_of(command: Option<AclCommand>) -> Result<Vec<Draft>, LineError>
+    ensures { GivesSeen (λ drafts. drafts.items) result (added_of command) }
 {
     match command {
-        Some(AclCommand::Create(drafts)) => Ok(rule_items(alloc, drafts.into_vec())?),
+        Some(AclCommand::Create(drafts)) => Ok(drafts.into_vec()),
         other => {
             drop(other);
             Err(LineError::Fault(FaultKind::BadLine))
@@ -214,11 +223,116 @@ fn commands_by(alloc: Global, args: &CliArgs) -> Result<Vec<AclCommand>, LineErr
     }
 }
 
+fn drafts_from(alloc: Global, args: &CliArgs) -> Result<Vec<Draft>, LineError>
+    ensures { GivesSeen (λ drafts. drafts.items) result (drafts_from args.now) }
+{
+    let commands = commands_by(alloc, args)?;
+    added_of(only_command(commands))
+}
+
 fn added_from(alloc: Global, args: &CliArgs) -> Result<Vec<Item>, LineError>
     ensures { GivesSeen (λ items. items.items) result (added_from args.now) }
 {
-    let commands = commands_by(alloc, args)?;
-    added_of(alloc, only_command(commands))
+    let drafts = drafts_from(alloc, args)?;
+    Ok(rule_items(alloc, drafts)?)
+}
+
+/// The bindings whose operations are left out.
+fn left_out_from(alloc: Global, args: &mut CliArgs) -> Result<Vec<Item>, LineError>
+    ensures { GivesSeen (λ items. items.items) result
+        (left_out_from (with_other_operations args.old)) }
+{
+    args.operations = others_as_all(alloc, &args.operations)?;
+    let principal = left_out_principal(alloc)?;
+    let drafts = drafts_from(alloc, args)?;
+    Ok(left_out_rules(alloc, &principal, drafts)?)
+}
+
+/// The bindings of a product of which some operations are left out.
+fn added_on_both(alloc: Global, args: &mut CliArgs) -> Result<Vec<Item>, LineError>
+    ensures { GivesSeen (λ items. items.items) result (added_on_both args.old) }
+{
+    let own = own_operations(alloc, &args.operations)?;
+    let all = mem::replace(&mut args.operations, own);
+    let mut items = added_from(alloc, args)?;
+    args.operations = all;
+    items.append(&mut left_out_from(alloc, args)?)?;
+    Ok(items)
+}
+
+fn added_with_others(alloc: Global, args: &mut CliArgs) -> Result<Vec<Item>, LineError>
+    ensures { GivesSeen (λ items. items.items) result (added_with_others args.old) }
+{
+    if has_others_alone(args) {
+        left_out_from(alloc, args)
+    } else {
+        added_on_both(alloc, args)
+    }
+}
+
+/// What options add, with single bindings left out for operations that are.
+fn added_by_operations(alloc: Global, args: &mut CliArgs) -> Result<Vec<Item>, LineError>
+    ensures { GivesSeen (λ items. items.items) result (added_by_operations args.old) }
+{
+    if has_other_operation(args) {
+        added_with_others(alloc, args)
+    } else {
+        added_from(alloc, args)
+    }
+}
+
+fn has_producer_ids(args: &CliArgs) -> bool
+    ensures { result ≡ has_producer_ids args.now }
+{
+    args.producer && !args.transactional_ids.as_slice().is_empty()
+}
+
+/// `Write` and `Describe`.
+fn on_ids(alloc: Global) -> Result<Items<Text>, AllocError>
+    ensures { IfOk result (λ made. made ≡ codes "Write" ∷ codes "Describe" ∷ []) }
+{
+    let mut made = Vec::new(alloc);
+    made.push(Text::copied(alloc, "Write")?)?;
+    made.push(Text::copied(alloc, "Describe")?)?;
+    Ok(Items::from_vec(made))
+}
+
+/// Leaves the transactional ids alone.
+fn leave_ids(alloc: Global, args: &mut CliArgs) -> Result<(), AllocError>
+    ensures { OnOk result (args.new ≡ ids_alone args.old) }
+{
+    args.operations = on_ids(alloc)?;
+    args.topics = Items::from_vec(Vec::new(alloc));
+    args.groups = Items::from_vec(Vec::new(alloc));
+    args.producer = false;
+    args.consumer = false;
+    args.idempotent = false;
+    Ok(())
+}
+
+/// What a producer needs, and then what it needs for its transactional ids.
+fn added_for_ids(alloc: Global, args: &mut CliArgs) -> Result<Vec<Item>, LineError>
+    ensures { GivesSeen (λ items. items.items) result
+        (then_added (added_from (without_ids args.old)) (added_from (ids_alone args.old))) }
+{
+    let none = Items::from_vec(Vec::new(alloc));
+    let ids = mem::replace(&mut args.transactional_ids, none);
+    let mut items = added_from(alloc, args)?;
+    args.transactional_ids = ids;
+    leave_ids(alloc, args)?;
+    items.append(&mut added_from(alloc, args)?)?;
+    Ok(items)
+}
+
+/// What options add, for a producer with transactional ids as by two lines.
+fn added_in_parts(alloc: Global, args: &mut CliArgs) -> Result<Vec<Item>, LineError>
+    ensures { GivesSeen (λ items. items.items) result (added_in_parts args.old) }
+{
+    if has_producer_ids(args) {
+        added_for_ids(alloc, args)
+    } else {
+        added_by_operations(alloc, args)
+    }
 }
 
 fn added_by(alloc: Global, answer: &mut Option<CliArgs>) -> Result<Vec<Item>, LineError>
@@ -228,7 +342,7 @@ fn added_by(alloc: Global, answer: &mut Option<CliArgs>) -> Result<Vec<Item>, Li
         None => Err(LineError::Fault(FaultKind::Usage)),
         Some(args) => {
             hold_principals(alloc, args)?;
-            added_from(alloc, args)
+            added_in_parts(alloc, args)
         }
     }
 }

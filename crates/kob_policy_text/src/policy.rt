@@ -1,27 +1,21 @@
-//! The policy that files make.
+//! A policy, and what lines add to it.
 
-ghost use Rattle.std.specs.Prelude.{◌≡◌, ◌<◌, IfOk, OnOk, codes, is_none, length};
-ghost use Rattle.kob_policy_text.specs.Outcomes.{MayGive};
-ghost use Rattle.kob_policy_text.specs.Policy.{FileMakes, IsRead, LineMakes, at_file, binding_of};
-ghost use Rattle.kob_policy_text.specs.Policy.{unmarked, with_skipped};
+ghost use Rattle.std.specs.Prelude.{◌≡◌, IfOk, OnOk, is_none};
 ghost use Rattle.kob_policy_text.specs.Lines.{has_heading};
-ghost use Rattle.kob_policy_text.specs.Policy.{closing_of, draft_under, empty_policy, fault_at};
-ghost use Rattle.kob_policy_text.specs.Policy.{has_bad_heading, has_bad_name, with_binding};
-ghost use Rattle.kob_policy_text.specs.Policy.{with_closing, with_draft, with_draft_left_out};
-ghost use Rattle.kob_policy_text.specs.Policy.{with_grant, with_heading, with_item, with_items};
-ghost use Rattle.kob_policy_text.specs.Policy.{with_omission};
-ghost use Rattle.kob_script.specs.Words.{Gives, GivesSeen};
+ghost use Rattle.kob_policy_text.specs.Policy.{at_file, empty_policy, with_binding, with_closing};
+ghost use Rattle.kob_policy_text.specs.Policy.{with_draft, with_draft_left_out, with_grant};
+ghost use Rattle.kob_policy_text.specs.Policy.{with_heading, with_item, with_omission, with_skipped};
+ghost use Rattle.kob_script.specs.Words.{GivesSeen};
 
+use crate::drafts::{binding_of, closing_of, draft_under, has_bad_heading};
 use crate::item::{Grant, Item, LeftOut, Target};
-use crate::lines::{is_heading_line, items_of};
+use crate::lines::is_heading_line;
 use crate::origin::{Omission, Origin};
+use crate::release::Release;
 use crate::users::left_out_of;
 use bstr::ByteSlice;
-use kob_names::{
-    Binding, BindingFault, Draft, Host, HostFault, Items, Operation, Permission, PlainValue,
-    Principal, PrincipalFault, ResourceKind, Text,
-};
-use kob_script::{Fault, FaultKind, LineError, ScriptError};
+use kob_names::{Binding, Draft, Permission, PlainValue, Principal, Text};
+use kob_script::{FaultKind, LineError};
 use std::alloc::{AllocError, Global};
 use std::marker::Model;
 
@@ -32,6 +26,7 @@ use std::marker::Model;
 pub struct Policy {
     supers: Vec<Principal>,
     everyone: bool,
+    release: Release,
     bindings: Vec<Binding>,
     origins: Vec<Origin>,
     closings: Vec<Binding>,
@@ -49,6 +44,7 @@ impl Model for Policy {
     ghost view = { λ policy. record {
       supers = policy.supers.items;
       everyone = policy.everyone;
+      release = policy.release;
       bindings = policy.bindings.items;
       origins = policy.origins.items;
       closings = policy.closings.items;
@@ -79,6 +75,7 @@ impl Policy {
         Policy {
             supers: Vec::new(alloc),
             everyone: false,
+            release: Release::Since28,
             bindings: Vec::new(alloc),
             origins: Vec::new(alloc),
             closings: Vec::new(alloc),
@@ -101,6 +98,13 @@ impl Policy {
         ensures { result ≡ self.now.everyone }
     {
         self.everyone
+    }
+
+    /// The release of the brokers, that of the last `kafka VERSION`.
+    pub fn release(&self) -> Release
+        ensures { result ≡ self.now.release }
+    {
+        self.release
     }
 
     /// The bindings, in the order in which they are read.
@@ -140,14 +144,14 @@ impl Policy {
     }
 
     /// Whether no heading of the file was read yet.
-    fn is_above(&self) -> bool
+    pub(crate) fn is_above(&self) -> bool
         ensures { result ≡ is_none self.now.heading }
     {
         self.heading.is_none()
     }
 
     /// Whether the file has a heading.
-    fn has_list(&self) -> bool
+    pub(crate) fn has_list(&self) -> bool
         ensures { result ≡ self.now.has_list }
     {
         self.has_list
@@ -266,7 +270,12 @@ impl Policy {
     }
 
     #[tactic(auto, unfolding(crate::specs::Policy::with_item))]
-    fn add_item(&mut self, alloc: Global, origin: &Origin, item: Item) -> Result<(), LineError>
+    pub(crate) fn add_item(
+        &mut self,
+        alloc: Global,
+        origin: &Origin,
+        item: Item,
+    ) -> Result<(), LineError>
         ensures { GivesSeen (λ _. self.new) result (with_item self.old origin.now item) }
     {
         match item {
@@ -276,6 +285,10 @@ impl Policy {
             }
             Item::Everyone(everyone) => {
                 self.everyone = everyone;
+                Ok(())
+            }
+            Item::Brokers(release) => {
+                self.release = release;
                 Ok(())
             }
             Item::Rule(draft) => {
@@ -291,62 +304,11 @@ impl Policy {
     }
 
     /// No heading is above the first line of a file.
-    fn begin_file(&mut self, text: &[u8])
+    pub(crate) fn begin_file(&mut self, text: &[u8])
         ensures { self.new ≡ at_file text.now self.old }
     {
         self.has_list = has_heading(text);
         self.heading = None;
-    }
-}
-
-/// Reads a file after those that were read before. A byte order mark of UTF-8 is skipped. Lines end with a line feed, before which one
-/// carriage return is dropped. The error is the first line with a fault, or out of memory; the
-/// policy then holds what the lines before it say, and maybe a part of that line. `BadName` is a
-/// pattern's name that no binding may have, `NoResource` a listed binding without a heading.
-pub fn read_file(
-    alloc: Global,
-    policy: &mut Policy,
-    file: &Text,
-    text: &[u8],
-) -> Result<(), ScriptError>
-    ensures { IsRead result policy.new (FileMakes file.now text.now policy.old) }
-{
-    let text = unmarked(text);
-    policy.begin_file(text);
-    let mut number: u64 = 0;
-    for line in text.lines() {
-        number += 1;
-        match add_line(alloc, policy, file, number, line) {
-            Ok(()) => {}
-            Err(error) => return Err(fault_at(error, number)),
-        }
-    }
-    Ok(())
-}
-
-#[tactic(auto, unfolding(crate::specs::Policy::LineMakes))]
-fn add_line(
-    alloc: Global,
-    policy: &mut Policy,
-    file: &Text,
-    line: u64,
-    text: &[u8],
-) -> Result<(), LineError>
-    ensures { MayGive (λ _. policy.new) result (LineMakes file.now policy.old line text.now) }
-{
-    let items = items_of(alloc, policy.is_above(), policy.has_list(), text)?;
-    let file = file.copy(alloc)?;
-    add_items(alloc, policy, &Origin { file, line }, items)
-}
-
-/// The text without the byte order mark of UTF-8.
-fn unmarked(text: &[u8]) -> &[u8]
-    ensures { result.now ≡ unmarked text.entry.now }
-{
-    if text.starts_with(&[0xef, 0xbb, 0xbf]) {
-        &text[3..]
-    } else {
-        text
     }
 }
 
@@ -360,113 +322,4 @@ fn has_heading(text: &[u8]) -> bool
         }
     }
     false
-}
-
-fn add_items(
-    alloc: Global,
-    policy: &mut Policy,
-    origin: &Origin,
-    items: Vec<Item>,
-) -> Result<(), LineError>
-    ensures { GivesSeen (λ _. policy.new) result (with_items policy.old origin.now items.items) }
-{
-    for item in items {
-        policy.add_item(alloc, origin, item)?;
-    }
-    Ok(())
-}
-
-/// The binding. The fault is `BadName`.
-fn binding_of(alloc: Global, draft: &Draft) -> Result<Binding, LineError>
-    ensures { Gives result (binding_of draft.now) }
-{
-    match Binding::new(alloc, draft) {
-        Ok(binding) => Ok(binding),
-        Err(BindingFault::Memory(refused)) => Err(LineError::Memory(refused)),
-        Err(_) => Err(LineError::Fault(FaultKind::BadName)),
-    }
-}
-
-/// A binding that covers nobody, on the pattern of another.
-fn closing_of(alloc: Global, draft: &Draft) -> Result<Draft, AllocError>
-    ensures { IfOk result (λ made. made ≡ closing_of draft.now) }
-{
-    let principal = nobody(alloc)?;
-    let host = nowhere(alloc)?;
-    let pattern = draft.pattern.copy(alloc)?;
-    Ok(Draft {
-        permission: Permission::Deny,
-        principal,
-        host,
-        operation: Operation::ClusterAction,
-        resource: draft.resource,
-        pattern,
-    })
-}
-
-fn nobody(alloc: Global) -> Result<Principal, AllocError>
-    ensures { IfOk result (λ made. made ≡ codes "User:(left out)") }
-{
-    match Principal::parse(alloc, "User:(left out)") {
-        Ok(principal) => Ok(principal),
-        Err(PrincipalFault::Memory(refused)) => Err(refused),
-        Err(_) => unreachable!(),
-    }
-}
-
-fn nowhere(alloc: Global) -> Result<Host, AllocError>
-    ensures { IfOk result (λ made. made ≡ codes "(left out)") }
-{
-    match Host::parse(alloc, "(left out)") {
-        Ok(host) => Ok(host),
-        Err(HostFault::Memory(refused)) => Err(refused),
-        Err(_) => unreachable!(),
-    }
-}
-
-fn has_bad_name(target: &Target) -> bool
-    ensures { result ≡ has_bad_name target.now }
-{
-    let name = target.pattern.name.as_str();
-    name.is_empty()
-        || target.resource == ResourceKind::Cluster && name != "kafka-cluster"
-        || name.len() > 255
-}
-
-fn has_bad_heading(target: &Option<Target>) -> bool
-    ensures { result ≡ has_bad_heading target.now }
-{
-    match target {
-        None => false,
-        Some(target) => has_bad_name(target),
-    }
-}
-
-fn draft_under(alloc: Global, target: &Target, grant: Grant) -> Result<Draft, AllocError>
-    ensures { IfOk result (λ draft. draft ≡ draft_under target.now grant) }
-{
-    let pattern = match target.pattern.copy(alloc) {
-        Ok(pattern) => pattern,
-        Err(refused) => {
-            drop(grant);
-            return Err(refused);
-        }
-    };
-    Ok(Draft {
-        permission: grant.permission,
-        principal: grant.principal,
-        host: grant.host,
-        operation: grant.operation,
-        resource: target.resource,
-        pattern,
-    })
-}
-
-pub fn fault_at(error: LineError, line: u64) -> ScriptError
-    ensures { result ≡ fault_at line error }
-{
-    match error {
-        LineError::Memory(refused) => ScriptError::Memory(refused),
-        LineError::Fault(kind) => ScriptError::Fault(Fault { line, kind }),
-    }
 }

@@ -138,6 +138,7 @@ pub fn push_line_by(out: &mut Vec<u8>, judge: &Judge, serial: u64) -> Result<(),
 pub fn push_may(out: &mut Vec<u8>, judge: &Judge, verdict: Verdict) -> Result<(), AllocError>
     ensures { OnOk result (out.new.items ≡ out.old.items ++ may_text judge.now verdict) }
 {
+    out.extend_from_slice(b"  ")?;
     push_answer(out, verdict)?;
     out.extend_from_slice(b"\n")?;
     match deciding(verdict) {

@@ -6,11 +6,12 @@ ghost use Rattle.kob_policy_text.specs.Questions.{topic_words, with_line, with_l
 ghost use Rattle.kob_policy_text.specs.Questions.{with_questions, with_topics, with_words};
 ghost use Rattle.kob_script.specs.Words.{GivesSeen};
 
-use crate::policy::fault_at;
+use crate::pieces::trimmed;
 use crate::question_words::{is_word, question_by};
+use crate::reading::fault_at;
 use bstr::ByteSlice;
-use kob_names::{Host, Operation, Principal, ResourceKind, Text};
-use kob_rights::Event;
+use kob_names::{Bytes, Host, Operation, Principal, ResourceKind, Text};
+use kob_rights::Request;
 use kob_script::{FaultKind, LineError, ScriptError, Word, text_of, words_of};
 use std::alloc::Global;
 use std::marker::Model;
@@ -30,28 +31,61 @@ pub struct Right {
     pub name: Text,
 }
 
+/// What is done, by the rights that it needs.
+#[derive(Drop)]
+pub enum Act {
+    /// An operation on a resource.
+    Right(Right),
+    /// A request, with the rights of its row of the operation table.
+    Request(Request),
+    /// An idempotent producer writes to a topic.
+    Idempotent(Text),
+    /// A producer writes to a topic in transactions of an id, the second text.
+    Transactional(Text, Text),
+}
+
+/// What a principal asks to do from a host.
+#[derive(Drop)]
+pub struct Access {
+    pub asker: Asker,
+    pub act: Act,
+}
+
 /// A question.
 #[derive(Drop)]
 pub enum Question {
-    /// May this principal do this?
-    May(Asker, Right),
-    /// Is this request granted, by its row of the operation table?
-    Ask(Event),
+    /// Is this granted?
+    May(Access),
+    /// Is the answer to this yes, or no, as it is expected to be?
+    Expect(bool, Access),
     /// Who may do this, from this host, or from one that no binding names?
     Who(Right, Option<Host>),
+    /// Who may read this topic, and who may read as this group?
+    WhoConsumes(Right, Right),
     /// Which topics may this principal describe?
     Sees(Asker),
+    /// How many are there of what the policy has?
+    Summary,
     /// Which bindings does no other need?
     Unused,
     /// Which allows does a deny always beat?
     Shadowed,
+    /// Which bindings may be deleted together?
+    Removable,
+}
+
+/// A question beside its text, which has no white space at its ends.
+#[derive(Drop)]
+pub struct Query {
+    pub text: Bytes,
+    pub question: Question,
 }
 
 /// The given names of topics, and the questions in order.
 #[derive(Drop)]
 pub struct Questions {
     topics: Vec<Text>,
-    asked: Vec<Question>,
+    asked: Vec<Query>,
 }
 
 impl Model for Questions {
@@ -85,7 +119,7 @@ impl Questions {
     }
 
     /// The questions, in their order.
-    pub fn asked(&self) -> &[Question]
+    pub fn asked(&self) -> &[Query]
         ensures { result.now ≡ self.now.asked }
     {
         self.asked.as_slice()
@@ -106,12 +140,16 @@ impl Questions {
     fn add_question(
         &mut self,
         alloc: Global,
+        line: &[u8],
         first: &Word<'_>,
         words: &[Word<'_>],
     ) -> Result<(), LineError>
-        ensures { GivesSeen (λ _. self.new) result (with_question self.old first.now words.now) }
+        ensures { GivesSeen (λ _. self.new) result
+            (with_question line.now self.old first.now words.now) }
     {
-        self.asked.push(question_by(alloc, first, words)?)?;
+        let question = question_by(alloc, first, words)?;
+        let text = Bytes::copied(alloc, trimmed(line))?;
+        self.asked.push(Query { text, question })?;
         Ok(())
     }
 }
@@ -119,11 +157,12 @@ impl Questions {
 fn add_words(
     alloc: Global,
     questions: &mut Questions,
+    line: &[u8],
     words: &[Word<'_>],
     are_names: bool,
 ) -> Result<(), LineError>
     ensures { GivesSeen (λ _. questions.new) result
-        (with_words are_names questions.old words.now) }
+        (with_words are_names line.now questions.old words.now) }
 {
     match words {
         [] => Ok(()),
@@ -131,7 +170,7 @@ fn add_words(
         [first, arguments @ ..] if is_word(first, b"topic") => {
             questions.add_topic(alloc, arguments)
         }
-        [first, arguments @ ..] => questions.add_question(alloc, first, arguments),
+        [first, arguments @ ..] => questions.add_question(alloc, line, first, arguments),
     }
 }
 
@@ -146,7 +185,7 @@ fn add_line(
         (with_line are_names questions.old line.now) }
 {
     let words = words_of(alloc, line)?;
-    add_words(alloc, questions, &words, are_names)
+    add_words(alloc, questions, line, &words, are_names)
 }
 
 /// Reads lines of names or of questions.
@@ -170,9 +209,9 @@ fn read_lines(
     Ok(())
 }
 
-/// Reads questions, a line each, after those that were read before: `may`, `who`, `sees`, `unused`
-/// and `shadowed`, and `topic` with a name that is given. The error is the first line with a fault,
-/// or out of memory.
+/// Reads questions, a line each, after those that were read before: `may`, `expect`, `who`, `sees`,
+/// `summary`, `unused`, `shadowed` and `removable`, and `topic` with a name that is given. The error is
+/// the first line with a fault, or out of memory.
 pub fn read_questions(
     alloc: Global,
     questions: &mut Questions,

@@ -1,22 +1,23 @@
 //! What the words of a question ask.
 
-ghost use Rattle.std.specs.Prelude.{◌≡◌};
-ghost use Rattle.kob_policy_text.specs.Questions.{alone, asker_of, asks, first_of_producer, host_in};
+ghost use Rattle.std.specs.Prelude.{◌≡◌, IfOk};
+ghost use Rattle.kob_policy_text.specs.Questions.{access_of, alone, asker_of, expect_words, expected_by};
+ghost use Rattle.kob_policy_text.specs.Questions.{expects, full_name, host_in, may_repeat, may_six, may_transact};
 ghost use Rattle.kob_policy_text.specs.Questions.{is_word, may_by, may_consume, may_produce, may_request};
 ghost use Rattle.kob_policy_text.specs.Questions.{may_right, may_words, produces, question_by};
-ghost use Rattle.kob_policy_text.specs.Questions.{right_of, sees_words, who_words};
+ghost use Rattle.kob_policy_text.specs.Questions.{right_of, sees_words};
 ghost use Rattle.kob_script.specs.Words.{Gives};
 
 use crate::lines::only_event;
-use crate::listing::known;
-use crate::question::{Asker, Question, Right};
-use kob_names::{Batch, Host, Idem, Items, Text};
+use crate::listing::{known, known_operation, known_resource};
+use crate::question::{Access, Act, Asker, Question, Right};
+use crate::who_words::who_words;
+use kob_names::{Batch, Host, Items, ResourceKind, Text};
 use kob_rights::{Event, OffsetCommit, Produce, Request};
 use kob_script::{
     FaultKind, LineError, Word, events_of, host_of, lent_text_of, principal_of, text_of,
 };
-use kob_words::{operation_named, resource_named};
-use std::alloc::Global;
+use std::alloc::{AllocError, Global};
 
 /// Whether the word is a text.
 pub fn is_word(word: &Word<'_>, text: &[u8]) -> bool
@@ -26,7 +27,7 @@ pub fn is_word(word: &Word<'_>, text: &[u8]) -> bool
 }
 
 #[tactic(auto, unfolding(crate::specs::Questions::host_in))]
-fn host_in(alloc: Global, word: &Word<'_>) -> Result<Host, LineError>
+pub fn host_in(alloc: Global, word: &Word<'_>) -> Result<Host, LineError>
     ensures { Gives result (host_in word.now) }
 {
     host_of(alloc, lent_text_of(word)?)
@@ -42,8 +43,19 @@ fn asker_of(alloc: Global, principal: &Word<'_>, host: &Word<'_>) -> Result<Aske
     Ok(Asker { principal, host })
 }
 
+/// The name, which for the cluster may be `cluster`.
+fn full_name(alloc: Global, resource: ResourceKind, name: Text) -> Result<Text, AllocError>
+    ensures { IfOk result (λ made. made ≡ full_name resource name) }
+{
+    if resource == ResourceKind::Cluster && name.as_str() == "cluster" {
+        drop(name);
+        return Text::copied(alloc, "kafka-cluster");
+    }
+    Ok(name)
+}
+
 #[tactic(auto, unfolding(crate::specs::Questions::right_of))]
-fn right_of(
+pub fn right_of(
     alloc: Global,
     operation: &Word<'_>,
     resource: &Word<'_>,
@@ -51,9 +63,9 @@ fn right_of(
 ) -> Result<Right, LineError>
     ensures { Gives result (right_of operation.now resource.now name.now) }
 {
-    let operation = known(operation_named(operation.decoded()))?;
-    let resource = known(resource_named(resource.decoded()))?;
-    let name = text_of(alloc, name)?;
+    let operation = known(known_operation(operation.decoded()))?;
+    let resource = known(known_resource(resource.decoded()))?;
+    let name = full_name(alloc, resource, text_of(alloc, name)?)?;
     Ok(Right {
         operation,
         resource,
@@ -69,60 +81,81 @@ fn may_right(
     operation: &Word<'_>,
     resource: &Word<'_>,
     name: &Word<'_>,
-) -> Result<Question, LineError>
+) -> Result<Access, LineError>
     ensures { Gives result (may_right principal.now host.now operation.now resource.now name.now) }
 {
     let asker = asker_of(alloc, principal, host)?;
     let right = right_of(alloc, operation, resource, name)?;
-    Ok(Question::May(asker, right))
-}
-
-fn asks(asker: Asker, request: Request) -> Question
-    ensures { result ≡ asks asker request }
-{
-    Question::Ask(Event {
-        principal: asker.principal,
-        host: asker.host,
-        request,
+    Ok(Access {
+        asker,
+        act: Act::Right(right),
     })
 }
 
-fn produces(alloc: Global, idem: Option<Idem>, topic: Text) -> Request
-    ensures { result ≡ produces idem topic }
+fn produces(alloc: Global, topic: Text) -> Act
+    ensures { result ≡ produces topic }
 {
-    Request::Produce(Produce {
+    Act::Request(Request::Produce(Produce {
         topic,
         partition: 0,
         batch: Batch {
-            idem,
+            idem: None,
             records: Items::from_vec(Vec::new(alloc)),
         },
-    })
-}
-
-fn first_of_producer() -> Option<Idem>
-    ensures { result ≡ first_of_producer }
-{
-    Some(Idem {
-        id: 0,
-        epoch: 0,
-        base: 0,
-    })
+    }))
 }
 
 #[tactic(auto, unfolding(crate::specs::Questions::may_produce))]
 fn may_produce(
     alloc: Global,
-    idem: Option<Idem>,
     principal: &Word<'_>,
     host: &Word<'_>,
     topic: &Word<'_>,
-) -> Result<Question, LineError>
-    ensures { Gives result (may_produce idem principal.now host.now topic.now) }
+) -> Result<Access, LineError>
+    ensures { Gives result (may_produce principal.now host.now topic.now) }
 {
     let asker = asker_of(alloc, principal, host)?;
     let name = text_of(alloc, topic)?;
-    Ok(asks(asker, produces(alloc, idem, name)))
+    Ok(Access {
+        asker,
+        act: produces(alloc, name),
+    })
+}
+
+#[tactic(auto, unfolding(crate::specs::Questions::may_repeat))]
+fn may_repeat(
+    alloc: Global,
+    principal: &Word<'_>,
+    host: &Word<'_>,
+    topic: &Word<'_>,
+) -> Result<Access, LineError>
+    ensures { Gives result (may_repeat principal.now host.now topic.now) }
+{
+    let asker = asker_of(alloc, principal, host)?;
+    let name = text_of(alloc, topic)?;
+    Ok(Access {
+        asker,
+        act: Act::Idempotent(name),
+    })
+}
+
+#[tactic(auto, unfolding(crate::specs::Questions::may_transact))]
+fn may_transact(
+    alloc: Global,
+    principal: &Word<'_>,
+    host: &Word<'_>,
+    topic: &Word<'_>,
+    id: &Word<'_>,
+) -> Result<Access, LineError>
+    ensures { Gives result (may_transact principal.now host.now topic.now id.now) }
+{
+    let asker = asker_of(alloc, principal, host)?;
+    let name = text_of(alloc, topic)?;
+    let transaction = text_of(alloc, id)?;
+    Ok(Access {
+        asker,
+        act: Act::Transactional(name, transaction),
+    })
 }
 
 #[tactic(auto, unfolding(crate::specs::Questions::may_consume))]
@@ -132,31 +165,43 @@ fn may_consume(
     host: &Word<'_>,
     topic: &Word<'_>,
     group: &Word<'_>,
-) -> Result<Question, LineError>
+) -> Result<Access, LineError>
     ensures { Gives result (may_consume principal.now host.now topic.now group.now) }
 {
     let asker = asker_of(alloc, principal, host)?;
     let topic = text_of(alloc, topic)?;
     let group = text_of(alloc, group)?;
-    Ok(asks(
+    Ok(Access {
         asker,
-        Request::OffsetCommit(OffsetCommit {
+        act: Act::Request(Request::OffsetCommit(OffsetCommit {
             group,
             topic,
             partition: 0,
             offset: 0,
-        }),
-    ))
+        })),
+    })
+}
+
+fn access_of(event: Event) -> Access
+    ensures { result ≡ access_of event }
+{
+    Access {
+        asker: Asker {
+            principal: event.principal,
+            host: event.host,
+        },
+        act: Act::Request(event.request),
+    }
 }
 
 /// A request as a script has it; `acl` is not one.
 #[tactic(auto, unfolding(crate::specs::Questions::may_request))]
-fn may_request(alloc: Global, words: &[Word<'_>]) -> Result<Question, LineError>
+fn may_request(alloc: Global, words: &[Word<'_>]) -> Result<Access, LineError>
     ensures { Gives result (may_request words.now) }
 {
     let asked = events_of(alloc, words, &None)?;
     match only_event(asked) {
-        Some(event) => Ok(Question::Ask(event)),
+        Some(event) => Ok(access_of(event)),
         None => Err(LineError::Fault(FaultKind::BadLine)),
     }
 }
@@ -170,49 +215,88 @@ fn may_by(
     command: &Word<'_>,
     one: &Word<'_>,
     other: &Word<'_>,
-) -> Result<Question, LineError>
+) -> Result<Access, LineError>
     ensures { Gives result
         (may_by words.now principal.now host.now command.now one.now other.now) }
 {
-    if operation_named(command.decoded()).is_some() {
+    if known_operation(command.decoded()).is_some() {
         may_right(alloc, principal, host, command, one, other)
     } else if is_word(command, b"consume") {
         may_consume(alloc, principal, host, one, other)
     } else if !is_word(command, b"produce") {
         may_request(alloc, words)
     } else if is_word(other, b"idempotent") {
-        may_produce(alloc, first_of_producer(), principal, host, one)
+        may_repeat(alloc, principal, host, one)
     } else {
         Err(LineError::Fault(FaultKind::BadLine))
     }
 }
 
-fn may_words(alloc: Global, words: &[Word<'_>]) -> Result<Question, LineError>
+#[tactic(auto, unfolding(crate::specs::Questions::may_six))]
+fn may_six(
+    alloc: Global,
+    words: &[Word<'_>],
+    principal: &Word<'_>,
+    host: &Word<'_>,
+    command: &Word<'_>,
+    topic: &Word<'_>,
+    how: &Word<'_>,
+    id: &Word<'_>,
+) -> Result<Access, LineError>
+    ensures { Gives result
+        (may_six words.now principal.now host.now command.now topic.now how.now id.now) }
+{
+    if is_word(command, b"produce") && is_word(how, b"transactional") {
+        may_transact(alloc, principal, host, topic, id)
+    } else {
+        may_request(alloc, words)
+    }
+}
+
+fn may_words(alloc: Global, words: &[Word<'_>]) -> Result<Access, LineError>
     ensures { Gives result (may_words words.now) }
 {
     match words {
         [principal, host, command, topic] if is_word(command, b"produce") => {
-            may_produce(alloc, None, principal, host, topic)
+            may_produce(alloc, principal, host, topic)
         }
         [principal, host, command, one, other] => {
             may_by(alloc, words, principal, host, command, one, other)
+        }
+        [principal, host, command, topic, how, id] => {
+            may_six(alloc, words, principal, host, command, topic, how, id)
         }
         _ => may_request(alloc, words),
     }
 }
 
-fn who_words(alloc: Global, words: &[Word<'_>]) -> Result<Question, LineError>
-    ensures { Gives result (who_words words.now) }
+/// `yes` or `no`
+fn expected_by(word: &Word<'_>) -> Result<bool, LineError>
+    ensures { Gives result (expected_by word.now) }
+{
+    if is_word(word, b"yes") {
+        Ok(true)
+    } else if is_word(word, b"no") {
+        Ok(false)
+    } else {
+        Err(LineError::Fault(FaultKind::BadWord))
+    }
+}
+
+#[tactic(auto, unfolding(crate::specs::Questions::expects))]
+fn expects(alloc: Global, answer: &Word<'_>, words: &[Word<'_>]) -> Result<Question, LineError>
+    ensures { Gives result (expects answer.now words.now) }
+{
+    let expected = expected_by(answer)?;
+    let asked = may_words(alloc, words)?;
+    Ok(Question::Expect(expected, asked))
+}
+
+fn expect_words(alloc: Global, words: &[Word<'_>]) -> Result<Question, LineError>
+    ensures { Gives result (expect_words words.now) }
 {
     match words {
-        [operation, resource, name] => {
-            Ok(Question::Who(right_of(alloc, operation, resource, name)?, None))
-        }
-        [operation, resource, name, host] => {
-            let right = right_of(alloc, operation, resource, name)?;
-            let host = host_in(alloc, host)?;
-            Ok(Question::Who(right, Some(host)))
-        }
+        [answer, may, arguments @ ..] if is_word(may, b"may") => expects(alloc, answer, arguments),
         _ => Err(LineError::Fault(FaultKind::BadLine)),
     }
 }
@@ -248,15 +332,21 @@ pub fn question_by(
     ensures { Gives result (question_by first.now words.now) }
 {
     if is_word(first, b"may") {
-        may_words(alloc, words)
+        Ok(Question::May(may_words(alloc, words)?))
+    } else if is_word(first, b"expect") {
+        expect_words(alloc, words)
     } else if is_word(first, b"who") {
         who_words(alloc, words)
     } else if is_word(first, b"sees") {
         sees_words(alloc, words)
+    } else if is_word(first, b"summary") {
+        alone(Question::Summary, words)
     } else if is_word(first, b"unused") {
         alone(Question::Unused, words)
     } else if is_word(first, b"shadowed") {
         alone(Question::Shadowed, words)
+    } else if is_word(first, b"removable") {
+        alone(Question::Removable, words)
     } else {
         Err(LineError::Fault(FaultKind::BadLine))
     }

@@ -32,6 +32,5 @@ pub fn push_shadowed(alloc: Global, out: &mut Vec<u8>, judge: &Judge) -> Result<
     ensures { OnOk result (out.new.items ≡ out.old.items ++ shadowed_text judge.now) }
 {
     let found = shadowed(alloc, judge.authorizer())?;
-    out.extend_from_slice(b"shadowed\n")?;
     push_each(out, judge, &found)
 }

@@ -61,6 +61,5 @@ pub fn push_unused(alloc: Global, out: &mut Vec<u8>, judge: &Judge) -> Result<()
     ensures { OnOk result (out.new.items ≡ out.old.items ++ unused_text judge.now) }
 {
     let found = unused(alloc, judge.authorizer())?;
-    out.extend_from_slice(b"unused\n")?;
     push_each(out, judge, &found)
 }

@@ -4,19 +4,20 @@ ghost use Rattle.std.specs.Prelude.{◌≡◌, ◌++◌, IfOk, OnOk, codes, flat
 ghost use Rattle.kob_words.specs.Words.{bytes_text};
 ghost use Rattle.kob_policy_review.specs.Difference.{names_all};
 ghost use Rattle.kob_policy_text.specs.Answers.{from_text, is_seen, seen_text, sees_text};
-ghost use Rattle.kob_policy_text.specs.Answers.{topic_text, who_line};
+ghost use Rattle.kob_policy_text.specs.Answers.{topic_text, topics_asked, who_line};
 ghost use Rattle.kob_policy_text.specs.Review.{grant_if_told, grant_line, granted_text, is_told};
 ghost use Rattle.kob_policy_text.specs.Review.{super_grant, target_at, who_text};
+ghost use Rattle.kob_policy_text.specs.Review.{consumers_text, grants_text, right_line};
 
 use crate::asked::Asked;
-use crate::at_hand::{each_once, principals_at_hand};
+use crate::at_hand::{each_once, principals_at_hand, topics_named};
 use crate::changes::push_party;
 use crate::judge::Judge;
 use crate::printed::push_reason;
 use crate::question::{Asker, Right};
 use kob_names::{Host, Operation, PlainValue, Principal, ResourceKind, Text};
 use kob_policy_review::{Answer, Names, Target, who};
-use kob_words::push_bytes;
+use kob_words::{operation_name, push_bytes, resource_name};
 use std::alloc::{AllocError, Global};
 
 #[tactic(auto, using(kob_words::proofs::Appending::appending), unfolding(crate::specs::Answers::who_line))]
@@ -180,11 +181,52 @@ pub fn push_who(
     ensures { OnOk result
         (out.new.items ≡ out.old.items ++ who_text judge.now right.now host.now) }
 {
-    out.extend_from_slice(b"who\n")?;
     match host {
         Some(host) => push_from(alloc, out, judge, right, host),
         None => push_granted(alloc, out, judge, right),
     }
+}
+
+#[tactic(auto, using(kob_words::proofs::Appending::appending), unfolding(crate::specs::Review::right_line))]
+fn push_right_line(out: &mut Vec<u8>, right: &Right) -> Result<(), AllocError>
+    ensures { OnOk result (out.new.items ≡ out.old.items ++ right_line right.now) }
+{
+    out.extend_from_slice(b"  ")?;
+    out.extend_from_slice(operation_name(right.operation).as_bytes())?;
+    out.extend_from_slice(b" ")?;
+    out.extend_from_slice(resource_name(right.resource).as_bytes())?;
+    out.extend_from_slice(b" ")?;
+    push_bytes(out, right.name.as_str().as_bytes())?;
+    out.extend_from_slice(b"\n")
+}
+
+#[tactic(auto, using(kob_words::proofs::Appending::appending))]
+fn push_grants_of(
+    alloc: Global,
+    out: &mut Vec<u8>,
+    judge: &Judge,
+    right: &Right,
+) -> Result<(), AllocError>
+    ensures { OnOk result (out.new.items ≡ out.old.items ++ grants_text judge.now right.now) }
+{
+    push_right_line(out, right)?;
+    push_granted(alloc, out, judge, right)
+}
+
+/// Prints who may read a topic, and then who may read as a group, each below the right.
+#[tactic(auto, using(kob_words::proofs::Appending::appending))]
+pub fn push_consumers(
+    alloc: Global,
+    out: &mut Vec<u8>,
+    judge: &Judge,
+    topic: &Right,
+    group: &Right,
+) -> Result<(), AllocError>
+    ensures { OnOk result
+        (out.new.items ≡ out.old.items ++ consumers_text judge.now topic.now group.now) }
+{
+    push_grants_of(alloc, out, judge, topic)?;
+    push_grants_of(alloc, out, judge, group)
 }
 
 fn is_seen(judge: &Judge, asker: &Asker, topic: &Text) -> bool
@@ -224,8 +266,29 @@ fn push_topics(
     Ok(())
 }
 
+fn push_asked(
+    alloc: Global,
+    out: &mut Vec<u8>,
+    judge: &Judge,
+    topics: &[Text],
+    asker: &Asker,
+) -> Result<(), AllocError>
+    ensures { OnOk result (out.new.items ≡ out.old.items
+        ++ flat_map (seen_text judge.now asker.now) (topics_asked judge.now topics.now)) }
+{
+    match topics {
+        [] => {
+            let named = topics_named(alloc, judge.policy().bindings())?;
+            push_topics(out, judge, asker, named.as_slice())
+        }
+        _ => push_topics(out, judge, asker, topics),
+    }
+}
+
+/// Which of the given topics an asker may describe, or of those that bindings name.
 #[tactic(auto, using(kob_words::proofs::Appending::appending))]
 pub fn push_sees(
+    alloc: Global,
     out: &mut Vec<u8>,
     judge: &Judge,
     topics: &[Text],
@@ -234,7 +297,7 @@ pub fn push_sees(
     ensures { OnOk result (out.new.items ≡ out.old.items
         ++ sees_text judge.now topics.now asker.now) }
 {
-    out.extend_from_slice(b"topics")?;
-    push_topics(out, judge, asker, topics)?;
+    out.extend_from_slice(b"  topics")?;
+    push_asked(alloc, out, judge, topics, asker)?;
     out.extend_from_slice(b"\n")
 }

@@ -1,4 +1,5 @@
 pub mod Answered
+pub mod Checked
 pub mod ConsumerRunning
 pub mod Earlier
 pub mod Kept

@@ -1,5 +1,5 @@
 -- The steps of a scene, one after another.
-use Rattle.kob_scene_play.proofs.Words.{Appends, Appends-trans, ArePlayed, Consumer, ConsumerStep, EndsAs, EndsScene, EndsSteps, Entry, Err, IfOk, IsAnswered, IsConsumerChange, IsConsumerStep, IsRead, IsReady, IsServed, IsServiceChange, IsServiceStep, IsShown, IsStep, Leaves, List, None, Ok, OnOk, Option, OthersStay, PlayFault, PlayedConsumer, PlayedService, Record, Result, Scene, Service, ServiceStep, Show, Shown, Some, Stage, Step, StopsIn, Tells, Writes, WritesSteps, [], ap, append-nil, append_assoc, arith, declared_consumer, declared_service, inl, inr, length, map, named_consumer, named_service, one_more, refl, set, show_of, slice_get, stopped_shown, subst, suc, sym, ℕ, ◌++◌, ◌+◌, ◌∙◌, ◌∷◌, ◌≡◌}
+use Rattle.kob_scene_play.proofs.Words.{Appends, Appends-trans, ArePlayed, Consumer, ConsumerStep, EndsAs, EndsScene, EndsSteps, Entry, Err, IfOk, IsAnswered, IsChecked, IsConsumerChange, IsConsumerStep, IsRead, IsReady, IsServed, IsServiceChange, IsServiceStep, IsShown, IsStep, Leaves, List, None, Ok, OnOk, Option, OthersStay, PlayFault, PlayedConsumer, PlayedService, Record, Result, Scene, Service, ServiceStep, Show, Shown, Some, Stage, Step, StopsIn, Tells, Writes, WritesSteps, [], ap, append-nil, append_assoc, arith, declared_consumer, declared_service, inl, inr, length, map, named_consumer, named_service, one_more, refl, set, show_of, slice_get, stopped_shown, subst, suc, sym, ℕ, ◌++◌, ◌+◌, ◌∙◌, ◌∷◌, ◌≡◌}
 use Rattle.kob_scene_play.proofs.Places.{put_at}
 use Rattle.kob_scene_play.specs.declared.text.Ended.TheVariants as ended
 use Rattle.kob_scene_text.specs.declared.scene.ConsumerStep.TheVariants as consumer_steps
@@ -192,6 +192,16 @@ pub law_played : {E : Type 0} (result : Result (Unit {0}) E) (service consumer :
 law_played (Ok done) service consumer old new told then_told held then_held recorded services consumers counted (text, answered, prints) =
     (text, (recorded, services, consumers, counted, answered), prints)
 law_played (Err fault) service consumer old new told then_told held then_held recorded services consumers counted answered = tt
+
+-- a question about where the events are
+pub check_played : {E : Type 0} (result : Result (Unit {0}) E) (service consumer : ℕ) (old new : Stage) (told then_told : ℕ)
+    (held then_held : List ℕ) → new.recorded ≡ old.recorded → new.services.items ≡ old.services.items
+    → new.consumers.items ≡ old.consumers.items → OnOk result (then_told ≡ one_more told)
+    → OnOk result (Tells (IsChecked service consumer old told) held then_held)
+    → OnOk result (Tells (IsStep (steps.Check service consumer) old new told then_told) held then_held)
+check_played (Ok done) service consumer old new told then_told held then_held recorded services consumers counted (text, checked, prints) =
+    (text, (recorded, services, consumers, counted, checked), prints)
+check_played (Err fault) service consumer old new told then_told held then_held recorded services consumers counted checked = tt
 
 -- the service at a place made its step
 pub served_at : {E : Type 0} (result : Result (Unit {0}) E) (which : ℕ) (step : ServiceStep) (old : List PlayedService)

@@ -22,6 +22,8 @@ pub use Rattle.kob_router.specs.Run.Move.{Recorded}
 pub use Rattle.kob_router.specs.Tick.{IsFirst, hand_of}
 pub use Rattle.kob_router.specs.declared.line.Call.{Call}
 pub use Rattle.kob_scene_play.specs.Stages.{line_of, IsOpened, declared_consumer, declared_service, named_consumer, named_service, IsAnswered, IsLaw, law_text, IsMisplaced}
+pub use Rattle.kob_delivery_check.specs.Printed.{check_text}
+pub use Rattle.kob_scene_play.specs.Checks.{IsChecked, IsFound}
 pub use Rattle.kob_scene_play.specs.Steps.{Tells, Writes, AllGoOn, AreTicks, EndsRun, IsConsumerStep, IsServiceStep, IsTold, Records, Consumer, Consumes, Does, IsConsumerTick, IsSameConsumer, IsServiceTick, LosesFirst, Service, IsConsumerChange, IsPrinted, IsReadOnce, IsServiceChange, IsSameService, consumer_goes_on, idle_in_row, idle_with, left_after, recorded_after, service_goes_on}
 pub use Rattle.kob_scene_play.specs.Scenes.{ArePlayed, EndsAs, EndsScene, EndsSteps, IsRead, IsReady, IsServed, IsShown, IsStep, IsWritten, Leaves, OthersStay, Show, StopsIn, WritesSteps, show_of}
 pub use Rattle.kob_scene_play.specs.Forms.{fault_shown, shown_by, shown_text, stopped_shown}

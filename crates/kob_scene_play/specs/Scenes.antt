@@ -2,6 +2,7 @@
 use Rattle.std.specs.Prelude.{◌≡◌, ◌≢◌, ◌⊎◌, ◌+◌, ℕ, List, [], ◌∷◌, ◌++◌, Some, None, Bool, true, false, length, map, slice_get, Option, Ok, Err}
 use Rattle.kob_router.specs.Line.{one_more}
 use Rattle.kob_scene_play.specs.Stages.{journal_text, IsOpened, declared_consumer, declared_service, named_consumer, named_service, IsAnswered}
+use Rattle.kob_scene_play.specs.Checks.{IsChecked}
 use Rattle.kob_scene_play.specs.Steps.{IsConsumerStep, IsServiceStep, Writes}
 use Rattle.kob_scene_play.specs.declared.stage.PlayedConsumer.{PlayedConsumer}
 use Rattle.kob_scene_play.specs.declared.stage.PlayedService.{PlayedService}
@@ -78,6 +79,12 @@ IsStep (steps.Law service consumer) old new told then_told text =
     × (new.consumers.items ≡ old.consumers.items)
     × (then_told ≡ one_more told)
     × IsAnswered service consumer old told text
+IsStep (steps.Check service consumer) old new told then_told text =
+    (new.recorded ≡ old.recorded)
+    × (new.services.items ≡ old.services.items)
+    × (new.consumers.items ≡ old.consumers.items)
+    × (then_told ≡ one_more told)
+    × IsChecked service consumer old told text
 
 -- how the answers to the step at a place are shown, by the number of entries of the journal before
 -- it, and by the journal after it

@@ -90,6 +90,13 @@ impl ConsumerWorker {
         &self.subscription
     }
 
+    /// The consumer itself.
+    pub fn consumer(&self) -> &Consumer
+        ensures { result.now ≡ self.now.fetcher }
+    {
+        &self.consumer
+    }
+
     /// One step over the broker, whose first call has this loss. Its call gets its entry in the
     /// journal under its number, its principal and its host.
     pub fn tick(

@@ -2,6 +2,7 @@
 //! journal, in the order of the scene.
 #![tactic(auto)]
 
+mod check;
 mod consumer_steps;
 mod consumer_worker;
 mod fault;

@@ -1,14 +1,19 @@
-//! The right that a denied request lacked.
+//! What a request lacked that was denied, or that named no topic or no partition that is there.
 
 ghost use Rattle.std.specs.Prelude.{◌≡◌, ◌<◌, ◌++◌, [], OnOk, length, slice_index_or};
+ghost use Rattle.kob_rights.specs.Requests.{partition_named};
 ghost use Rattle.kob_rights.specs.Table.{check_view, clause_view, rights};
-ghost use Rattle.kob_scene_play.specs.Needs.{check_text, has_code, lacked, needs_of, needs_text};
+ghost use Rattle.kob_scene_play.specs.Needs.{absence_text, absent_text, check_text, has_code};
+ghost use Rattle.kob_scene_play.specs.Needs.{lacked, needs_of, needs_text};
+ghost use Rattle.kob_scene_play.specs.Needs.{between, no_partition, no_topic};
 
-use kob_rights::{Check, Clause, Code, Reply, Request, Rights};
+use crate::output::push_counted;
+use kob_rights::{Check, Clause, Code, Reason, Reply, Request, Rights};
 use kob_words::{operation_name, push_bytes, resource_name};
 use std::alloc::AllocError;
 
-/// Appends a line with the right that the request lacked, if it was denied.
+/// Appends a line with the right that the request lacked, if it was denied, or with the topic or the
+/// partition that it needs and that is not there.
 pub(crate) fn push_needs(
     out: &mut Vec<u8>,
     request: &Request,
@@ -18,9 +23,83 @@ pub(crate) fn push_needs(
 {
     match reply {
         Reply::Denied { code, .. } => push_lacked(out, request, *code),
-        Reply::Refused { .. } => Ok(()),
+        Reply::Refused { reason, .. } => push_absent(out, request, *reason),
         Reply::Done(_) => Ok(()),
     }
+}
+
+fn push_absent(out: &mut Vec<u8>, request: &Request, reason: Reason) -> Result<(), AllocError>
+    ensures { OnOk result (out.new.items
+        ≡ out.old.items ++ absent_text reason (partition_named request.now)) }
+{
+    match request {
+        Request::Produce(asked) => push_absence(out, reason, asked.topic.as_str(), asked.partition),
+        Request::Fetch(asked) => push_absence(out, reason, asked.topic.as_str(), asked.partition),
+        Request::ListOffsets(asked) => push_absence(
+            out,
+            reason,
+            asked.topic.as_str(),
+            asked.partition,
+        ),
+        Request::OffsetCommit(asked) => push_absence(
+            out,
+            reason,
+            asked.topic.as_str(),
+            asked.partition,
+        ),
+        Request::DeleteRecords(asked) => push_absence(
+            out,
+            reason,
+            asked.topic.as_str(),
+            asked.partition,
+        ),
+        _ => Ok(()),
+    }
+}
+
+fn push_absence(
+    out: &mut Vec<u8>,
+    reason: Reason,
+    topic: &str,
+    partition: u64,
+) -> Result<(), AllocError>
+    ensures { OnOk result (out.new.items
+        ≡ out.old.items ++ absence_text reason (topic.now, partition)) }
+{
+    match reason {
+        Reason::UnknownTopic => push_no_topic(out, topic),
+        Reason::UnknownPartition => push_no_partition(out, topic, partition),
+        _ => Ok(()),
+    }
+}
+
+fn push_no_topic(out: &mut Vec<u8>, topic: &str) -> Result<(), AllocError>
+    ensures { OnOk result (out.new.items ≡ out.old.items ++ no_topic topic.now) }
+{
+    push_between(out, b"> # no topic ", topic, b"\n")
+}
+
+#[tactic(auto, using(kob_words::proofs::Appending::appending))]
+fn push_no_partition(out: &mut Vec<u8>, topic: &str, partition: u64) -> Result<(), AllocError>
+    ensures { OnOk result (out.new.items ≡ out.old.items ++ no_partition topic.now partition) }
+{
+    push_counted(out, b"> # no partition ", partition, b"")?;
+    push_between(out, b" of topic ", topic, b"\n")
+}
+
+/// A name between two texts.
+#[tactic(auto, using(kob_words::proofs::Appending::appending))]
+fn push_between(
+    out: &mut Vec<u8>,
+    before: &[u8],
+    name: &str,
+    after: &[u8],
+) -> Result<(), AllocError>
+    ensures { OnOk result (out.new.items ≡ out.old.items ++ between before.now name.now after.now) }
+{
+    out.extend_from_slice(before)?;
+    push_bytes(out, name.as_bytes())?;
+    out.extend_from_slice(after)
 }
 
 fn push_lacked(out: &mut Vec<u8>, request: &Request, code: Code) -> Result<(), AllocError>

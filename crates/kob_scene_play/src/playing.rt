@@ -10,6 +10,7 @@ ghost use Rattle.kob_scene_play.specs.Scenes.{EndsAs, EndsScene, EndsSteps};
 ghost use Rattle.kob_script.specs.Printed.{reply_text};
 ghost use Rattle.kob_shared.specs.Journals.{after_event, outcome_of};
 
+use crate::check::show_check;
 use crate::consumer_steps::play_consumer;
 use crate::fault::PlayFault;
 use crate::form::{Showing, Shown};
@@ -179,6 +180,7 @@ fn play_step<'s>(
         Step::Consumer(which, step) => play_consumer_at(alloc, stage, *which, step, out),
         Step::Journal => show_journal(stage, out),
         Step::Law { service, consumer } => show_law(alloc, stage, *service, *consumer, out),
+        Step::Check { service, consumer } => show_check(alloc, stage, *service, *consumer, out),
     }
 }
 

@@ -131,17 +131,26 @@ abbrev pub with_journal : Seen → List Word → Result Seen SceneFaultKind
 with_journal s [] = Ok (with_steps s (Plain step_forms.Journal ∷ []))
 with_journal s (word ∷ words) = Err bad_line
 
-abbrev pub with_law_of : Seen → Option ℕ → Option ℕ → Result Seen SceneFaultKind
-with_law_of s (Some service) (Some consumer) =
-    Ok (with_steps s (Plain (step_forms.Law service consumer) ∷ []))
-with_law_of s _ _ = Err kinds.UnknownWorker
+abbrev pub both_of : Option ℕ → Option ℕ → Result (ℕ × ℕ) SceneFaultKind
+both_of (Some service) (Some consumer) = Ok (service, consumer)
+both_of _ _ = Err kinds.UnknownWorker
+
+-- SERVICE CONSUMER, by their places
+abbrev pub pair_of : Seen → List Word → Result (ℕ × ℕ) SceneFaultKind
+pair_of s (service ∷ consumer ∷ []) =
+    both_of (service_named s.services service.decoded)
+    (consumer_named s.consumers consumer.decoded)
+pair_of s _ = Err bad_line
 
 -- law SERVICE CONSUMER
 abbrev pub with_law : Seen → List Word → Result Seen SceneFaultKind
-with_law s (service ∷ consumer ∷ []) =
-    with_law_of s (service_named s.services service.decoded)
-    (consumer_named s.consumers consumer.decoded)
-with_law s _ = Err bad_line
+with_law s words =
+    pair_of s words >>> λ pair. Ok (with_steps s (Plain (step_forms.Law pair.0 pair.1) ∷ []))
+
+-- check SERVICE CONSUMER
+abbrev pub with_check : Seen → List Word → Result Seen SceneFaultKind
+with_check s words =
+    pair_of s words >>> λ pair. Ok (with_steps s (Plain (step_forms.Check pair.0 pair.1) ∷ []))
 
 -- a worker's step
 abbrev pub with_step : Seen → Worker → List Word → Result Seen SceneFaultKind
@@ -167,6 +176,7 @@ with_head answer heads.Service s first rest = with_service s rest
 with_head answer heads.Consumer s first rest = with_consumer s rest
 with_head answer heads.Journal s first rest = with_journal s rest
 with_head answer heads.Law s first rest = with_law s rest
+with_head answer heads.Check s first rest = with_check s rest
 with_head answer (heads.Of worker) s first rest = with_step s worker rest
 with_head answer heads.Unknown s first rest = Err kinds.UnknownWorker
 with_head answer heads.Request s first rest = with_requests answer s (first ∷ rest)

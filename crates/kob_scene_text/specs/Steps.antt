@@ -17,7 +17,7 @@ use Rattle.std.specs.List.{list_any}
 use Rattle.kob_script.specs.Script.{is_setting}
 use Rattle.kob_scene_text.specs.declared.name.Worker.{Worker}
 use Rattle.kob_scene_text.specs.declared.line.Head.{Head}
-use Rattle.kob_scene_text.specs.declared.line.Head.TheVariants.{Setting, Service, Consumer, Journal, Law, Of, Unknown, Request}
+use Rattle.kob_scene_text.specs.declared.line.Head.TheVariants.{Setting, Service, Consumer, Journal, Law, Check, Of, Unknown, Request}
 use Rattle.kob_scene_text.specs.declared.scene.ConsumerStep.TheVariants as consumer_steps
 use Rattle.kob_scene_text.specs.declared.scene.Lost.TheVariants as losses
 use Rattle.kob_scene_text.specs.declared.scene.ServiceStep.TheVariants as service_steps
@@ -172,7 +172,8 @@ head_by_word worker name rest =
     else (if bytes_eq name (codes "consumer") then Consumer
     else (if bytes_eq name (codes "journal") then Journal
     else (if bytes_eq name (codes "law") then Law
-    else head_named worker name rest)))
+    else (if bytes_eq name (codes "check") then Check
+    else head_named worker name rest))))
 
 abbrev pub head_of : Option Worker → Word → List Word → Head
 head_of worker first rest =

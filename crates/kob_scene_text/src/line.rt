@@ -5,7 +5,9 @@ ghost use Rattle.kob_scene_text.specs.Steps.{asks_step, head_by, head_by_word, h
 ghost use Rattle.kob_scene_text.specs.Scenes.{ReadsLine, ReadsNext};
 ghost use Rattle.kob_scene_text.specs.Scenes.{asked, is_early, next_worker, so_far, told};
 ghost use Rattle.kob_scene_text.specs.Scenes.{consumer_at, service_at};
-ghost use Rattle.kob_scene_text.specs.Scenes.{with_consumer, with_head, with_journal, with_law};
+ghost use Rattle.kob_scene_text.specs.Reading.{Gives};
+ghost use Rattle.kob_scene_text.specs.Scenes.{pair_of, with_check, with_consumer, with_head};
+ghost use Rattle.kob_scene_text.specs.Scenes.{with_journal, with_law};
 ghost use Rattle.kob_scene_text.specs.Scenes.{with_requests, with_service, with_setting};
 ghost use Rattle.kob_scene_text.specs.Scenes.{with_step, with_steps, with_words};
 ghost use Rattle.std.specs.Prelude.{Ok, [], ◌∷◌};
@@ -34,6 +36,7 @@ pub(crate) enum Head {
     Consumer,
     Journal,
     Law,
+    Check,
     Of(Worker),
     Unknown,
     Request,
@@ -91,6 +94,8 @@ fn head_by_word(worker: Option<Worker>, name: &[u8], rest: &[Word<'_>]) -> Head
         Head::Journal
     } else if name == b"law".as_slice() {
         Head::Law
+    } else if name == b"check".as_slice() {
+        Head::Check
     } else {
         head_named(worker, name, rest)
     }
@@ -156,6 +161,7 @@ impl Reading {
             Head::Consumer => self.add_consumer(alloc, rest),
             Head::Journal => self.add_journal(rest),
             Head::Law => self.add_law(rest),
+            Head::Check => self.add_check(rest),
             Head::Of(worker) => self.add_step(alloc, worker, rest),
             Head::Unknown => Err(StepError::Fault(SceneFaultKind::UnknownWorker)),
             Head::Request => self.add_requests(alloc, words, answer),
@@ -292,13 +298,29 @@ impl Reading {
     fn add_law(&mut self, words: &[Word<'_>]) -> Result<(), StepError>
         ensures { ReadsNext self.new result (with_law (so_far self.old) words.now) }
     {
+        let (service, consumer) = self.pair_of(words)?;
+        self.push_step(Step::Law { service, consumer })
+    }
+
+    /// `check SERVICE CONSUMER`
+    fn add_check(&mut self, words: &[Word<'_>]) -> Result<(), StepError>
+        ensures { ReadsNext self.new result (with_check (so_far self.old) words.now) }
+    {
+        let (service, consumer) = self.pair_of(words)?;
+        self.push_step(Step::Check { service, consumer })
+    }
+
+    /// The places of a service and of a consumer, by their names.
+    fn pair_of(&self, words: &[Word<'_>]) -> Result<(usize, usize), StepError>
+        ensures { Gives result (pair_of (so_far self.now) words.now) }
+    {
         let [service, consumer] = words else {
             return Err(StepError::Fault(SceneFaultKind::Script(FaultKind::BadLine)));
         };
         let service = service_named(&self.services, service.decoded());
         let consumer = consumer_named(&self.consumers, consumer.decoded());
         match (service, consumer) {
-            (Some(service), Some(consumer)) => self.push_step(Step::Law { service, consumer }),
+            (Some(service), Some(consumer)) => Ok((service, consumer)),
             _ => Err(StepError::Fault(SceneFaultKind::UnknownWorker)),
         }
     }

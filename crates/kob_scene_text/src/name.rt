@@ -75,6 +75,7 @@ fn is_keyword(name: &[u8]) -> bool
         || name == b"consumer".as_slice()
         || name == b"journal".as_slice()
         || name == b"law".as_slice()
+        || name == b"check".as_slice()
 }
 
 fn has_name_bytes(name: &[u8]) -> bool

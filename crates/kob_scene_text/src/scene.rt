@@ -103,6 +103,8 @@ pub enum Step {
     Journal,
     /// Asks whether the laws of delivery apply to a service and a consumer, by their places.
     Law { service: usize, consumer: usize },
+    /// Asks where each event of a service is, on its way to a consumer, by their places.
+    Check { service: usize, consumer: usize },
 }
 
 /// Which message of a tick's first call is lost.

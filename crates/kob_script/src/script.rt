@@ -41,22 +41,31 @@ pub fn read_script(alloc: Global, text: &[u8]) -> Result<Script, ScriptError>
     let copy = Bytes::copied(alloc, text)?;
     let blocks = vec![in alloc; copy].map_err(AllocError::from)?;
     let CheckedScript { settings, requests } = check_script(alloc, blocks)?;
-    let events = Items::from_vec(all_events(alloc, requests)?);
-    Ok(Script { settings, events })
+    let mut last = None;
+    let events = all_events(alloc, requests, &mut last);
+    drop(last);
+    Ok(Script {
+        settings,
+        events: Items::from_vec(events?),
+    })
 }
 
-fn all_events(alloc: Global, mut requests: Requests) -> Result<Vec<Event>, AllocError>
+/// The events that are left. Each is read into `next`, which is lent: an event that is dropped at an
+/// early return makes a proof long.
+fn all_events(
+    alloc: Global,
+    mut requests: Requests,
+    next: &mut Option<Event>,
+) -> Result<Vec<Event>, AllocError>
     ensures { IfOk result (λ events. events.items ≡ requests) }
 {
     let mut events = Vec::new(alloc);
-    let mut event = None;
     for _ in 0..requests.len() {
-        requests.next_event(alloc, &mut event)?;
-        if let Some(event) = event.take() {
+        requests.next_event(alloc, next)?;
+        if let Some(event) = next.take() {
             events.push(event)?;
         }
     }
-    drop(event);
     Ok(events)
 }
 

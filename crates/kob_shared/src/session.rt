@@ -2,11 +2,12 @@
 
 ghost use Rattle.std.specs.Prelude.{◌≡◌, ◌+◌, ◌<◌, ◌≤◌, IfOk, IfErr, OnErr};
 ghost use Rattle.kob_rights.specs.Requests.{OffsetsWithin, Fits};
-ghost use Rattle.kob_shared.specs.Journals.{IsContinued, IsPast, IsSound, entry_limit, place_limit};
+ghost use Rattle.kob_shared.specs.Journals.{Continuation, IsContinued, IsNotHandedOut, IsPast};
+ghost use Rattle.kob_shared.specs.Journals.{IsSound, entry_limit, place_limit};
 ghost use Rattle.kob_shared.specs.Journals.{event_by, new_seat, IsServed, IsStaleOnlyBelow};
 
 use crate::continued::Continued;
-use crate::faults::{CallFault, PlacesUsedUp};
+use crate::faults::{CallFault, RotateFault};
 use crate::journal::{PastJournal, Receipt};
 use crate::recorded::Recorded;
 use kob_names::{Host, PlainValue, Principal};
@@ -121,12 +122,23 @@ impl RotatingBroker {
     }
 
     /// Hands out the whole journal under the lock, and continues with an empty one, as
-    /// `Continued::rotate` does. Sessions go on, and places count on. Does not allocate.
-    pub fn rotate<R: Wait>(&self, rt: &R, alloc: Global) -> Result<PastJournal, PlacesUsedUp>
-        ensures { IfOk result IsPast }
+    /// `Continued::rotate` does. Sessions go on, and places count on. `first_place` is the place
+    /// where the journal begins: that after the last entry which was handed out. `OutOfTurn` is
+    /// returned exactly if it begins elsewhere, so that no two callers hand out journals in turn
+    /// unnoticed. Does not allocate.
+    pub fn rotate<R: Wait>(
+        &self,
+        rt: &R,
+        alloc: Global,
+        first_place: usize,
+    ) -> Result<PastJournal, RotateFault>
+        ensures first { IfOk result (λ past. past.first_place ≡ first_place) }
+        ensures past { IfOk result IsPast }
+        ensures refused { IfErr result
+            (λ fault. (c : Continuation) × IsContinued c × IsNotHandedOut c first_place fault) }
     {
         let mut continued = self.continued.lock(rt);
-        continued.rotate(alloc)
+        continued.rotate_from(alloc, first_place)
     }
 
     /// Returns the broker and the journal that was not handed out. Does not wait.

@@ -38,6 +38,8 @@ mod refused_sessions;
 #[cfg(test)]
 mod relays;
 #[cfg(test)]
+mod replays;
+#[cfg(test)]
 mod revoked;
 #[cfg(test)]
 mod routes;

@@ -2,7 +2,7 @@
 
 use crate::making::{asker, recorded, request_of};
 use kob_rights::Request;
-use kob_shared::{CallFault, RotatingBroker, Session, SharedBroker};
+use kob_shared::{CallFault, RotateFault, RotatingBroker, Session, SharedBroker};
 use std::alloc::Global;
 use std::sync::Wait;
 
@@ -41,7 +41,7 @@ fn place<R: Wait>(rt: &R, alloc: Global, session: &mut Session<'_>) -> Result<us
 /// Whether the journal that is handed out has two entries, from the place 0 on, the second of
 /// worker 4.
 fn rotates<R: Wait>(rt: &R, alloc: Global, shared: &RotatingBroker) -> Option<bool> {
-    let past = shared.rotate(rt, alloc).ok()?;
+    let past = shared.rotate(rt, alloc, 0).ok()?;
     let is_due = match past.journal.get(1) {
         Some(entry) => (past.first_place, past.journal.len(), entry.worker) == (0, 2, 4),
         None => false,
@@ -50,8 +50,19 @@ fn rotates<R: Wait>(rt: &R, alloc: Global, shared: &RotatingBroker) -> Option<bo
     Some(is_due)
 }
 
-/// Whether two calls fill the journal, a third is refused, and after the journal was handed out the
-/// session continues at the place 2.
+/// Why the journal that begins at the place 1 is not handed out.
+fn refused<R: Wait>(rt: &R, alloc: Global, shared: &RotatingBroker) -> Option<RotateFault> {
+    match shared.rotate(rt, alloc, 1) {
+        Ok(past) => {
+            drop(past);
+            None
+        }
+        Err(fault) => Some(fault),
+    }
+}
+
+/// Whether two calls fill the journal, a third is refused, the journal is handed out only from its
+/// first place on, and then the session continues at the place 2.
 fn goes_on<R: Wait>(rt: &R, alloc: Global, shared: &RotatingBroker) -> Option<bool> {
     let (principal, host) = asker(alloc, "User:root")?;
     let mut session = shared.session(4, principal, host);
@@ -59,13 +70,15 @@ fn goes_on<R: Wait>(rt: &R, alloc: Global, shared: &RotatingBroker) -> Option<bo
     let second = place(rt, alloc, &mut session);
     let third = place(rt, alloc, &mut session);
     let seen = session.seen();
+    let refused = refused(rt, alloc, shared);
     let rotated = rotates(rt, alloc, shared);
     let next = place(rt, alloc, &mut session);
     let sees = session.seen();
     drop(session);
     let places = [first, second, third, next];
     let is_due = places == [Ok(0), Ok(1), Err(CallFault::JournalFull), Ok(2)];
-    Some(is_due && rotated == Some(true) && (seen, sees) == (2, 3))
+    let is_refused = refused == Some(RotateFault::OutOfTurn { first_place: 0 });
+    Some(is_due && is_refused && rotated == Some(true) && (seen, sees) == (2, 3))
 }
 
 /// Whether a session does so on a broker whose journal has at most two entries, after an empty one,

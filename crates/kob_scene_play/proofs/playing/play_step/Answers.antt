@@ -1,4 +1,4 @@
-use Rattle.kob_scene_play.proofs.Played.{consumer_played, law_played, service_played}
+use Rattle.kob_scene_play.proofs.Played.{check_played, consumer_played, law_played, service_played}
 use Rattle.kob_scene_play.proofs.playing.play_step.Goals as goal
 
 pub returns-in-Service : goal.returns-in-Service
@@ -16,3 +16,9 @@ returns-in-Law c =
     rw c.in-Law.is (law_played c.show_law.result _ _ c.args.stage.now c.show_law.new.stage _ _ _ _
     c.show_law.ensures.recorded c.show_law.ensures.services c.show_law.ensures.consumers c.show_law.ensures.told
     c.show_law.ensures.done)
+
+pub returns-in-Check : goal.returns-in-Check
+returns-in-Check c =
+    rw c.in-Check.is (check_played c.show_check.result _ _ c.args.stage.now c.show_check.new.stage _ _ _ _
+    c.show_check.ensures.recorded c.show_check.ensures.services c.show_check.ensures.consumers c.show_check.ensures.told
+    c.show_check.ensures.done)

@@ -1,7 +1,12 @@
-use Rattle.kob_embedding.proofs.Words.{◌≡◌}
+use Rattle.kob_embedding.proofs.Words.{None, ◌≡◌, ◌⊎◌}
+use Rattle.kob_embedding.specs.Running.{TakesAs}
+use Rattle.kob_inbox.specs.Tick.{point_of}
 use Rattle.kob_embedding.proofs.running_consumer.RunningConsumer.take_rows.Given as goal
 
 abbrev pub invariant-loop : goal.invariant-loop
 invariant-loop g l =
     (l.self.fetcher.subscription ≡ l.fn.self.fetcher.subscription)
     × g.L.Line.becomes l.fn.self.line l.self.line
+    × ((l.self ≡ l.fn.self)
+    ⊎ TakesAs l.self.fetcher.subscription
+    (point_of l.self.fetcher l.self.inbox (g.L.Line.calls l.self.line) (g.L.Line.unmade l.self.line)) None)

@@ -1,0 +1,7 @@
+use Rattle.std.proofs.Common.{nat_eq, take, ◌≡◌, ℕ}
+use Rattle.std.specs.HashSet.{contains}
+use Rattle.kob_delivery_check.specs.Fates.{is_in_outbox}
+use Rattle.kob_delivery_check.proofs.fates.ids_of_outbox.Given as goal
+
+abbrev pub invariant-loop-row : goal.invariant-loop-row
+invariant-loop-row l = (id : ℕ) → contains nat_eq l.set id ≡ is_in_outbox (take l.row-index l.rows) id

@@ -1,7 +1,0 @@
-use Rattle.std.proofs.Common.{take, ◌≡◌}
-use Rattle.std.specs.List.{fold}
-use Rattle.kob_policy_review.specs.Classes.{with_target_of}
-use Rattle.kob_policy_review.proofs.matching.add_targets.Given as goal
-
-abbrev pub invariant-loop-entry : goal.invariant-loop-entry
-invariant-loop-entry l = l.targets.items ≡ fold with_target_of l.initial.targets.items (take l.entry-index l.entries)

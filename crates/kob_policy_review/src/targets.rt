@@ -1,0 +1,216 @@
+//! The names that a set of rules tells apart, each once.
+
+ghost use Rattle.std.specs.Prelude.{◌≡◌, ◌++◌, ◌∷◌, [], IfOk, OnOk, fold, slice_get};
+ghost use Rattle.std.specs.List.{list_any};
+ghost use Rattle.kob_prefix_tree.specs.Held.{held};
+ghost use Rattle.kob_policy_review.specs.Classes.{names_by, open_targets, others_on, same_names};
+ghost use Rattle.kob_policy_review.specs.Classes.{same_target, target_of, targets_named};
+ghost use Rattle.kob_policy_review.specs.Classes.{the_cluster, with_target, with_target_of};
+ghost use Rattle.kob_policy_review.specs.Sites.{is_at};
+
+use crate::class::{Names, Target};
+use crate::finder::text_of;
+use kob_names::{Binding, Pattern, PatternKind, PlainValue, ResourceKind, Text};
+use kob_prefix_tree::{PatternKind as KindInTree, PrefixTree};
+use std::alloc::{AllocError, Global};
+use std::marker::Model;
+
+/// Targets in the order in which they came, and a tree that leads from the text of their names to
+/// their places. Contracts see their list.
+#[derive(Drop)]
+pub struct Targets {
+    made: Vec<Target>,
+    places: PrefixTree,
+}
+
+impl Model for Targets {
+    ghost use Rattle.std.specs.Prelude.{List};
+    ghost use Rattle.kob_policy_review.specs.Sites.{ArePlaced};
+    ghost use Rattle.kob_policy_review.specs.declared.class.Target as seen;
+
+    ghost Value = { List seen.Target };
+
+    ghost view = { λ targets. targets.made.items };
+
+    ghost invariant = { λ targets. ArePlaced targets.made.items targets.places };
+}
+
+impl Targets {
+    /// None. Does not allocate.
+    fn new(alloc: Global) -> Targets
+        ensures { result ≡ [] }
+    {
+        Targets {
+            made: Vec::new(alloc),
+            places: PrefixTree::new(),
+        }
+    }
+
+    fn is_at(&self, target: &Target, place: u64) -> bool
+        ensures { result ≡ is_at target.now (slice_get self.now place) }
+    {
+        match self.made.get(place as usize) {
+            None => false,
+            Some(other) => same_target(target, other),
+        }
+    }
+
+    fn is_at_one(&self, target: &Target, places: &[u64]) -> bool
+        ensures { result ≡ list_any (λ place. is_at target.now (slice_get self.now place)) places.now }
+    {
+        places.iter().any(|place| self.is_at(target, *place))
+    }
+
+    fn is_listed(&self, alloc: Global, target: &Target) -> Result<bool, AllocError>
+        ensures { IfOk result (λ listed. listed ≡ list_any (same_target target.now) self.now) }
+    {
+        let places = places_at(alloc, &self.places, text_of(&target.names))?;
+        Ok(self.is_at_one(target, places.as_slice()))
+    }
+
+    fn push(&mut self, alloc: Global, target: Target) -> Result<(), AllocError>
+        ensures { OnOk result (self.new ≡ self.old ++ target ∷ []) }
+    {
+        let place = self.made.len() as u64;
+        let key = text_of(&target.names).as_str().as_bytes();
+        self.places.add(alloc, key, KindInTree::Literal, place)?;
+        self.made.push(target)?;
+        Ok(())
+    }
+
+    fn add(&mut self, alloc: Global, target: Target) -> Result<(), AllocError>
+        ensures { OnOk result (self.new ≡ with_target self.old target) }
+    {
+        if self.is_listed(alloc, &target)? {
+            drop(target);
+            return Ok(());
+        }
+        self.push(alloc, target)
+    }
+
+    #[tactic(auto, unfolding(crate::specs::Classes::with_target_of))]
+    fn add_target_of(&mut self, alloc: Global, entry: &(u64, Binding)) -> Result<(), AllocError>
+        ensures { OnOk result (self.new ≡ with_target_of self.old entry.now) }
+    {
+        self.add(alloc, target_of(alloc, entry)?)
+    }
+
+    /// Adds the names that the bindings' patterns take first.
+    #[tactic(auto, using(std::proofs::lemmas::List::Sums::fold_more))]
+    pub fn add_all(&mut self, alloc: Global, entries: &[(u64, Binding)]) -> Result<(), AllocError>
+        ensures { OnOk result (self.new ≡ fold with_target_of self.old entries.now) }
+    {
+        for entry in entries {
+            self.add_target_of(alloc, entry)?;
+        }
+        Ok(())
+    }
+
+    fn open(alloc: Global) -> Result<Targets, AllocError>
+        ensures { IfOk result (λ made. made ≡ open_targets) }
+    {
+        let mut made = Targets::new(alloc);
+        made.push(alloc, others_on(alloc, ResourceKind::Topic)?)?;
+        made.push(alloc, others_on(alloc, ResourceKind::Group)?)?;
+        made.push(alloc, the_cluster(alloc)?)?;
+        made.push(alloc, others_on(alloc, ResourceKind::TransactionalId)?)?;
+        Ok(made)
+    }
+
+    /// The names that a set of rules tells apart, each once.
+    pub fn of(alloc: Global, entries: &[(u64, Binding)]) -> Result<Targets, AllocError>
+        ensures { IfOk result (λ made. made ≡ targets_named entries.now) }
+    {
+        let mut made = Targets::open(alloc)?;
+        made.add_all(alloc, entries)?;
+        Ok(made)
+    }
+
+    /// The targets. Does not allocate.
+    pub fn into_vec(self) -> Vec<Target>
+        ensures { result.items ≡ self }
+    {
+        self.made
+    }
+}
+
+/// The places that the tree has for a text.
+fn places_at(alloc: Global, places: &PrefixTree, text: &Text) -> Result<Vec<u64>, AllocError>
+    ensures { IfOk result (λ made. made.items ≡ (held places.now text.now).0) }
+{
+    places.literal(text.as_str().as_bytes()).collect(alloc)
+}
+
+fn names_by(alloc: Global, pattern: &Pattern) -> Result<Names, AllocError>
+    ensures { IfOk result (λ names. names ≡ names_by pattern.now.kind pattern.now.name) }
+{
+    match pattern.kind {
+        PatternKind::Prefixed => Ok(Names::Below(pattern.name.copy(alloc)?)),
+        PatternKind::Literal => {
+            if pattern.name.as_str() == "*" {
+                Ok(Names::Below(Text::copied(alloc, "")?))
+            } else {
+                Ok(Names::Exactly(pattern.name.copy(alloc)?))
+            }
+        }
+    }
+}
+
+/// The names of a kind that no pattern takes.
+fn others_on(alloc: Global, resource: ResourceKind) -> Result<Target, AllocError>
+    ensures { IfOk result (λ made. made ≡ others_on resource) }
+{
+    let names = Names::Below(Text::copied(alloc, "")?);
+    Ok(Target { resource, names })
+}
+
+/// The cluster, by its one name.
+fn the_cluster(alloc: Global) -> Result<Target, AllocError>
+    ensures { IfOk result (λ made. made ≡ the_cluster) }
+{
+    let names = Names::Exactly(Text::copied(alloc, "kafka-cluster")?);
+    Ok(Target {
+        resource: ResourceKind::Cluster,
+        names,
+    })
+}
+
+/// The names that a binding's pattern takes first.
+fn target_of(alloc: Global, entry: &(u64, Binding)) -> Result<Target, AllocError>
+    ensures { IfOk result (λ made. made ≡ target_of entry.now) }
+{
+    let binding = entry.1.parts();
+    match binding.resource {
+        ResourceKind::Cluster => the_cluster(alloc),
+        ResourceKind::Topic | ResourceKind::Group | ResourceKind::TransactionalId => {
+            let names = names_by(alloc, &binding.pattern)?;
+            Ok(Target {
+                resource: binding.resource,
+                names,
+            })
+        }
+    }
+}
+
+fn same_names(one: &Names, other: &Names) -> bool
+    ensures { result ≡ same_names one.now other.now }
+{
+    match (one, other) {
+        (Names::Exactly(one), Names::Exactly(other)) => one == other,
+        (Names::Below(one), Names::Below(other)) => one == other,
+        _ => false,
+    }
+}
+
+fn same_target(one: &Target, other: &Target) -> bool
+    ensures { result ≡ same_target one.now other.now }
+{
+    one.resource == other.resource && same_names(&one.names, &other.names)
+}
+
+/// The names that a set of rules tells apart, each once.
+pub fn targets_of(alloc: Global, entries: &[(u64, Binding)]) -> Result<Vec<Target>, AllocError>
+    ensures { IfOk result (λ made. made.items ≡ targets_named entries.now) }
+{
+    Ok(Targets::of(alloc, entries)?.into_vec())
+}

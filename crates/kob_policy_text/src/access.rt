@@ -1,0 +1,113 @@
+//! The answers to `may`, and whether they are as expected.
+
+ghost use Rattle.std.specs.Prelude.{◌≡◌, ◌++◌, OnOk};
+ghost use Rattle.kob_policy_text.specs.Access.{access_text, act_text, any_fails, right_answer};
+ghost use Rattle.kob_policy_text.specs.Access.{expect_text, fails, is_allowed, is_other_answer};
+ghost use Rattle.kob_policy_text.specs.Access.{outcome_of_expected};
+
+use crate::asked::Asked;
+use crate::hints::{push_unnamed, push_untaken};
+use crate::judge::Judge;
+use crate::printed::push_may;
+use crate::question::{Access, Act, Asker, Query, Question};
+use crate::rights::{
+    are_met, check_of, idempotent_rights, on, push_rights, rights_of, transactional_rights,
+};
+use std::alloc::AllocError;
+
+#[tactic(auto, using(kob_words::proofs::Appending::appending))]
+fn push_right_answer(out: &mut Vec<u8>, judge: &Judge, asked: &Asked<'_>) -> Result<(), AllocError>
+    ensures { OnOk result (out.new.items ≡ out.old.items ++ right_answer judge.now asked.now) }
+{
+    let verdict = judge.verdict(asked);
+    push_may(out, judge, verdict)?;
+    push_untaken(out, judge.policy(), verdict, asked)
+}
+
+fn push_act(out: &mut Vec<u8>, judge: &Judge, asker: &Asker, act: &Act) -> Result<(), AllocError>
+    ensures { OnOk result (out.new.items ≡ out.old.items ++ act_text judge.now asker.now act.now) }
+{
+    match act {
+        Act::Right(right) => push_right_answer(out, judge, &on(asker, &check_of(right))),
+        Act::Request(request) => push_rights(out, judge, asker, &request.rights()),
+        Act::Idempotent(topic) => {
+            let release = judge.policy().release();
+            push_rights(out, judge, asker, &idempotent_rights(release, topic))
+        }
+        Act::Transactional(topic, id) => {
+            push_rights(out, judge, asker, &transactional_rights(topic, id))
+        }
+    }
+}
+
+/// The answer, and the bindings that decide.
+#[tactic(auto, using(kob_words::proofs::Appending::appending))]
+pub fn push_access(out: &mut Vec<u8>, judge: &Judge, access: &Access) -> Result<(), AllocError>
+    ensures { OnOk result (out.new.items ≡ out.old.items ++ access_text judge.now access.now) }
+{
+    push_act(out, judge, &access.asker, &access.act)?;
+    let allowed = is_allowed(judge, access);
+    push_unnamed(out, judge.policy(), allowed, &access.asker.principal)
+}
+
+fn is_allowed(judge: &Judge, access: &Access) -> bool
+    ensures { result ≡ is_allowed judge.now access.now }
+{
+    let rights = rights_of(judge.policy().release(), &access.act);
+    are_met(judge, &access.asker, &rights)
+}
+
+fn is_other_answer(expected: bool, allowed: bool) -> bool
+    ensures { result ≡ is_other_answer expected allowed }
+{
+    expected != allowed
+}
+
+fn outcome_of_expected(other: bool) -> &'static str
+    ensures { result.now ≡ outcome_of_expected other }
+{
+    if other {
+        "  not as expected\n"
+    } else {
+        "  as expected\n"
+    }
+}
+
+/// The answer, and whether it is as expected.
+#[tactic(auto, using(kob_words::proofs::Appending::appending))]
+pub fn push_expected(
+    out: &mut Vec<u8>,
+    judge: &Judge,
+    expected: bool,
+    access: &Access,
+) -> Result<(), AllocError>
+    ensures { OnOk result
+        (out.new.items ≡ out.old.items ++ expect_text judge.now expected access.now) }
+{
+    push_access(out, judge, access)?;
+    let other = is_other_answer(expected, is_allowed(judge, access));
+    out.extend_from_slice(outcome_of_expected(other).as_bytes())
+}
+
+fn fails(judge: &Judge, question: &Question) -> bool
+    ensures { result ≡ fails judge.now question.now }
+{
+    match question {
+        Question::Expect(expected, access) => is_other_answer(*expected, is_allowed(judge, access)),
+        Question::May(_)
+        | Question::Who(_, _)
+        | Question::WhoConsumes(_, _)
+        | Question::Sees(_)
+        | Question::Summary
+        | Question::Unused
+        | Question::Shadowed
+        | Question::Removable => false,
+    }
+}
+
+/// Whether some answer is not the one that is expected.
+pub fn any_fails(judge: &Judge, queries: &[Query]) -> bool
+    ensures { result ≡ any_fails judge.now queries.now }
+{
+    queries.iter().any(|query| fails(judge, &query.question))
+}

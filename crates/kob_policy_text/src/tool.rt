@@ -1,0 +1,80 @@
+//! The lines that call Kafka's tool.
+
+ghost use Rattle.std.specs.Prelude.{◌≡◌, option_map};
+ghost use Rattle.kob_policy_text.specs.Lines.{base_name, is_tool, tool_arguments, tool_texts};
+ghost use Rattle.kob_policy_text.specs.Options.{SaysOptions};
+ghost use Rattle.kob_policy_text.specs.Outcomes.{MayGive};
+ghost use Rattle.kob_script.specs.Words.{Gives, GivesSeen, each, text_in};
+
+use crate::item::Item;
+use crate::options::added;
+use crate::pieces::{first_parts, last_parts};
+use crate::shell::shell_words;
+use crate::users::text_in;
+use kob_names::{Bytes, Text};
+use kob_script::LineError;
+use std::alloc::Global;
+
+/// The part after the last slash of a path.
+fn base_name(path: &[u8]) -> &[u8]
+    ensures { result.now ≡ base_name path.entry.now }
+{
+    match last_parts(path, b"/") {
+        Some((_, base)) => base,
+        None => path,
+    }
+}
+
+/// Whether the command is Kafka's tool, with any path, and not a principal.
+#[tactic(auto, unfolding(crate::specs::Lines::is_tool))]
+fn is_tool(command: &[u8]) -> bool
+    ensures { result ≡ is_tool command.now }
+{
+    let base = base_name(command);
+    !command.starts_with(b"User:")
+        && (base == b"kafka-acls".as_slice() || base == b"kafka-acls.sh".as_slice())
+}
+
+/// What is after the word of Kafka's tool.
+#[tactic(auto, unfolding(crate::specs::Lines::tool_arguments))]
+pub fn tool_arguments(line: &[u8]) -> Option<&[u8]>
+    ensures { option_map (λ arguments. arguments.now) result ≡ tool_arguments line.entry.now }
+{
+    match first_parts(line, b" ") {
+        Some((command, arguments)) if is_tool(command) => Some(arguments),
+        _ => None,
+    }
+}
+
+fn copied_text(alloc: Global, bytes: &[u8]) -> Result<Text, LineError>
+    ensures { Gives result (text_in bytes.now) }
+{
+    let text = text_in(bytes)?;
+    Ok(Text::copied(alloc, text)?)
+}
+
+fn texts_in(alloc: Global, words: &[Bytes]) -> Result<Vec<Text>, LineError>
+    ensures { GivesSeen (λ texts. texts.items) result (each text_in words.now) }
+{
+    let mut texts = Vec::with_capacity(alloc, words.len())?;
+    for word in words {
+        let text = copied_text(alloc, word.as_slice())?;
+        texts.push(text)?;
+    }
+    Ok(texts)
+}
+
+/// The texts that a shell would pass to Kafka's tool.
+fn tool_texts(alloc: Global, arguments: &[u8]) -> Result<Vec<Text>, LineError>
+    ensures { GivesSeen (λ texts. texts.items) result (tool_texts arguments.now) }
+{
+    let words = shell_words(alloc, arguments)?;
+    texts_in(alloc, &words)
+}
+
+pub fn tool_items(alloc: Global, arguments: &[u8]) -> Result<Vec<Item>, LineError>
+    ensures { MayGive (λ items. items.items) result (SaysOptions (tool_texts arguments.now)) }
+{
+    let texts = tool_texts(alloc, arguments)?;
+    added(alloc, &texts)
+}

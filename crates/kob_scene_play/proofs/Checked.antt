@@ -1,0 +1,20 @@
+-- What is answered about where events are.
+use Rattle.kob_scene_play.proofs.Words.{Consumer, Entry, IsChecked, IsFound, List, PlayedConsumer, PlayedService, Service, Some, Stage, Tells, ap, check_text, one_more, refl, slice_get, ℕ, ◌++◌, ◌∙◌, ◌≡◌}
+use Rattle.kob_delivery_check.specs.declared.printed.Found.{Found}
+
+-- of the service and the consumer at these places, where what was printed is of their equals
+pub checked : (service consumer : ℕ) (stage : Stage) (sender : PlayedService) (taker : PlayedConsumer) (found : Found)
+    (told : ℕ) (held now : List ℕ) (journal : List Entry) (from : Service) (to : Consumer)
+    → slice_get stage.services.items service ≡ Some sender → slice_get stage.consumers.items consumer ≡ Some taker
+    → journal ≡ stage.recorded.journal → from ≡ sender.service → to ≡ taker.consumer
+    → IsFound sender.service taker.consumer journal found
+    → now ≡ held ++ check_text (one_more told) from.recorded found.fates.items found.repeats.items
+    to.fetcher.subscription.assignment
+    → Tells (IsChecked service consumer stage told) held now
+checked service consumer stage sender taker found told held now journal from to first second is_journal is_from is_to is printed =
+    let text = λ (s : Service) (t : Consumer). check_text (one_more told) s.recorded found.fates.items found.repeats.items
+    t.fetcher.subscription.assignment in (
+      text sender.service taker.consumer,
+      (sender, taker, first, second, (found, rw is_journal at is, refl)),
+      printed ∙ ap (λ (s : Service). held ++ text s to) is_from ∙ ap (λ (t : Consumer). held ++ text sender.service t) is_to,
+    )

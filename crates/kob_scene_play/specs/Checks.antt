@@ -1,0 +1,67 @@
+-- Where each event of a service is, on its way to a consumer.
+use Rattle.std.specs.List.{enumerate_from}
+use Rattle.std.specs.Prelude.{◌≡◌, ℕ, List, Some, map, slice_get}
+use Rattle.kob_delivery_check.specs.Fates.{fates_by}
+use Rattle.kob_delivery_check.specs.Journaled.{reach_of}
+use Rattle.kob_delivery_check.specs.Printed.{check_text}
+use Rattle.kob_delivery_check.specs.Reaches.{records_ahead}
+use Rattle.kob_delivery_check.specs.Repeats.{records_of, repeats_of}
+use Rattle.kob_delivery_check.specs.declared.fate.Fate.{Fate}
+use Rattle.kob_delivery_check.specs.declared.printed.Found.{Found}
+use Rattle.kob_delivery_check.specs.declared.reach.Reach.{Reach}
+use Rattle.kob_delivery_check.specs.declared.reach.Stored.{Stored}
+use Rattle.kob_inbox.specs.Contents.{placed_intake}
+use Rattle.kob_inbox.specs.declared.inbox_row.InboxRow.{InboxRow}
+use Rattle.kob_outbox.specs.Contents.{first_after, stored_row}
+use Rattle.kob_outbox.specs.declared.event.Row.{Row}
+use Rattle.kob_router.specs.Line.{one_more}
+use Rattle.kob_scene_play.specs.Steps.{Consumer, Service}
+use Rattle.kob_scene_play.specs.declared.stage.PlayedConsumer.{PlayedConsumer}
+use Rattle.kob_scene_play.specs.declared.stage.PlayedService.{PlayedService}
+use Rattle.kob_scene_play.specs.declared.stage.Stage.{Stage}
+use Rattle.kob_shared.specs.declared.journal.Entry.{Entry}
+
+-- the consumer's partitions, with what they hold by its broker's journal
+abbrev pub reaches_of : List Entry → Consumer → List Reach
+reaches_of journal consumer =
+    map (reach_of journal consumer.fetcher) consumer.fetcher.subscription.assignment
+
+-- the records of events that the consumer has before it
+abbrev pub ahead_of : List Entry → Consumer → List Stored
+ahead_of journal consumer = records_ahead (reaches_of journal consumer)
+
+-- the records of events in its partitions that have an earlier record of the same event
+abbrev pub repeats_in : List Entry → Consumer → List Stored
+repeats_in journal consumer =
+    repeats_of (records_of consumer.fetcher.subscription.assignment (reaches_of journal consumer))
+
+-- where each event that the service recorded is: in the consumer's inbox, before the consumer, in
+-- the outbox after the mark, or in none of these
+abbrev pub AreFates : Service → Consumer → List Entry → List Fate → Type 0
+AreFates service consumer journal fates =
+    (taken : List InboxRow) × (waiting : List Row)
+    × (map placed_intake taken ≡ enumerate_from 1 consumer.inbox)
+    × (map stored_row waiting
+    ≡ first_after service.outbox.mark 4294967295 service.outbox.events)
+    × (fates ≡ fates_by taken (ahead_of journal consumer) waiting service.recorded)
+
+-- where each event is, and which records repeat one
+abbrev pub IsFound : Service → Consumer → List Entry → Found → Type 0
+IsFound service consumer journal found =
+    AreFates service consumer journal found.fates.items
+    × (found.repeats.items ≡ repeats_in journal consumer)
+
+abbrev pub IsCheck : Service → Consumer → List Entry → ℕ → List ℕ → Type 0
+IsCheck service consumer journal told text =
+    (found : Found)
+    × IsFound service consumer journal found
+    × (text ≡ check_text (one_more told) service.recorded found.fates.items found.repeats.items
+    consumer.fetcher.subscription.assignment)
+
+-- the answer about the service and the consumer at these places
+abbrev pub IsChecked : ℕ → ℕ → Stage → ℕ → List ℕ → Type 0
+IsChecked service consumer stage told text =
+    (sender : PlayedService) × (taker : PlayedConsumer)
+    × (slice_get stage.services.items service ≡ Some sender)
+    × (slice_get stage.consumers.items consumer ≡ Some taker)
+    × IsCheck sender.service taker.consumer stage.recorded.journal told text

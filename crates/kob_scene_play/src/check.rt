@@ -1,0 +1,126 @@
+//! Where each event of a service is, on its way to a consumer.
+
+ghost use Rattle.std.specs.Prelude.{◌≡◌, ◌++◌, IfOk, OnOk};
+ghost use Rattle.kob_delivery_check.specs.Printed.{check_text};
+ghost use Rattle.kob_router.specs.Line.{one_more};
+ghost use Rattle.kob_scene_play.specs.Checks.{AreFates, IsChecked, IsFound, ahead_of};
+ghost use Rattle.kob_scene_play.specs.Checks.{repeats_in};
+ghost use Rattle.kob_scene_play.specs.Steps.{Tells};
+
+use crate::consumer_worker::ConsumerWorker;
+use crate::fault::PlayFault;
+use crate::output::Output;
+use crate::service_worker::ServiceWorker;
+use crate::stage::Stage;
+use kob_delivery_check::{
+    Fate, Found, Stored, fates_of, print_check, reaches_by, records_ahead, records_of, repeats_of,
+};
+use kob_shared::Journal;
+use std::alloc::{AllocError, Global};
+
+/// Prints how many events of the service are in the consumer's inbox, how many wait and how many
+/// are lost; the first one that waits with where it does; each one that is lost; and each record of
+/// one of them in the consumer's partitions that has an earlier record.
+pub(crate) fn show_check(
+    alloc: Global,
+    stage: &mut Stage<'_>,
+    service: usize,
+    consumer: usize,
+    out: &mut Output,
+) -> Result<(), PlayFault>
+    ensures recorded { stage.new.recorded ≡ stage.old.recorded }
+    ensures services { stage.new.services.items ≡ stage.old.services.items }
+    ensures consumers { stage.new.consumers.items ≡ stage.old.consumers.items }
+    ensures done { OnOk result (Tells (IsChecked service consumer stage.old out.old.told)
+        out.old.text.items out.new.text.items) }
+    ensures told { OnOk result (out.new.told ≡ one_more out.old.told) }
+{
+    let Some(sender) = stage.services.get_mut(service) else {
+        return Err(PlayFault::NoWorker);
+    };
+    let Some(taker) = stage.consumers.get_mut(consumer) else {
+        return Err(PlayFault::NoWorker);
+    };
+    let journal = stage.recorded.journal();
+    let found = found_at(alloc, journal, &mut sender.service, &mut taker.consumer)?;
+    print(&sender.service, &taker.consumer, &found, out)?;
+    Ok(())
+}
+
+/// Where each event of the service is, and which records repeat an event.
+fn found_at(
+    alloc: Global,
+    journal: &Journal,
+    sender: &mut ServiceWorker<'_>,
+    taker: &mut ConsumerWorker,
+) -> Result<Found, PlayFault>
+    ensures sender { sender.new ≡ sender.old }
+    ensures taker { taker.new ≡ taker.old }
+    ensures found { IfOk result (λ found. IsFound sender.old taker.old journal.now found) }
+{
+    let repeats = repeats_in(alloc, journal, taker)?;
+    let fates = fates_at(alloc, journal, sender, taker)?;
+    Ok(Found { fates, repeats })
+}
+
+/// Where each event of the service is, in the order in which they were recorded.
+fn fates_at(
+    alloc: Global,
+    journal: &Journal,
+    sender: &mut ServiceWorker<'_>,
+    taker: &mut ConsumerWorker,
+) -> Result<Vec<Fate>, PlayFault>
+    ensures sender { sender.new ≡ sender.old }
+    ensures taker { taker.new ≡ taker.old }
+    ensures fates { IfOk result (λ fates. AreFates sender.old taker.old journal.now fates.items) }
+{
+    let mark = sender.mark()?;
+    let waiting = sender.rows_after(mark, u32::MAX)?;
+    let taken = taker.rows()?;
+    let ahead = ahead_of(alloc, journal, taker)?;
+    Ok(fates_of(alloc, sender.recorded(), &taken, &ahead, &waiting)?)
+}
+
+/// The records of events that a consumer has before it.
+fn ahead_of(
+    alloc: Global,
+    journal: &Journal,
+    taker: &ConsumerWorker,
+) -> Result<Vec<Stored>, AllocError>
+    ensures { IfOk result (λ ahead. ahead.items ≡ ahead_of journal.now taker.now) }
+{
+    let reaches = reaches_by(alloc, journal, taker.consumer())?;
+    records_ahead(alloc, &reaches)
+}
+
+/// The records of events in a consumer's partitions that have an earlier record of the same event.
+fn repeats_in(
+    alloc: Global,
+    journal: &Journal,
+    taker: &ConsumerWorker,
+) -> Result<Vec<Stored>, AllocError>
+    ensures { IfOk result (λ repeats. repeats.items ≡ repeats_in journal.now taker.now) }
+{
+    let reaches = reaches_by(alloc, journal, taker.consumer())?;
+    let assignment = taker.subscription().assignment.as_slice();
+    let records = records_of(alloc, assignment, &reaches)?;
+    repeats_of(alloc, &records)
+}
+
+fn print(
+    sender: &ServiceWorker<'_>,
+    taker: &ConsumerWorker,
+    found: &Found,
+    out: &mut Output,
+) -> Result<(), AllocError>
+    ensures printed { OnOk result (out.new.text.items ≡ out.old.text.items
+        ++ check_text (one_more out.old.told) sender.now.recorded found.now.fates.items
+        found.now.repeats.items taker.now.fetcher.subscription.assignment) }
+    ensures told { OnOk result (out.new.told ≡ one_more out.old.told) }
+{
+    let number = out.number();
+    let assignment = taker.subscription().assignment.as_slice();
+    print_check(&mut out.text, number, sender.recorded(), found, assignment)?;
+    out.tell();
+    Ok(())
+}
