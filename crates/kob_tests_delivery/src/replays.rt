@@ -64,7 +64,7 @@ fn holds(alloc: Global) -> Option<bool> {
     let entries = entries(alloc)?;
     let both = replayed(alloc, 2, &entries);
     let too_many = replayed(alloc, 1, &entries);
-    let second_alone = replayed(alloc, 2, &entries[1..]);
+    let second_alone = replayed(alloc, 2, entries.get(1..).unwrap_or(&[]));
     drop(entries);
     let refused = Some(Err(ReplayFault::Differs { place: 0 }));
     Some(
