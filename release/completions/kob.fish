@@ -13,5 +13,6 @@ complete -c kob -n '__fish_seen_subcommand_from policy' -l questions -r -d 'ques
 complete -c kob -n '__fish_seen_subcommand_from policy' -l topics -r -d 'names of topics'
 complete -c kob -n '__fish_seen_subcommand_from policy' -l before -r -d 'the bindings before'
 complete -c kob -n '__fish_seen_subcommand_from policy' -l after -r -d 'the bindings after'
+complete -c kob -n '__fish_seen_subcommand_from policy' -l kafka -r -d 'the release of the brokers'
 complete -c kob -n '__fish_seen_subcommand_from policy' -l skip -d 'continues after what is left out'
 complete -c kob -n '__fish_seen_subcommand_from policy' -l next -d 'begins another list'
