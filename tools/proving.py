@@ -45,12 +45,13 @@ def command(crate, kept, functions=()):
     return ["rattle", "check", *told, *(word for it in functions for word in ("--only", it))]
 
 
-def program(folder, crate, named):
-    """Proves a program that stands in a folder of its own over the libraries that it names, and gives its file as LLVM builds it. Beside
-    it, with the ending .by-rattle, is what Rattle's own compiler makes of it: there each function can be told from its frames."""
+def program(folder, crate, named, backends=("llvm", "rattle")):
+    """Proves a program that stands in a folder of its own over the libraries that it names, and gives its file as the first of these compilers
+    builds it. What Rattle's own compiler makes beside LLVM has the ending .by-rattle: there each function can be told from its frames."""
     told, for_target = words(crate, "src/main.rt", named), ["--toolchain", f"{kit()}/toolchain"]
     steps = [["rattle", "check", *told, "--logic-built", f"{kit()}/logic_built", "-o", "checked"]]
-    for backend, ending in (("llvm", ""), ("rattle", ".by-rattle")):
+    for backend in backends:
+        ending = "" if backend == backends[0] else ".by-rattle"
         made = f"{crate}{ending}.o"
         steps += [["rattle", "build", *told, "--crate-checked", "checked", *for_target, "--backend", backend, "-o", made]]
         linked = ["rattle-link", "--target", "x86_64-unknown-linux-gnu", *for_target, "-o", crate + ending, made]

@@ -8,9 +8,9 @@ _kob() {
     elif [ "$task" = play ] && [[ $word == -* ]]; then
         mapfile -t COMPREPLY < <(compgen -W "--trace --json --help" -- "$word")
     elif [ "$task" = export ] && [[ $word == -* ]]; then
-        mapfile -t COMPREPLY < <(compgen -W "--help" -- "$word")
+        mapfile -t COMPREPLY < <(compgen -W "--connect --table --help" -- "$word")
     elif [ "$task" = policy ] && [[ $word == -* ]]; then
-        mapfile -t COMPREPLY < <(compgen -W "--policy --questions --topics --before --after --kafka --skip --next --help" -- "$word")
+        mapfile -t COMPREPLY < <(compgen -W "--policy --questions --topics --before --after --commands --kafka --skip --next --help" -- "$word")
     else
         mapfile -t COMPREPLY < <(compgen -f -- "$word")
     fi

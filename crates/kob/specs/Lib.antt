@@ -1,3 +1,5 @@
+pub mod Commands
+pub mod Connect
 pub mod Ending
 pub mod Export
 pub mod Input

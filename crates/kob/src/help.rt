@@ -5,7 +5,8 @@ pub static HELP: &str = "\
 Kafka's access rules and the transactional outbox, tried with a proved broker.
 
 usage: kob play [OPTION]... [FILE]...  plays scenes and scripts; - or none: standard input
-       kob export [FILE]...            prints the final state of scenes for Kafka and Debezium
+       kob export [OPTION]... [FILE]...
+                                       prints the final state of scenes for Kafka and Debezium
        kob policy [OPTION]... [QUESTION]...
                                        answers questions about access rules
        kob help [SUBJECT]              prints a page: play, export, policy or scene
@@ -37,9 +38,12 @@ pub static HELP_EXPORT: &str = "\
 Prints the final state of scenes: the settings, topics and bindings that the requests leave, as
 server.properties, kafka-topics and kafka-acls, and the route of each service for Debezium.
 
-usage: kob export [FILE]...
+usage: kob export [--connect DATABASE | --table DATABASE] [FILE]...
 
   FILE              exports FILE; - or none: standard input. With several, == FILE comes before each
+  --connect DATABASE    prints a document for Kafka Connect for each service, and nothing else;
+                    DATABASE is postgresql or mysql
+  --table DATABASE  prints the CREATE TABLE of the outbox table, and nothing else
   -h, --help        prints this page
 
 Status: 0 all was exported, 1 a fault, or a read or a write failed, 2 out of memory.
@@ -58,14 +62,17 @@ usage: kob policy [FILE]... [--skip] [QUESTION]...
   --topics FILE     names of topics, one on a line; repeated
   --before FILE     prints what changes from these bindings ..
   --after FILE      .. to these; questions are answered by these; --policy counts for both
+  --commands        prints the lines of kafka-acls that lead from --before to --after, and nothing
+                    else: no right that both grant is missing on the way
   --kafka VERSION   the release of the brokers, as 2.7; the newest if none is given
   --skip            continues after bindings that are left out
   --next            begins another list with its questions; == FILE comes before each
   -h, --help        prints this page
 
 A list has lines of kafka-acls --list (1.x, 2.x and 3.x), kafka-acls --add .., lines
-create-acl and acl of scripts, super USER, everyone on or off, kafka VERSION, and the lines of a
-broker's server.properties. Lines that begin with # are skipped.
+create-acl and acl of scripts, rows of CSV with seven columns, super USER, everyone on or off,
+kafka VERSION, and the lines of a broker's server.properties; or it is what confluent kafka acl list
+-o json prints. Lines that begin with # are skipped.
 
 Questions, each one word of the command line or one line:
   may PRINCIPAL HOST OPERATION RESOURCE NAME
@@ -75,8 +82,10 @@ Questions, each one word of the command line or one line:
   expect yes|no may ..                  the same, and whether it is as expected
   who OPERATION RESOURCE NAME           super users, and each principal and host that is granted
   who OPERATION RESOURCE NAME HOST      yes or no for each principal that a binding names
+  who OPERATION RESOURCE prefix NAME    who may on all names, or on some, that begin so
   who produce TOPIC                     as who Write Topic TOPIC
   who consume TOPIC GROUP               who may read the topic, then who may read the group
+  rights PRINCIPAL [HOST]               what it may do, by names, and by hosts without a HOST
   sees PRINCIPAL HOST                   the topics that it may describe
   topic NAME                            a topic for sees, in place of those of the list
   summary                               how many of each there are; asked if nothing else is
@@ -109,7 +118,8 @@ hexadecimal digits stand for a byte. A line that begins with # is a comment.
     NAME tick [lose-request|lose-reply]     NAME run    NAME restart    NAME inbox
   journal               every request that was served, with its reply
   law SERVICE CONSUMER  whether the laws of delivery apply to the two
-  check SERVICE CONSUMER    which events are delivered, waiting, lost or doubled
+  check SERVICE CONSUMER    which events are delivered, waiting, lost or doubled, and by what
+  expect SERVICE CONSUMER delivered all|lost ID|order       status 3 if it is not so
 ";
 
 /// The page on a subject, the general one for none.

@@ -1,6 +1,8 @@
 //! Plays scenes and scripts, exports what they end with, and answers questions about access rules.
 #![tactic(auto)]
 
+mod commands;
+mod connect;
 mod ending;
 mod export;
 mod help;
@@ -8,9 +10,12 @@ mod input;
 mod options;
 mod play;
 mod policy;
+mod policy_answers;
 mod policy_options;
 mod report;
 mod running;
+mod source;
+mod stages;
 mod standing;
 mod version;
 mod watched;

@@ -1,5 +1,6 @@
 //! The words of the command line, read by `clap`.
 
+use crate::connect::Database;
 use crate::help::{HELP, HELP_EXPORT, HELP_PLAY};
 use crate::policy_options::command as policy_command;
 use clap::{Arg, ArgAction, ArgMatches, Command, Error};
@@ -12,14 +13,28 @@ pub enum Task {
     /// Plays scenes and scripts, and writes the answers in a form that is asked for; without a file,
     /// standard input.
     Play(Option<Form>, Vec<String>),
-    /// Exports the final state of scenes.
-    Export(Vec<String>),
+    /// Exports the final state of scenes, or their services, in a form that is asked for.
+    Export(ExportForm, Vec<String>),
     /// Answers questions about lists of bindings, by the words after `policy`.
     Policy,
     /// Prints a page of help, the general one without a subject.
     Help(Option<String>),
     Version,
 }
+
+/// What an export prints.
+#[derive(Clone, Copy, Debug, PartialEq, Eq)]
+pub enum ExportForm {
+    /// The final state, as commands and properties of Kafka and Debezium.
+    Commands,
+    /// A document for Kafka Connect for each service.
+    Connect(Database),
+    /// The statement that creates the outbox table.
+    Table(Database),
+}
+
+/// The names of databases.
+static DATABASES: [&str; 2] = ["postgresql", "mysql"];
 
 /// The task that the words name, the first of which is the program's name. The error is what is
 /// wrong with the words, or a page of help that they ask for.
@@ -43,7 +58,10 @@ fn command<'a>(alloc: Global) -> Result<Command<'a>, AllocError> {
     let played = played.arg(flag(alloc, "trace"))?;
     let played = played.arg(flag(alloc, "json").conflicts_with("trace")?)?;
     let made = made.subcommand(played)?;
-    let made = made.subcommand(files_command(alloc, "export", HELP_EXPORT)?)?;
+    let exported = files_command(alloc, "export", HELP_EXPORT)?;
+    let exported = exported.arg(database(alloc, "connect"))?;
+    let exported = exported.arg(database(alloc, "table").conflicts_with("connect")?)?;
+    let made = made.subcommand(exported)?;
     let made = made.subcommand(policy_command(alloc)?)?;
     let subject = Arg::new(alloc, "SUBJECT").action(ArgAction::Set);
     made.subcommand(
@@ -55,6 +73,14 @@ fn command<'a>(alloc: Global) -> Result<Command<'a>, AllocError> {
 
 fn flag<'a>(alloc: Global, name: &'a str) -> Arg<'a> {
     Arg::new(alloc, name).long(name).action(ArgAction::SetTrue)
+}
+
+/// An option that takes the name of a database.
+fn database<'a>(alloc: Global, name: &'a str) -> Arg<'a> {
+    Arg::new(alloc, name)
+        .long(name)
+        .action(ArgAction::Set)
+        .value_parser(DATABASES.as_slice())
 }
 
 /// A command that takes files.
@@ -74,7 +100,9 @@ fn files_command<'a>(
 fn task_in(alloc: Global, matches: &ArgMatches<'_>) -> Result<Task, AllocError> {
     match matches.subcommand() {
         Some(("play", used)) => Ok(Task::Play(form_in(used), values_of(alloc, used, "FILE")?)),
-        Some(("export", used)) => Ok(Task::Export(values_of(alloc, used, "FILE")?)),
+        Some(("export", used)) => {
+            Ok(Task::Export(export_form_in(used), values_of(alloc, used, "FILE")?))
+        }
         Some(("policy", _)) => Ok(Task::Policy),
         Some((_, used)) => match used.get_str("SUBJECT") {
             Some(subject) => Ok(Task::Help(Some(String::from_str(alloc, subject)?))),
@@ -93,6 +121,25 @@ fn form_in(matches: &ArgMatches<'_>) -> Option<Form> {
         Some(Form::Trace)
     } else {
         None
+    }
+}
+
+/// What an export is to print.
+fn export_form_in(matches: &ArgMatches<'_>) -> ExportForm {
+    if let Some(name) = matches.get_str("connect") {
+        ExportForm::Connect(database_named(name))
+    } else if let Some(name) = matches.get_str("table") {
+        ExportForm::Table(database_named(name))
+    } else {
+        ExportForm::Commands
+    }
+}
+
+fn database_named(name: &str) -> Database {
+    if name == "mysql" {
+        Database::Mysql
+    } else {
+        Database::Postgresql
     }
 }
 

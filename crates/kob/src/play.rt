@@ -1,15 +1,20 @@
 //! Texts that are played or exported.
 
+ghost use Rattle.std.specs.Prelude.{◌≡◌, ◌↔◌, ◌++◌, IsOk, OnOk};
+ghost use Rattle.kob.specs.Connect.{export_by};
+
+use crate::connect::{push_connects, table_of};
 use crate::ending::{Ending, ending_of_play};
 use crate::export::export_scene;
 use crate::input::{Kind, text_of};
+use crate::options::ExportForm;
 use crate::report;
 use crate::watched::Watched;
 use kob_broker::OpenFault;
-use kob_mistakes::mistake_in;
+use kob_mistakes::{mistake_in, quoted_name};
 use kob_scene_play::{Ended, Form, PlayFault, play_text, push_json_string};
 use kob_scene_text::{Scene, SceneError, SceneFault, print_scene_fault, read_scene};
-use std::alloc::AllocError;
+use std::alloc::{AllocError, Global};
 use std::io::{self, Write};
 use std::rt::{Clock, Files};
 
@@ -18,7 +23,7 @@ use std::rt::{Clock, Files};
 pub enum Work {
     /// Plays it. The answers have this form, and long work is reported if it is watched.
     Play { form: Form, is_watched: bool },
-    Export,
+    Export(ExportForm),
 }
 
 /// Does the work on each file, or on standard input if none is named. Returns the worst end.
@@ -103,7 +108,7 @@ fn do_text<R: AllocGlobal + Clock + Print + Eprint>(
             let played = play_text(rt.alloc(), form, text, &mut writer);
             report_play(rt, name, text, played)
         }
-        Work::Export => export(rt, name, text),
+        Work::Export(form) => export(rt, form, name, text),
     }
 }
 
@@ -115,11 +120,20 @@ fn report_play<R: AllocGlobal + Eprint>(
     played: Result<Ended, PlayFault>,
 ) -> Ending {
     match played {
-        Ok(Ended::Clean) => {}
+        Ok(Ended::Clean | Ended::Unmet) => say_quotes(rt, name, text),
         Ok(Ended::Fault(fault)) => say_fault(rt, name, text, fault),
         Ok(Ended::Stopped(fault)) | Err(fault) => report::stopped(rt, name, fault),
     }
     ending_of_play(played)
+}
+
+/// Says which name has quotes that a shell would have removed.
+fn say_quotes(rt: &impl Eprint, name: &str, text: &[u8]) {
+    if let Some((line, word)) = quoted_name(text) {
+        if let Ok(word) = str::from_utf8(word) {
+            report::quoted(rt, name, line, word);
+        }
+    }
 }
 
 /// Says which line has a fault, which word of it is wrong, and what was expected.
@@ -130,20 +144,58 @@ fn say_fault<R: AllocGlobal + Eprint>(rt: &R, name: &str, text: &[u8], fault: Sc
     }
 }
 
-fn export<R: AllocGlobal + Print + Eprint>(rt: &R, name: &str, text: &[u8]) -> Ending {
+fn export<R: AllocGlobal + Print + Eprint>(
+    rt: &R,
+    form: ExportForm,
+    name: &str,
+    text: &[u8],
+) -> Ending {
     match read_scene(rt.alloc(), text) {
-        Ok(scene) => export_read(rt, name, &scene),
+        Ok(scene) => export_read(rt, form, name, &scene),
         Err(SceneError::Fault(fault)) => export_fault(rt, name, text, fault),
         Err(SceneError::Memory(_)) => report::out_of_memory(rt, name),
     }
 }
 
-fn export_read<R: AllocGlobal + Print + Eprint>(rt: &R, name: &str, scene: &Scene) -> Ending {
+fn export_read<R: AllocGlobal + Print + Eprint>(
+    rt: &R,
+    form: ExportForm,
+    name: &str,
+    scene: &Scene,
+) -> Ending {
     let mut out = Vec::new(rt.alloc());
-    match export_scene(rt.alloc(), &mut out, scene) {
+    match push_export(rt.alloc(), &mut out, form, scene) {
         Ok(()) => write(rt, name, &out),
         Err(OpenFault::Memory(_)) => report::out_of_memory(rt, name),
         Err(OpenFault::TooMany) => report::too_many(rt),
+    }
+}
+
+fn or_memory(done: Result<(), AllocError>) -> Result<(), OpenFault>
+    ensures { IsOk result ↔ IsOk done }
+{
+    match done {
+        Ok(()) => Ok(()),
+        Err(refused) => Err(OpenFault::Memory(refused)),
+    }
+}
+
+/// What an export prints.
+fn push_export(
+    alloc: Global,
+    out: &mut Vec<u8>,
+    form: ExportForm,
+    scene: &Scene,
+) -> Result<(), OpenFault>
+{
+    match form {
+        ExportForm::Commands => export_scene(alloc, out, scene),
+        ExportForm::Connect(database) => {
+            or_memory(push_connects(out, database, &scene.services))
+        }
+        ExportForm::Table(database) => {
+            or_memory(out.extend_from_slice(table_of(database).as_bytes()))
+        }
     }
 }
 

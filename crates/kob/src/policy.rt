@@ -1,35 +1,24 @@
 //! Questions about lists of bindings: one list with its questions, or two lists and what changes
 //! from one to the other.
 
-ghost use Rattle.std.specs.Prelude.{◌≡◌, ◌++◌, IfOk, OnOk};
-ghost use Rattle.kob.specs.Ending.{ending_of_answers, ending_of_changes};
-ghost use Rattle.kob_policy_text.specs.Access.{any_fails};
-ghost use Rattle.kob_policy_text.specs.Review.{answers_text, changes_text};
-
 use crate::ending::Ending;
 use crate::input::{Kind, text_of};
+use crate::policy_answers::{lead, push_answers, push_review};
 use crate::policy_options::{Options, parts_of};
 use crate::report;
 use crate::running::say;
+use crate::source::{Source, questions_in, say_fault};
+use crate::stages::Stages;
 use kob_authorizer::CreateFault;
-use kob_mistakes::{Lines, line_mistake};
+use kob_mistakes::{Lines, begins_question};
 use kob_names::Text;
 use kob_policy_text::{
-    Judge, Policy, Questions, any_fails, print_answers, print_changes, print_omissions, read_file,
-    read_questions, read_topics,
+    Judge, Policy, Questions, print_omissions, read_file, read_questions, read_topics,
 };
-use kob_script::{Fault, ScriptError, print_fault};
-use std::alloc::{AllocError, Global};
+use kob_script::{ScriptError, print_fault};
+use std::alloc::AllocError;
 use std::io::{self, Write};
-use std::rt::Files;
-
-/// A text with its name, and what it has on its lines.
-#[derive(Clone, Copy)]
-struct Source<'a> {
-    name: &'a str,
-    text: &'a [u8],
-    lines: Lines,
-}
+use std::rt::{Clock, Files};
 
 /// Why no more questions of a part are answered: how the part ends, which was reported unless it is
 /// out of memory.
@@ -43,22 +32,28 @@ impl From<AllocError> for Stop {
 }
 
 /// Answers the words after `policy`. `--next` ends a list with its questions and begins another. A
-/// fault ends its own part. Returns the worst end.
-pub fn answer<R: AllocGlobal + Files + Input + Print + Eprint>(rt: &R, words: &[String]) -> Ending {
+/// fault ends its own part. Long work is reported if `is_watched`. Returns the worst end.
+pub fn answer<R: AllocGlobal + Clock + Files + Input + Print + Eprint>(
+    rt: &R,
+    words: &[String],
+    is_watched: bool,
+) -> Ending {
     match parts_of(rt.alloc(), words) {
-        Ok(parts) => answer_parts(rt, &parts),
+        Ok(parts) => answer_parts(rt, &parts, is_watched),
         Err(refused) => say(rt, &refused),
     }
 }
 
-fn answer_parts<R: AllocGlobal + Files + Input + Print + Eprint>(
+fn answer_parts<R: AllocGlobal + Clock + Files + Input + Print + Eprint>(
     rt: &R,
     parts: &[Options],
+    is_watched: bool,
 ) -> Ending {
+    let stages = Stages::begin(rt, is_watched);
     let mut out = Vec::new(rt.alloc());
     let mut ending = Ending::Whole;
     for part in parts {
-        let ended = print_part(rt, &mut out, part, parts.len() > 1);
+        let ended = print_part(rt, stages, &mut out, part, parts.len() > 1);
         ending = ending.worse(match ended {
             Ok(ending) | Err(Stop(ending)) => reported(rt, ending),
         });
@@ -76,8 +71,9 @@ fn reported(rt: &impl Eprint, ending: Ending) -> Ending {
     }
 }
 
-fn print_part<R: AllocGlobal + Files + Input + Eprint>(
+fn print_part<R: AllocGlobal + Clock + Files + Input + Eprint>(
     rt: &R,
+    stages: Stages,
     out: &mut Vec<u8>,
     options: &Options,
     headed: bool,
@@ -86,7 +82,7 @@ fn print_part<R: AllocGlobal + Files + Input + Eprint>(
         push_heading(out, options)?;
     }
     let mut answers = Vec::new(rt.alloc());
-    let ended = answer_part(rt, &mut answers, options);
+    let ended = answer_part(rt, stages, &mut answers, options);
     out.extend_from_slice(&answers)?;
     ended
 }
@@ -107,17 +103,18 @@ fn push_heading(out: &mut Vec<u8>, options: &Options) -> Result<(), AllocError> 
 }
 
 /// Answers the questions of a part.
-fn answer_part<R: AllocGlobal + Files + Input + Eprint>(
+fn answer_part<R: AllocGlobal + Clock + Files + Input + Eprint>(
     rt: &R,
+    stages: Stages,
     out: &mut Vec<u8>,
     options: &Options,
 ) -> Result<Ending, Stop> {
     let mut questions = Questions::new(rt.alloc());
     push_questions(rt, out, &mut questions, options)?;
     if options.before.is_empty() {
-        answer_by_one(rt, out, options, &questions)
+        answer_by_one(rt, stages, out, options, &questions)
     } else {
-        review(rt, out, options, &questions)
+        review(rt, stages, out, options, &questions)
     }
 }
 
@@ -152,19 +149,17 @@ fn push_questions<R: AllocGlobal + Files + Input + Eprint>(
     Ok(())
 }
 
-fn questions_in<'a>(name: &'a str, text: &'a [u8]) -> Source<'a> {
-    Source {
-        name,
-        text,
-        lines: Lines::Questions,
-    }
-}
-
 /// The text of a list, whose fault was reported.
 fn list_of<R: AllocGlobal + Files + Input + Eprint>(rt: &R, file: &str) -> Result<Vec<u8>, Stop> {
     match text_of(rt, Kind::List, file) {
         Ok(text) => Ok(text),
-        Err(fault) => Err(Stop(report::unread(rt, file, &fault))),
+        Err(fault) => {
+            let ending = report::unread(rt, file, &fault);
+            if begins_question(file.as_bytes()) {
+                report::unquoted(rt, file);
+            }
+            Err(Stop(ending))
+        }
     }
 }
 
@@ -190,25 +185,11 @@ fn unless_fault<R: AllocGlobal + Eprint>(
     }
 }
 
-fn say_fault<R: AllocGlobal + Eprint>(rt: &R, source: &Source<'_>, fault: Fault) {
-    let name = source.name;
-    let _ = eprintln!(rt; "kob: {name}: {fault}");
-    let made = line_mistake(
-        rt.alloc(),
-        source.text,
-        fault.line,
-        fault.kind,
-        source.lines,
-    );
-    if let Ok(mistake) = made {
-        let _ = report::mistake(rt, &mistake);
-    }
-}
-
 /// The policy of the files, in force. Prints what is left out of it, which is a fault without
 /// `--skip`.
-fn judge_of<R: AllocGlobal + Files + Input + Eprint>(
+fn judge_of<R: AllocGlobal + Clock + Files + Input + Eprint>(
     rt: &R,
+    stages: Stages,
     out: &mut Vec<u8>,
     options: &Options,
     files: &[&[String]],
@@ -216,14 +197,15 @@ fn judge_of<R: AllocGlobal + Files + Input + Eprint>(
     let mut policy = Policy::new(rt.alloc());
     for group in files {
         for file in *group {
-            read_list(rt, out, &mut policy, file.as_str())?;
+            read_list(rt, stages, out, &mut policy, file.as_str())?;
         }
     }
-    open_judge(rt, out, options, policy)
+    open_judge(rt, stages, out, options, policy)
 }
 
-fn open_judge<R: AllocGlobal + Eprint>(
+fn open_judge<R: AllocGlobal + Clock + Eprint>(
     rt: &R,
+    stages: Stages,
     out: &mut Vec<u8>,
     options: &Options,
     mut policy: Policy,
@@ -232,8 +214,10 @@ fn open_judge<R: AllocGlobal + Eprint>(
     print_omissions(out, &policy)?;
     report::skipped(rt, policy.skipped().len());
     if !options.skip && !policy.omissions().is_empty() {
+        report::left_out(rt, policy.omissions().len());
         return Err(Stop(Ending::Failed));
     }
+    stages.open(rt, policy.bindings().len());
     match Judge::open(rt.alloc(), policy) {
         Ok(judge) => Ok(judge),
         Err(CreateFault::Memory(_)) => Err(Stop(Ending::OutOfMemory)),
@@ -242,13 +226,15 @@ fn open_judge<R: AllocGlobal + Eprint>(
 }
 
 /// Reads a file of a list after those that were read before.
-fn read_list<R: AllocGlobal + Files + Input + Eprint>(
+fn read_list<R: AllocGlobal + Clock + Files + Input + Eprint>(
     rt: &R,
+    stages: Stages,
     out: &mut Vec<u8>,
     policy: &mut Policy,
     file: &str,
 ) -> Result<(), Stop> {
     let text = list_of(rt, file)?;
+    stages.read(rt, file, text.len(), policy.bindings().len());
     read_text(rt, out, policy, file, &text)
 }
 
@@ -283,95 +269,98 @@ fn read_releases<R: AllocGlobal + Eprint>(
     Ok(())
 }
 
-fn answer_by_one<R: AllocGlobal + Files + Input + Eprint>(
+fn answer_by_one<R: AllocGlobal + Clock + Files + Input + Eprint>(
     rt: &R,
+    stages: Stages,
     out: &mut Vec<u8>,
     options: &Options,
     questions: &Questions,
 ) -> Result<Ending, Stop> {
-    let judge = if options.policy.is_empty() {
-        let mut policy = Policy::new(rt.alloc());
-        read_list(rt, out, &mut policy, "-")?;
-        open_judge(rt, out, options, policy)?
-    } else {
-        judge_of(rt, out, options, &[&options.policy])?
-    };
-    Ok(push_answers(rt.alloc(), out, &judge, questions)?)
+    let judge = listed(rt, stages, out, options)?;
+    let answered = answer_about(rt, stages, out, questions, &judge);
+    drop(judge);
+    Ok(answered?)
 }
 
-/// The answers, which end with `Differs` if one of them is not as expected.
-fn push_answers(
-    alloc: Global,
+fn answer_about<R: AllocGlobal + Clock + Eprint>(
+    rt: &R,
+    stages: Stages,
     out: &mut Vec<u8>,
-    judge: &Judge,
     questions: &Questions,
-) -> Result<Ending, AllocError>
-    ensures printed { OnOk result (out.new.items ≡ out.old.items
-        ++ answers_text judge.now questions.now.topics 1 questions.now.asked) }
-    ensures ending { IfOk result (λ ending. ending
-        ≡ ending_of_answers (any_fails judge.now questions.now.asked)) }
-{
-    print_answers(alloc, out, judge, questions.topics(), questions.asked())?;
-    if any_fails(judge, questions.asked()) {
-        Ok(Ending::Differs)
+    judge: &Judge,
+) -> Result<Ending, AllocError> {
+    let bindings = judge.policy().bindings().len();
+    stages.answer(rt, questions.asked().len(), bindings);
+    push_answers(rt.alloc(), out, judge, questions)
+}
+
+/// The list of the options, in force; without one, standard input.
+fn listed<R: AllocGlobal + Clock + Files + Input + Eprint>(
+    rt: &R,
+    stages: Stages,
+    out: &mut Vec<u8>,
+    options: &Options,
+) -> Result<Judge, Stop> {
+    if options.policy.is_empty() {
+        judge_of_input(rt, stages, out, options)
     } else {
-        Ok(Ending::Whole)
+        judge_of(rt, stages, out, options, &[&options.policy])
+    }
+}
+
+fn judge_of_input<R: AllocGlobal + Clock + Files + Input + Eprint>(
+    rt: &R,
+    stages: Stages,
+    out: &mut Vec<u8>,
+    options: &Options,
+) -> Result<Judge, Stop> {
+    let mut policy = Policy::new(rt.alloc());
+    match read_list(rt, stages, out, &mut policy, "-") {
+        Ok(()) => open_judge(rt, stages, out, options, policy),
+        Err(stop) => {
+            drop(policy);
+            Err(stop)
+        }
     }
 }
 
 /// What changes, and then the answers of the second list. The lists differ if anything changes.
 /// Both lists are dropped by `drop`, since a list that is dropped at `?` makes a proof long.
-fn review<R: AllocGlobal + Files + Input + Eprint>(
+fn review<R: AllocGlobal + Clock + Files + Input + Eprint>(
     rt: &R,
+    stages: Stages,
     out: &mut Vec<u8>,
     options: &Options,
     questions: &Questions,
 ) -> Result<Ending, Stop> {
-    let before = judge_of(rt, out, options, &[&options.policy, &options.before])?;
-    let reviewed = review_from(rt, out, options, questions, &before);
+    let before = judge_of(
+        rt,
+        stages,
+        out,
+        options,
+        &[&options.policy, &options.before],
+    )?;
+    let reviewed = review_from(rt, stages, out, options, questions, &before);
     drop(before);
     reviewed
 }
 
-fn review_from<R: AllocGlobal + Files + Input + Eprint>(
+fn review_from<R: AllocGlobal + Clock + Files + Input + Eprint>(
     rt: &R,
+    stages: Stages,
     out: &mut Vec<u8>,
     options: &Options,
     questions: &Questions,
     before: &Judge,
 ) -> Result<Ending, Stop> {
-    let after = judge_of(rt, out, options, &[&options.policy, &options.after])?;
-    let reviewed = push_review(rt.alloc(), out, questions, before, &after);
+    let after = judge_of(rt, stages, out, options, &[&options.policy, &options.after])?;
+    let bindings = after.policy().bindings().len();
+    stages.compare(rt, before.policy().bindings().len(), bindings);
+    let reviewed = if options.commands {
+        lead(rt, out, questions, before, &after)
+    } else {
+        push_review(rt.alloc(), out, questions, before, &after)
+    };
     drop(after);
     Ok(reviewed?)
-}
-
-fn push_review(
-    alloc: Global,
-    out: &mut Vec<u8>,
-    questions: &Questions,
-    before: &Judge,
-    after: &Judge,
-) -> Result<Ending, AllocError> {
-    let ending = push_changes(alloc, out, before, after)?;
-    Ok(ending.worse(push_answers(alloc, out, after, questions)?))
-}
-
-fn push_changes(
-    alloc: Global,
-    out: &mut Vec<u8>,
-    before: &Judge,
-    after: &Judge,
-) -> Result<Ending, AllocError>
-    ensures printed { OnOk result (out.new.items ≡ out.old.items ++ changes_text before.now after.now) }
-    ensures ending { IfOk result (λ ending. ending
-        ≡ ending_of_changes (changes_text before.now after.now)) }
-{
-    let kept = out.len();
-    print_changes(alloc, out, before, after)?;
-    if out.len() == kept {
-        Ok(Ending::Whole)
-    } else {
-        Ok(Ending::Differs)
-    }
 }

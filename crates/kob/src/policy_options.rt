@@ -18,6 +18,8 @@ pub struct Options {
     /// The releases of the brokers, of which the last counts.
     pub kafka: Vec<String>,
     pub skip: bool,
+    /// The commands that lead from `before` to `after` are printed, and nothing else.
+    pub commands: bool,
 }
 
 /// The options of `policy`.
@@ -34,16 +36,22 @@ pub fn command<'a>(alloc: Global) -> Result<Command<'a>, AllocError> {
             .value_name("VERSION")
             .action(ArgAction::Append),
     )?;
+    made = made.arg(flag(alloc, "skip"))?;
     made = made.arg(
-        Arg::new(alloc, "skip")
-            .long("skip")
-            .action(ArgAction::SetTrue),
+        flag(alloc, "commands")
+            .requires_arg("before")?
+            .conflicts_with("questions")?
+            .conflicts_with("topics")?,
     )?;
     made.arg(
         Arg::new(alloc, "QUESTION")
             .num_args(0..)
             .action(ArgAction::Append),
     )
+}
+
+fn flag<'a>(alloc: Global, name: &'a str) -> Arg<'a> {
+    Arg::new(alloc, name).long(name).action(ArgAction::SetTrue)
 }
 
 /// An option that is given any number of times, each with the name of a file.
@@ -83,6 +91,7 @@ fn options_in(alloc: Global, matches: &ArgMatches<'_>) -> Result<Options, AllocE
         kafka: values_of(alloc, matches, "kafka")?,
         words: Vec::new(alloc),
         skip: matches.get_flag("skip"),
+        commands: matches.get_flag("commands"),
     };
     for word in values_of(alloc, matches, "QUESTION")? {
         if is_question(word.as_str()) {

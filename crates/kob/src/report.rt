@@ -32,6 +32,11 @@ fn ending_of(error: &io::Error) -> Ending {
     }
 }
 
+/// A name of a scene with quotes, which is no fault.
+pub fn quoted(rt: &impl Eprint, name: &str, line: u64, word: &str) {
+    let _ = eprintln!(rt; "kob: {name}: line {line}: quotes are a part of the name {word}");
+}
+
 /// A scene that stopped.
 pub fn stopped(rt: &impl Eprint, name: &str, fault: PlayFault) {
     let _ = eprintln!(rt; "kob: {name}: {fault}");
@@ -42,6 +47,37 @@ pub fn skipped(rt: &impl Eprint, count: usize) {
     if count > 0 {
         let _ = eprintln!(rt; "kob: skipped lines that hold no access rule: {count}");
     }
+}
+
+/// Bindings that were left out, for which no question is answered.
+pub fn left_out(rt: &impl Eprint, count: usize) {
+    let _ = eprintln!(rt; "kob: bindings left out: {count}; --skip answers without them");
+}
+
+/// A file that was not found, whose name begins a question.
+pub fn unquoted(rt: &impl Eprint, word: &str) {
+    let _ = eprintln!(rt; "  hint: quotes make a question of words, as in '{word} ..'");
+}
+
+/// No commands, since what is left out would be in none.
+pub fn no_commands(rt: &impl Eprint) -> Ending {
+    let _ = eprintln!(rt;
+        "kob: --commands: bindings are left out, and no command does what they do"
+    );
+    Ending::Failed
+}
+
+/// A question beside `--commands`.
+pub fn asked_beside_commands(rt: &impl Eprint) -> Ending {
+    let _ = eprintln!(rt; "kob: --commands: a question is asked beside it");
+    Ending::Failed
+}
+
+/// Settings that no command changes.
+pub fn other_settings(rt: &impl Eprint) {
+    let _ = eprintln!(rt;
+        "kob: --commands: super users or everyone differ; commands change bindings alone"
+    );
 }
 
 /// More bindings than can be in force.
@@ -89,7 +125,19 @@ fn push_note(out: &mut Vec<u8>, what: &str, text: &str) -> Result<(), AllocError
     out.extend_from_slice(b"\n")
 }
 
-/// The words of the line up to the one that is wrong and the next few, and carets below that one.
+/// The bytes of a word as they stand in the line; a byte that no terminal shows is written `%xx`.
+fn push_shown(out: &mut Vec<u8>, word: &[u8]) -> Result<(), AllocError> {
+    for byte in word {
+        if byte.is_ascii_graphic() {
+            out.push(*byte)?;
+        } else {
+            push_bytes(out, &[*byte])?;
+        }
+    }
+    Ok(())
+}
+
+/// The words of the line, and carets below the one that is wrong.
 fn push_line(alloc: Global, out: &mut Vec<u8>, mistake: &Mistake<'_>) -> Result<(), AllocError> {
     let mut below = Vec::new(alloc);
     out.extend_from_slice(b" ")?;
@@ -98,7 +146,7 @@ fn push_line(alloc: Global, out: &mut Vec<u8>, mistake: &Mistake<'_>) -> Result<
         out.extend_from_slice(b" ")?;
         below.extend_from_slice(b" ")?;
         let before = out.len();
-        push_bytes(out, word.get(..SHOWN).unwrap_or(word))?;
+        push_shown(out, word.get(..SHOWN).unwrap_or(word))?;
         let mark = if place == mistake.place { b'^' } else { b' ' };
         for _ in before..out.len() {
             below.push(mark)?;

@@ -56,8 +56,8 @@ fn run_words<R: AllocGlobal + Clock + Files + Input + Print + Eprint>(
             };
             do_files(rt, work, &files)
         }
-        Ok(Task::Export(files)) => do_files(rt, Work::Export, &files),
-        Ok(Task::Policy) => answer(rt, words.get(2..).unwrap_or(&[])),
+        Ok(Task::Export(form, files)) => do_files(rt, Work::Export(form), &files),
+        Ok(Task::Policy) => answer(rt, words.get(2..).unwrap_or(&[]), terminals.error),
         Ok(Task::Help(subject)) => help(rt, subject.as_ref()),
         Ok(Task::Version) => show(rt, VERSION),
         Err(refused) => say(rt, &refused),

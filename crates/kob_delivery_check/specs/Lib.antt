@@ -1,6 +1,10 @@
+pub mod Causes
 pub mod Fates
 pub mod Journaled
 pub mod Logs
 pub mod Printed
+pub mod PrintedPieces
+pub mod PrintedRecords
 pub mod Reaches
 pub mod Repeats
+pub mod Sent

@@ -61,7 +61,8 @@ fn first_of(stored: &[Stored], event: u128) -> Option<&Stored>
 }
 
 impl Fate {
-    pub(crate) fn is_delivered(self) -> bool
+    /// Whether the event is in the inbox.
+    pub fn is_delivered(self) -> bool
         ensures { result ≡ is_delivered self }
     {
         match self {
@@ -79,7 +80,8 @@ impl Fate {
         }
     }
 
-    pub(crate) fn is_lost(self) -> bool
+    /// Whether no tick takes the event in.
+    pub fn is_lost(self) -> bool
         ensures { result ≡ is_lost self }
     {
         match self {

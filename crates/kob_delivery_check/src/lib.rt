@@ -1,14 +1,20 @@
 //! Where each event of a service is: with a consumer, on its way, or lost.
 #![tactic(auto)]
 
+mod cause;
 mod fate;
 mod fates;
 mod journaled;
+mod obstacle;
 mod partition_log;
 mod printed;
+mod printed_pieces;
+mod printed_records;
 mod reach;
 mod repeats;
+mod sent;
 
+pub use cause::{Cause, Loss, losses_of};
 pub use fate::Fate;
 pub use fates::fates_of;
 pub use journaled::{log_by, reaches_by};

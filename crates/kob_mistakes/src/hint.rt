@@ -1,5 +1,8 @@
 //! What people often do, and what to do in its place.
 
+use crate::words::is_blank;
+use bstr::ByteSlice;
+
 /// The first bytes of a text that is not a scene.
 static BEGINNINGS: [(&[u8], &str); 6] = [
     (
@@ -22,6 +25,18 @@ static BEGINNINGS: [(&[u8], &str); 6] = [
     ),
 ];
 
+/// A hint on a list or on questions that no line of can be read, if they look like a common mistake.
+pub(crate) fn hint_on_bytes(text: &[u8]) -> Option<&'static str> {
+    let (_, hint) = BEGINNINGS.iter().find(|beginning| is_other_form(beginning.0)
+        && text.starts_with(beginning.0))?;
+    Some(hint)
+}
+
+/// Whether a text that begins so is in another form than UTF-8.
+fn is_other_form(beginning: &[u8]) -> bool {
+    !beginning.first().is_some_and(|byte| byte.is_ascii())
+}
+
 /// A hint on a line of so many words with a fault, if it looks like a common mistake. `text` is the
 /// whole text.
 pub fn hint_on(text: &[u8], line: &[u8], words: usize) -> Option<&'static str> {
@@ -39,4 +54,45 @@ pub fn hint_on(text: &[u8], line: &[u8], words: usize) -> Option<&'static str> {
         );
     }
     None
+}
+
+/// The first line of a scene, counted from 1, in which quotes are a part of a name, and that name: the
+/// word behind a command, or a word behind `acl`. It is no fault.
+pub fn quoted_name(text: &[u8]) -> Option<(u64, &[u8])> {
+    let mut number: u64 = 0;
+    for line in text.lines() {
+        number = number.saturating_add(1);
+        if let Some(word) = quoted_in(line) {
+            return Some((number, word));
+        }
+    }
+    None
+}
+
+fn quoted_in(line: &[u8]) -> Option<&[u8]> {
+    let mut words = line
+        .split(|byte| is_blank(*byte))
+        .filter(|word| !word.is_empty());
+    let principal = words.next()?;
+    if principal.starts_with(b"#") || !principal.contains(&b':') {
+        return None;
+    }
+    words.next()?;
+    let command = words.next()?;
+    let first = words.next()?;
+    if is_quoted(first) {
+        Some(first)
+    } else if command == b"acl".as_slice() {
+        words.find(|word| is_quoted(word))
+    } else {
+        None
+    }
+}
+
+/// Whether a word has the same quotes at both ends.
+fn is_quoted(word: &[u8]) -> bool {
+    match word {
+        [first, .., last] => first == last && (*first == b'\'' || *first == b'"'),
+        _ => false,
+    }
 }

@@ -5,15 +5,15 @@
 mod hint;
 mod mistake;
 mod option;
+mod place;
 mod question;
-mod request;
+mod rows;
 mod spelling;
 mod usage;
 mod words;
-mod worker;
 
-pub use hint::hint_on;
+pub use hint::{hint_on, quoted_name};
 pub use mistake::{Mistake, mistake_in};
-pub use question::{Lines, line_mistake};
-pub use request::request_place;
+pub use place::word_place;
+pub use question::{Lines, begins_question, line_mistake};
 pub use spelling::nearest;

@@ -1,16 +1,14 @@
 //! A fault of a scene or a script, as a person is told of it.
 
 use crate::hint::hint_on;
-use crate::option::option_place;
-use crate::request::request_place;
+use crate::place::word_place;
 use crate::spelling::nearest;
-use crate::usage::{form_of, is_keyword, is_step, names_at};
-use crate::words::{escape_place, is_blank, raw_words};
-use crate::worker::worker_place;
+use crate::usage::{form_of, names_at};
+use crate::words::{escape_place, raw_words};
 use bstr::ByteSlice;
 use kob_names::Text;
 use kob_scene_text::{SceneFault, SceneFaultKind};
-use kob_script::{FaultKind, LineError, Word, words_of};
+use kob_script::{FaultKind, LineError, words_of};
 use std::alloc::{AllocError, Global};
 
 /// A fault with its line.
@@ -33,10 +31,10 @@ pub fn mistake_in<'a>(
     text: &'a [u8],
     fault: SceneFault,
 ) -> Result<Mistake<'a>, AllocError> {
-    let before = fault.line.saturating_sub(1) as usize;
-    let line = text.lines().nth(before).unwrap_or(b"".as_slice());
+    let lines = lines_to(alloc, text, fault.line)?;
+    let (line, before) = last_of(&lines);
     let words = raw_words(alloc, line)?;
-    let place = place_of(alloc, text, line, &words, fault.kind)?;
+    let place = place_of(alloc, before, line, &words, fault.kind)?;
     let nearest = nearest_at(alloc, text, &words, place, fault.kind)?;
     Ok(Mistake {
         form: form_of(&words),
@@ -47,9 +45,29 @@ pub fn mistake_in<'a>(
     })
 }
 
+/// The lines of a text up to that of a number, counted from 1.
+fn lines_to(alloc: Global, text: &[u8], number: u64) -> Result<Vec<&[u8]>, AllocError> {
+    let mut lines = Vec::new(alloc);
+    for line in text.lines() {
+        if lines.len() as u64 >= number {
+            return Ok(lines);
+        }
+        lines.push(line)?;
+    }
+    Ok(lines)
+}
+
+/// The last line, and those before it.
+fn last_of<'l, 'a>(lines: &'l [&'a [u8]]) -> (&'a [u8], &'l [&'a [u8]]) {
+    match lines {
+        [before @ .., line] => (line, before),
+        [] => (b"".as_slice(), &[]),
+    }
+}
+
 fn place_of(
     alloc: Global,
-    text: &[u8],
+    before: &[&[u8]],
     line: &[u8],
     raw: &[&[u8]],
     kind: SceneFaultKind,
@@ -60,70 +78,30 @@ fn place_of(
     if line.starts_with(b"\xef\xbb\xbf") {
         return Ok(0);
     }
-    if let (SceneFaultKind::UnknownWorker, [b"law" | b"check", service, ..]) = (kind, raw) {
-        return Ok(if declares(text, b"service", service) {
-            2
-        } else {
-            1
-        });
+    if let Some(place) = half_place(raw, kind) {
+        return Ok(place);
     }
     match words_of(alloc, line) {
-        Ok(words) => place_in(alloc, text, &words, kind),
+        Ok(words) => word_place(alloc, before, &words, kind),
         Err(LineError::Memory(refused)) => Err(refused),
         Err(LineError::Fault(_)) => Ok(0),
     }
 }
 
-fn place_in(
-    alloc: Global,
-    text: &[u8],
-    words: &[Word<'_>],
-    kind: SceneFaultKind,
-) -> Result<usize, AllocError> {
-    match kind {
-        SceneFaultKind::Script(FaultKind::LateSetting) => Ok(0),
-        SceneFaultKind::Script(kind) if is_request(text, words) => {
-            place_in_request(alloc, words, kind)
+/// A blank in JSON or in a quoted text cuts a word of a record in two. The first half is then the
+/// word that is named, not the one too many.
+fn half_place(words: &[&[u8]], kind: SceneFaultKind) -> Option<usize> {
+    match (words, kind) {
+        ([_, b"record", ..], SceneFaultKind::Script(FaultKind::BadLine)) if words.len() > 10 => {
+            words.iter().position(|word| is_half(word))
         }
-        _ => Ok(worker_place(words, kind)),
+        _ => None,
     }
 }
 
-fn place_in_request(
-    alloc: Global,
-    words: &[Word<'_>],
-    kind: FaultKind,
-) -> Result<usize, AllocError> {
-    match kind {
-        FaultKind::Usage
-        | FaultKind::NoAction
-        | FaultKind::BadName
-        | FaultKind::BadMix
-        | FaultKind::NoResource
-        | FaultKind::NoPrincipal => Ok(option_place(alloc, words, 3, kind)),
-        _ => request_place(alloc, words, kind),
-    }
-}
-
-/// Whether a line is no setting, no declaration and no step.
-fn is_request(text: &[u8], words: &[Word<'_>]) -> bool {
-    let first = words.first().map_or(b"".as_slice(), |word| word.decoded());
-    let is_named = is_keyword(first) || is_worker(text, first);
-    first.contains(&b':') || !(is_named || words.get(1).is_some_and(|step| is_step(step.decoded())))
-}
-
-fn is_worker(text: &[u8], name: &[u8]) -> bool {
-    declares(text, b"service", name) || declares(text, b"consumer", name)
-}
-
-/// Whether a line of a text declares a service, or a consumer, of a name.
-fn declares(text: &[u8], keyword: &[u8], name: &[u8]) -> bool {
-    text.lines().any(|line| {
-        let mut words = line
-            .split(|byte| is_blank(*byte))
-            .filter(|word| !word.is_empty());
-        words.next() == Some(keyword) && words.next() == Some(name)
-    })
+fn is_half(word: &[u8]) -> bool {
+    let count = |sign: u8| word.iter().filter(|byte| **byte == sign).count();
+    count(b'{') != count(b'}') || count(b'"') % 2 == 1
 }
 
 /// The name nearest to a word: of the workers of the text, or of the words of such lines.

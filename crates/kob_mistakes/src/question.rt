@@ -1,14 +1,15 @@
 //! A fault of a question or of a list of bindings, as a person is told of it.
 
-use crate::hint::hint_on;
+use crate::hint::{hint_on, hint_on_bytes};
 use crate::mistake::Mistake;
 use crate::option::option_place;
+use crate::rows::{Fit, misfit};
 use crate::spelling::nearest;
 use crate::usage::{is_command, is_step};
-use crate::words::raw_words;
+use crate::words::{escape_place, raw_words};
 use bstr::ByteSlice;
-use kob_names::{Host, Principal, Text};
-use kob_script::{FaultKind, LineError, words_of};
+use kob_names::Text;
+use kob_script::{FaultKind, LineError, Word, fault_place, words_of};
 use kob_words::{operation_named, pattern_named, permission_named, resource_named};
 use std::alloc::{AllocError, Global};
 
@@ -20,30 +21,86 @@ pub enum Lines {
     Questions,
 }
 
-/// The forms of questions.
-static QUESTIONS: [(&str, &str); 9] = [
-    (
-        "may",
-        "may PRINCIPAL HOST OPERATION RESOURCE NAME, or produce TOPIC, or consume TOPIC GROUP, or a request",
-    ),
-    ("expect", "expect yes or expect no, and then may .."),
-    (
-        "who",
-        "who OPERATION RESOURCE NAME [HOST], or produce TOPIC, or consume TOPIC GROUP",
-    ),
-    ("sees", "sees PRINCIPAL HOST"),
-    ("topic", "topic NAME"),
-    ("summary", "summary"),
-    ("unused", "unused"),
-    ("shadowed", "shadowed"),
-    ("removable", "removable"),
+/// What stands behind the first word of a question.
+#[derive(Clone, Copy)]
+enum Behind {
+    /// One row of words.
+    Row(&'static [Fit]),
+    /// What `may` asks about.
+    Access,
+    /// `yes` or `no`, `may`, and what that asks about.
+    Expected,
+    /// A right, or `produce` or `consume`.
+    Right,
+}
+
+/// A kind of question: its first word, what stands behind it, and its form.
+struct Question {
+    name: &'static str,
+    behind: Behind,
+    form: &'static str,
+}
+
+static QUESTIONS: [Question; 10] = [
+    Question {
+        name: "may",
+        behind: Behind::Access,
+        form: "may PRINCIPAL HOST OPERATION RESOURCE NAME, or produce TOPIC, or consume TOPIC GROUP, or a request",
+    },
+    Question {
+        name: "expect",
+        behind: Behind::Expected,
+        form: "expect yes or expect no, and then may ..",
+    },
+    Question {
+        name: "who",
+        behind: Behind::Right,
+        form: "who OPERATION RESOURCE [prefix] NAME, or NAME HOST, or produce TOPIC, or consume TOPIC GROUP",
+    },
+    Question {
+        name: "rights",
+        behind: Behind::Row(&[Fit::Principal, Fit::Host]),
+        form: "rights PRINCIPAL [HOST]",
+    },
+    Question {
+        name: "sees",
+        behind: Behind::Row(&[Fit::Principal, Fit::Host]),
+        form: "sees PRINCIPAL HOST",
+    },
+    Question {
+        name: "topic",
+        behind: Behind::Row(&[Fit::Any]),
+        form: "topic NAME",
+    },
+    Question {
+        name: "summary",
+        behind: Behind::Row(&[]),
+        form: "summary",
+    },
+    Question {
+        name: "unused",
+        behind: Behind::Row(&[]),
+        form: "unused",
+    },
+    Question {
+        name: "shadowed",
+        behind: Behind::Row(&[]),
+        form: "shadowed",
+    },
+    Question {
+        name: "removable",
+        behind: Behind::Row(&[]),
+        form: "removable",
+    },
 ];
 
 /// The words of questions and of bindings.
-static WORDS: [&str; 30] = [
+static WORDS: [&str; 32] = [
     "may",
     "expect",
     "who",
+    "rights",
+    "prefix",
     "sees",
     "topic",
     "summary",
@@ -85,18 +142,23 @@ pub fn line_mistake<'a>(
     let line = text.lines().nth(before).unwrap_or(b"".as_slice());
     let words = raw_words(alloc, line)?;
     let place = match lines {
-        Lines::Questions => question_place(alloc, &words, kind),
+        Lines::Questions => question_place(alloc, line, &words, kind)?,
         Lines::Bindings => binding_place(alloc, line, &words, kind)?,
     };
-    let nearest = match words.get(place).and_then(|word| word.to_str().ok()) {
-        Some(word) => nearest_word(alloc, word)?,
-        None => None,
+    let wrong = words.get(place).copied().unwrap_or(b"".as_slice());
+    let wrong = match lines {
+        Lines::Questions => wrong,
+        Lines::Bindings => value_in(wrong),
+    };
+    let nearest = match wrong.to_str() {
+        Ok(word) => nearest_word(alloc, word)?,
+        Err(_) => None,
     };
     Ok(Mistake {
         form: form_of(&words, lines),
         hint: match lines {
             Lines::Questions => hint_on(text, line, words.len()),
-            Lines::Bindings => hint_on_list(&words),
+            Lines::Bindings => hint_on_list(text, &words),
         },
         words,
         place,
@@ -111,13 +173,24 @@ fn nearest_word(alloc: Global, word: &str) -> Result<Option<Text>, AllocError> {
     }
 }
 
+/// Whether a word begins a question.
+pub fn begins_question(word: &[u8]) -> bool {
+    question_named(word).is_some()
+}
+
+/// The kind of question that a word begins.
+fn question_named(name: &[u8]) -> Option<&'static Question> {
+    QUESTIONS
+        .iter()
+        .find(|question| question.name.as_bytes() == name)
+}
+
 fn form_of(words: &[&[u8]], lines: Lines) -> &'static str {
     let first = words.first().copied().unwrap_or(b"".as_slice());
-    let found = QUESTIONS.iter().find(|form| form.0.as_bytes() == first);
-    match (lines, found) {
-        (Lines::Questions, Some((_, form))) => form,
+    match (lines, question_named(first)) {
+        (Lines::Questions, Some(question)) => question.form,
         (Lines::Questions, None) =>
-            "a question: may, expect, who, sees, topic, summary, unused or shadowed",
+            "a question: may, expect, who, rights, sees, topic, summary, unused, shadowed or removable",
         (Lines::Bindings, _) => {
             "a line of kafka-acls --list or --add, create-acl or acl of scripts, or a setting"
         }
@@ -125,61 +198,111 @@ fn form_of(words: &[&[u8]], lines: Lines) -> &'static str {
 }
 
 /// The place of the first word of a question that is wrong, the number of words if one is missing.
-fn question_place(alloc: Global, words: &[&[u8]], kind: FaultKind) -> usize {
-    match words {
-        [b"may", rest @ ..] => may_place(alloc, rest, kind).saturating_add(1),
-        [b"expect", b"yes" | b"no", b"may", rest @ ..] => {
-            may_place(alloc, rest, kind).saturating_add(3)
-        }
-        [b"expect", b"yes" | b"no", ..] => words.len().min(2),
-        [b"expect", ..] => words.len().min(1),
-        [b"who", rest @ ..] => right_place(rest, 0, 1).saturating_add(1),
-        [b"sees", rest @ ..] => asker_place(alloc, rest).unwrap_or(2).saturating_add(1),
-        [b"topic" | b"summary" | b"unused" | b"shadowed", ..] => words.len().min(1),
-        _ => 0,
+fn question_place(
+    alloc: Global,
+    line: &[u8],
+    raw: &[&[u8]],
+    kind: FaultKind,
+) -> Result<usize, AllocError> {
+    if let Some(place) = escape_place(alloc, raw)? {
+        return Ok(place);
+    }
+    match words_of(alloc, line) {
+        Ok(words) => place_by_name(alloc, &words, kind),
+        Err(LineError::Memory(refused)) => Err(refused),
+        Err(LineError::Fault(_)) => Ok(0),
     }
 }
 
-/// The place of a bad principal or host among the words after the question's name.
-fn asker_place(alloc: Global, words: &[&[u8]]) -> Option<usize> {
-    let is_principal = |word: &[u8]| match word.to_str() {
-        Ok(text) => Principal::parse(alloc, text).is_ok(),
-        Err(_) => false,
+fn place_by_name(alloc: Global, words: &[Word<'_>], kind: FaultKind) -> Result<usize, AllocError> {
+    let [first, rest @ ..] = words else {
+        return Ok(0);
     };
-    let is_host = |word: &[u8]| match word.to_str() {
-        Ok(text) => Host::parse(alloc, text).is_ok(),
-        Err(_) => false,
+    let behind = question_named(first.decoded()).map(|question| question.behind);
+    let place = match behind {
+        Some(Behind::Row(row)) => misfit(alloc, row, rest)?,
+        Some(Behind::Access) => access_place(alloc, rest, kind)?,
+        Some(Behind::Expected) => expected_place(alloc, rest, kind)?,
+        Some(Behind::Right) => misfit(alloc, right_row(rest), rest)?,
+        None => return Ok(0),
     };
+    Ok(place.saturating_add(1))
+}
+
+/// The place behind `expect`.
+fn expected_place(alloc: Global, words: &[Word<'_>], kind: FaultKind) -> Result<usize, AllocError> {
+    let place = misfit(alloc, &[Fit::Answer, Fit::May], words)?;
     match words {
-        [principal, ..] if !is_principal(principal) => Some(0),
-        [_, host, ..] if !is_host(host) => Some(1),
-        [] | [_] => Some(words.len()),
+        [_, _, rest @ ..] if place == 2 => {
+            Ok(access_place(alloc, rest, kind)?.saturating_add(2))
+        }
+        _ => Ok(place),
+    }
+}
+
+/// The place behind `may`. A request is judged as a script's.
+fn access_place(alloc: Global, words: &[Word<'_>], kind: FaultKind) -> Result<usize, AllocError> {
+    match access_row(words) {
+        Some(row) => misfit(alloc, row, words),
+        None => Ok(fault_place(alloc, words, kind)?.unwrap_or(2)),
+    }
+}
+
+/// What the words behind `may` have to be; None for a request.
+fn access_row(words: &[Word<'_>]) -> Option<&'static [Fit]> {
+    match words {
+        [_, _, command, rest @ ..] => row_of(command.decoded(), rest),
+        _ => Some(&[Fit::Principal, Fit::Host, Fit::Any]),
+    }
+}
+
+fn row_of(command: &[u8], rest: &[Word<'_>]) -> Option<&'static [Fit]> {
+    if command == b"consume".as_slice() {
+        Some(&[Fit::Principal, Fit::Host, Fit::Any, Fit::Any, Fit::Any])
+    } else if command == b"produce".as_slice() {
+        produced_row(rest)
+    } else if operation_named(command).is_some() {
+        Some(&[
+            Fit::Principal,
+            Fit::Host,
+            Fit::Operation,
+            Fit::Resource,
+            Fit::Any,
+        ])
+    } else {
+        None
+    }
+}
+
+/// The row of `produce TOPIC`, `produce TOPIC idempotent` or `produce TOPIC transactional ID`, by the
+/// words behind `produce`; None if more stands there, as in a request.
+fn produced_row(words: &[Word<'_>]) -> Option<&'static [Fit]> {
+    match words {
+        [] | [_] => Some(&[Fit::Principal, Fit::Host, Fit::Any, Fit::Any]),
+        [_, how] if how.decoded() == b"transactional".as_slice() => Some(&[
+            Fit::Principal,
+            Fit::Host,
+            Fit::Any,
+            Fit::Any,
+            Fit::How,
+            Fit::Any,
+        ]),
+        [_, _] => Some(&[Fit::Principal, Fit::Host, Fit::Any, Fit::Any, Fit::How]),
         _ => None,
     }
 }
 
-fn may_place(alloc: Global, words: &[&[u8]], kind: FaultKind) -> usize {
-    if let Some(place) = asker_place(alloc, words) {
-        return place;
-    }
-    match words.get(2) {
-        Some(word) if *word == b"produce".as_slice() => words.len().min(5),
-        Some(word) if *word == b"consume".as_slice() => words.len().min(5),
-        Some(word) if operation_named(word).is_some() => right_place(words, 2, 0),
-        _ if kind == FaultKind::BadLine => 2,
-        _ => words.len(),
-    }
-}
-
-/// The first wrong word of `OPERATION RESOURCE NAME`, and so many more, from a place on.
-fn right_place(words: &[&[u8]], first: usize, more: usize) -> usize {
-    let rest = words.get(first..).unwrap_or(&[]);
-    match rest {
-        [operation, ..] if operation_named(operation).is_none() => first,
-        [_, resource, ..] if resource_named(resource).is_none() => first.saturating_add(1),
-        _ => words
-            .len()
-            .min(first.saturating_add(more).saturating_add(3)),
+/// What the words behind `who` have to be.
+fn right_row(words: &[Word<'_>]) -> &'static [Fit] {
+    let first = words.first().map_or(b"".as_slice(), |word| word.decoded());
+    if first == b"produce".as_slice() && words.len() < 3 {
+        &[Fit::Any, Fit::Any]
+    } else if first == b"consume".as_slice() && words.len() < 4 {
+        &[Fit::Any, Fit::Any, Fit::Any]
+    } else if words.len() < 4 {
+        &[Fit::Operation, Fit::Resource, Fit::Any]
+    } else {
+        &[Fit::Operation, Fit::Resource, Fit::Any, Fit::Host]
     }
 }
 
@@ -211,17 +334,27 @@ fn binding_place(
     Ok(words.iter().position(|word| is_wrong(word)).unwrap_or(0))
 }
 
-/// Whether a part `NAME=VALUE` of a listed binding or of a heading has an unknown word for a value.
-fn has_unknown_value(word: &[u8]) -> bool {
+/// The value of a part `NAME=VALUE` of a listed binding or of a heading; a whole word without `=`.
+fn value_in(word: &[u8]) -> &[u8] {
     let is_end = |byte: u8| byte == b',' || byte == b')' || byte == b'`' || byte == b':';
-    let mut parts = word.splitn(2, |byte| *byte == b'=');
-    let name = parts.next().unwrap_or(b"".as_slice());
-    let value = parts.next().unwrap_or(b"".as_slice());
+    let value = match word.iter().position(|byte| *byte == b'=') {
+        Some(at) => word.get(at + 1..).unwrap_or(word),
+        None => return word,
+    };
     let end = value
         .iter()
         .position(|byte| is_end(*byte))
         .unwrap_or(value.len());
-    let value = value.get(..end).unwrap_or(value);
+    value.get(..end).unwrap_or(value)
+}
+
+/// Whether a part `NAME=VALUE` has an unknown word for a value.
+fn has_unknown_value(word: &[u8]) -> bool {
+    let name = word
+        .split(|byte| *byte == b'=')
+        .next()
+        .unwrap_or(b"".as_slice());
+    let value = value_in(word);
     // (lists write DESCRIBE_CONFIGS for DescribeConfigs)
     let is_listed = value.contains(&b'_');
     if name == b"operation".as_slice() {
@@ -236,11 +369,11 @@ fn has_unknown_value(word: &[u8]) -> bool {
 }
 
 /// A hint on a line that is not one of a list, but one of a scene.
-fn hint_on_list(words: &[&[u8]]) -> Option<&'static str> {
+fn hint_on_list(text: &[u8], words: &[&[u8]]) -> Option<&'static str> {
     if is_of_scene(words) {
         Some("this looks like a scene: kob play plays it")
     } else {
-        None
+        hint_on_bytes(text)
     }
 }
 

@@ -50,7 +50,7 @@ static REQUESTS: [(&str, &str); 16] = [
 ];
 
 /// The lines that begin with a word of their own.
-static LINES: [(&str, &str); 7] = [
+static LINES: [(&str, &str); 8] = [
     ("super", "super PRINCIPAL"),
     ("everyone", "everyone on|off"),
     (
@@ -64,6 +64,10 @@ static LINES: [(&str, &str); 7] = [
     ("journal", "journal"),
     ("law", "law SERVICE CONSUMER"),
     ("check", "check SERVICE CONSUMER"),
+    (
+        "expect",
+        "expect SERVICE CONSUMER delivered all|lost ID|order",
+    ),
 ];
 
 /// The steps of workers.

@@ -95,7 +95,7 @@ hit_bools permission true true false where_from reach on for_who at is asks from
 hit_bools permission true true true where_from reach on for_who at is asks from =
     rw (is, asks is, from is (asks is)) refl
 
-granted_same : (super denied denied' allowed allowed' everyone matched matched' : Bool) → denied ≡ denied'
+pub granted_same : (super denied denied' allowed allowed' everyone matched matched' : Bool) → denied ≡ denied'
     → allowed ≡ allowed' → matched ≡ matched'
     → granted super denied allowed (everyone && not matched) ≡ granted super denied' allowed' (everyone && not matched')
 granted_same super denied denied' allowed allowed' everyone matched matched' d a m = cc

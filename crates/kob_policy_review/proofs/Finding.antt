@@ -188,7 +188,7 @@ named tree done (x ∷ xs) is =
 pub names_lead : (entries : List (ℕ × Binding)) → IsIndex pattern_place (names_in entries) entries
 names_lead entries = named finite.empty [] entries (index_empty pattern_place)
 
-by_pattern : (held_at : List ℕ → Held) (kind : PatternKind) (key name : List ℕ) (serial : ℕ)
+pub by_pattern : (held_at : List ℕ → Held) (kind : PatternKind) (key name : List ℕ) (serial : ℕ)
     → matches_by kind key name ≡ true → Contains (serials_of (kind_in_tree kind) (held_at key)) serial
     → Contains (matching_serials held_at name) serial
 by_pattern held_at Literal key name serial matched has =

@@ -5,11 +5,13 @@ pub mod Deciders
 pub mod Deciding
 pub mod Finding
 pub mod Going
+pub mod Granted
 pub mod Listing
 pub mod Marks
 pub mod Naming
 pub mod Needing
 pub mod Places
+pub mod Reaching
 pub mod Removing
 pub mod Shadowing
 pub mod Standing

@@ -73,7 +73,7 @@ super_marked mark supers None clear = same_when _ _
 
 -- The representative may be asked.
 
-only_cluster : (kind : ResourceKind) (pattern : Pattern) (target : Target) → target_by kind pattern ≡ target
+pub only_cluster : (kind : ResourceKind) (pattern : Pattern) (target : Target) → target_by kind pattern ≡ target
     → target.resource ≡ Cluster → target ≡ the_cluster
 only_cluster Topic pattern target is of_cluster =
     let wrong : Topic ≡ Cluster = ap (λ (t : Target). t.resource) is ∙ of_cluster in absurd cc
@@ -83,7 +83,7 @@ only_cluster TransactionalId pattern target is of_cluster =
     let wrong : TransactionalId ≡ Cluster = ap (λ (t : Target). t.resource) is ∙ of_cluster in absurd cc
 only_cluster Cluster pattern target is of_cluster = sym is
 
-cluster_alone : (entries : List (ℕ × Binding)) (target : Target) → Contains (targets entries) target
+pub cluster_alone : (entries : List (ℕ × Binding)) (target : Target) → Contains (targets entries) target
     → target.resource ≡ Cluster → target ≡ the_cluster
 cluster_alone entries target there of_cluster =
     elim (Contains-append_cases open_targets (map target_of entries) target there) [

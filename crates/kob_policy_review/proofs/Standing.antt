@@ -132,7 +132,7 @@ longest kind name (entry ∷ rest) =
     cond (is_prefix_of kind name entry && nat_lt (length (longest kind name rest)) (length entry.1.pattern.name))
     entry.1.pattern.name (longest kind name rest)
 
-longest_takes : (kind : ResourceKind) (name : List ℕ) (entries : List (ℕ × Binding))
+pub longest_takes : (kind : ResourceKind) (name : List ℕ) (entries : List (ℕ × Binding))
     → starts_with nat_eq name (longest kind name entries) ≡ true
 unfolding longest
 longest_takes kind name [] = refl
@@ -142,7 +142,7 @@ longest_takes kind name (entry ∷ rest) =
       | inr same ↦ rw same (longest_takes kind name rest)
     ]
 
-longest_most : (kind : ResourceKind) (name : List ℕ) (entries : List (ℕ × Binding)) (entry : ℕ × Binding)
+pub longest_most : (kind : ResourceKind) (name : List ℕ) (entries : List (ℕ × Binding)) (entry : ℕ × Binding)
     → Contains entries entry → is_prefix_of kind name entry ≡ true
     → length entry.1.pattern.name ≤ length (longest kind name entries)
 unfolding longest

@@ -1,8 +1,10 @@
 pub mod Alike
+pub mod Below
 pub mod Classes
 pub mod Difference
 pub mod Finding
 pub mod Granting
+pub mod Holding
 pub mod Needed
 pub mod Redundancy
 pub mod Removal

@@ -1,10 +1,13 @@
 //! Classes of questions that a set of rules answers alike.
 
-ghost use Rattle.std.specs.Prelude.{◌≡◌};
+ghost use Rattle.std.specs.Prelude.{◌≡◌, IfOk};
 ghost use Rattle.kob_policy_review.specs.Classes.{covers_party, is_for, is_met, is_on};
 ghost use Rattle.kob_policy_review.specs.Classes.{matches_below, matches_names};
 
-use kob_names::{Binding, Operation, Pattern, PatternKind, Permission, ResourceKind, Text};
+use kob_names::{
+    Binding, Operation, Pattern, PatternKind, Permission, PlainValue, ResourceKind, Text,
+};
+use std::alloc::{AllocError, Global};
 
 /// One name, or the names that begin with a text and that no longer prefixed pattern and no literal
 /// pattern takes. `Below` the empty text are the names that no pattern takes, but a literal `*`.
@@ -29,6 +32,27 @@ pub struct Class {
     pub host: Option<Text>,
     pub operation: Operation,
     pub target: Target,
+}
+
+/// The same names.
+pub(crate) fn copied_names(alloc: Global, names: &Names) -> Result<Names, AllocError>
+    ensures { IfOk result (λ made. made ≡ names.now) }
+{
+    match names {
+        Names::Exactly(name) => Ok(Names::Exactly(name.copy(alloc)?)),
+        Names::Below(start) => Ok(Names::Below(start.copy(alloc)?)),
+    }
+}
+
+/// The same target.
+pub(crate) fn copied_target(alloc: Global, target: &Target) -> Result<Target, AllocError>
+    ensures { IfOk result (λ made. made ≡ target.now) }
+{
+    let names = copied_names(alloc, &target.names)?;
+    Ok(Target {
+        resource: target.resource,
+        names,
+    })
 }
 
 fn matches_below(pattern: &Pattern, start: &Text) -> bool

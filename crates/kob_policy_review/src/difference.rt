@@ -7,7 +7,7 @@ ghost use Rattle.kob_policy_review.specs.Difference.{changes_from, changes_of, c
 ghost use Rattle.kob_policy_review.specs.Difference.{changes_to, is_listed, names_all};
 ghost use Rattle.kob_policy_review.specs.Difference.{same_outcome, targets_in};
 
-use crate::class::{Class, Names, Target};
+use crate::class::{Class, Target, copied_names};
 use crate::finder::Finder;
 use crate::matching::OPERATIONS;
 use crate::needed::is_super_party;
@@ -73,15 +73,6 @@ fn names_all(all: &str, party: &Option<Text>) -> bool
     match party {
         Some(party) => party.as_str() == all,
         None => false,
-    }
-}
-
-fn copied_names(alloc: Global, names: &Names) -> Result<Names, AllocError>
-    ensures { IfOk result (λ made. made ≡ names.now) }
-{
-    match names {
-        Names::Exactly(name) => Ok(Names::Exactly(name.copy(alloc)?)),
-        Names::Below(start) => Ok(Names::Below(start.copy(alloc)?)),
     }
 }
 

@@ -1,11 +1,13 @@
 //! Answers about sets of access rules that hold for every principal, host, operation and name.
 #![tactic(auto)]
 
+mod below;
 mod class;
 mod difference;
 mod finder;
 mod gone;
 mod granting;
+mod holding;
 mod laws;
 mod matching;
 mod needed;
@@ -17,9 +19,11 @@ mod sites;
 mod supers;
 mod targets;
 
+pub use below::{Reach, Share, who_below};
 pub use class::{Class, Names, Target};
 pub use difference::{Change, Outcome, changes};
 pub use granting::{Answer, who};
+pub use holding::{Holding, rights};
 pub use laws::representatives_decide;
 pub use redundant::{Reason, Unneeded, unused};
 pub use removal::removable;

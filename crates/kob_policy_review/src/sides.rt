@@ -131,7 +131,8 @@ fn some_met(
         .any(|entry| is_met(permission, host, operation, entry))
 }
 
-fn yes_to(
+/// The answer to one who is no super user.
+pub fn yes_to(
     opened: bool,
     asking: &[(u64, Binding)],
     host: &Option<Text>,

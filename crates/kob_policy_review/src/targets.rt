@@ -1,14 +1,15 @@
 //! The names that a set of rules tells apart, each once.
 
-ghost use Rattle.std.specs.Prelude.{◌≡◌, ◌++◌, ◌∷◌, [], IfOk, OnOk, fold, slice_get};
+ghost use Rattle.std.specs.Prelude.{◌≡◌, ◌++◌, ◌∷◌, [], IfOk, OnOk, filter, fold, slice_get};
 ghost use Rattle.std.specs.List.{list_any};
 ghost use Rattle.kob_prefix_tree.specs.Held.{held};
 ghost use Rattle.kob_policy_review.specs.Classes.{names_by, open_targets, others_on, same_names};
 ghost use Rattle.kob_policy_review.specs.Classes.{same_target, target_of, targets_named};
 ghost use Rattle.kob_policy_review.specs.Classes.{the_cluster, with_target, with_target_of};
+ghost use Rattle.kob_policy_review.specs.Below.{at_prefix, is_below, targets_below};
 ghost use Rattle.kob_policy_review.specs.Sites.{is_at};
 
-use crate::class::{Names, Target};
+use crate::class::{Names, Target, copied_target};
 use crate::finder::text_of;
 use kob_names::{Binding, Pattern, PatternKind, PlainValue, ResourceKind, Text};
 use kob_prefix_tree::{PatternKind as KindInTree, PrefixTree};
@@ -126,6 +127,22 @@ impl Targets {
         Ok(made)
     }
 
+    /// The names that a set of rules and one more prefix tell apart, each once.
+    fn around(
+        alloc: Global,
+        entries: &[(u64, Binding)],
+        resource: ResourceKind,
+        prefix: &Text,
+    ) -> Result<Targets, AllocError>
+        ensures { IfOk result (λ made. made ≡ fold with_target_of
+            (with_target open_targets (at_prefix resource prefix.now)) entries.now) }
+    {
+        let mut made = Targets::open(alloc)?;
+        made.add(alloc, at_prefix(alloc, resource, prefix)?)?;
+        made.add_all(alloc, entries)?;
+        Ok(made)
+    }
+
     /// The targets. Does not allocate.
     pub fn into_vec(self) -> Vec<Target>
         ensures { result.items ≡ self }
@@ -213,4 +230,56 @@ pub fn targets_of(alloc: Global, entries: &[(u64, Binding)]) -> Result<Vec<Targe
     ensures { IfOk result (λ made. made.items ≡ targets_named entries.now) }
 {
     Ok(Targets::of(alloc, entries)?.into_vec())
+}
+
+/// The names that a prefixed pattern takes first.
+fn at_prefix(alloc: Global, resource: ResourceKind, prefix: &Text) -> Result<Target, AllocError>
+    ensures { IfOk result (λ made. made ≡ at_prefix resource prefix.now) }
+{
+    match resource {
+        ResourceKind::Cluster => the_cluster(alloc),
+        ResourceKind::Topic | ResourceKind::Group | ResourceKind::TransactionalId => {
+            let names = Names::Below(prefix.copy(alloc)?);
+            Ok(Target { resource, names })
+        }
+    }
+}
+
+fn is_below(resource: ResourceKind, prefix: &Text, target: &Target) -> bool
+    ensures { result ≡ is_below resource prefix.now target.now }
+{
+    let text = text_of(&target.names).as_str().as_bytes();
+    target.resource == resource && text.starts_with(prefix.as_str().as_bytes())
+}
+
+/// Copies of the targets whose names begin with a prefix.
+#[tactic(auto, using(std::proofs::lemmas::List::Elements::filter_more))]
+fn only_below(
+    alloc: Global,
+    targets: &[Target],
+    resource: ResourceKind,
+    prefix: &Text,
+) -> Result<Vec<Target>, AllocError>
+    ensures { IfOk result (λ made. made.items ≡ filter (is_below resource prefix.now) targets.now) }
+{
+    let mut made = Vec::new(alloc);
+    for target in targets {
+        if is_below(resource, prefix, target) {
+            made.push(copied_target(alloc, target)?)?;
+        }
+    }
+    Ok(made)
+}
+
+/// The names that begin with a prefix, as a set of rules tells them apart.
+pub fn targets_below(
+    alloc: Global,
+    entries: &[(u64, Binding)],
+    resource: ResourceKind,
+    prefix: &Text,
+) -> Result<Vec<Target>, AllocError>
+    ensures { IfOk result (λ made. made.items ≡ targets_below entries.now resource prefix.now) }
+{
+    let all = Targets::around(alloc, entries, resource, prefix)?.into_vec();
+    only_below(alloc, all.as_slice(), resource, prefix)
 }

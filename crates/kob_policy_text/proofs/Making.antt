@@ -1,44 +1,41 @@
 -- A file is read line by line, and a line thing by thing.
-use Rattle.kob_policy_text.proofs.Words.{Bool, Err, Fails, Fault, FaultKind, FileMakes, GivesSeen, IsStopped, Item, LineError, List, MayFail, MayGive, Memory, Ok, Origin, Policy, Result, SaysAt, is_none, unmarked, [], ap, arith, at_file, fault_at, lines_in, nat_tests, place, refl, sym, with_item, ℕ, ◌+◌, ◌∙◌, ◌∷◌, ◌≡◌}
+use Rattle.kob_policy_text.proofs.Words.{Bool, Err, Fails, Fault, FaultKind, GivesSeen, IsStopped, Item, LineError, List, MayFail, MayGive, Memory, Ok, Origin, Policy, Result, SaysAt, drop, drop_more, drop_of_length-le, get_or, is_none, length, [], ap, arith, fault_at, nat_tests, place, refl, sym, with_item, ℕ, ◌+◌, ◌<◌, ◌∙◌, ◌∷◌, ◌≡◌, ◌≤◌}
 use Rattle.kob_script.specs.declared.fault.Fault as fault
+use Rattle.kob_policy_text.specs.Joined.{Numbered}
 use Rattle.kob_policy_text.specs.Policy.{LineMakes, LinesMake, with_items}
 
--- What the lines that are left may make, the file may make.
-abbrev pub Leads : List ℕ → List ℕ → Policy → Policy → ℕ → List (List ℕ) → Type 0
-Leads file text old policy number rest =
-    (read : Result Policy fault.Fault) → LinesMake file policy number rest read → FileMakes file text old read
+-- What the lines that are left may make, all may make.
+abbrev pub Leads : List ℕ → Policy → Policy → List Numbered → List Numbered → Type 0
+Leads file old policy lines rest =
+    (read : Result Policy fault.Fault) → LinesMake file policy rest read → LinesMake file old lines read
 
-pub lines_begin : (file text : List ℕ) (old policy : Policy) → policy ≡ at_file (unmarked text) old
-    → Leads file text old policy 1 (lines_in (unmarked text))
-lines_begin file text old policy begun = grind (arith, nat_tests)
-
-pub line_keeps : (file text : List ℕ) (old policy next : Policy) (number : ℕ) (rest : List (List ℕ)) (line : List ℕ)
-    (more : List (List ℕ))
-    → Leads file text old policy number rest → rest ≡ line ∷ more → LineMakes file policy number line (Ok next)
-    → Leads file text old next (number + 1) more
+pub line_keeps : (file : List ℕ) (old policy next : Policy) (lines : List Numbered) (i : ℕ) (d line : Numbered)
+    → Leads file old policy lines (drop i lines) → i < length lines → line ≡ get_or lines i d
+    → LineMakes file policy line.line line.text (Ok next)
+    → Leads file old next lines (drop (i + 1) lines)
 unfolding LinesMake
-line_keeps file text old policy next number rest line more leads split makes = grind (arith, nat_tests)
+line_keeps file old policy next lines i d line leads below is makes = grind (arith, nat_tests, drop_more)
 
-pub line_stops : (file text : List ℕ) (old policy : Policy) (number : ℕ) (rest : List (List ℕ)) (line : List ℕ)
-    (more : List (List ℕ)) (kind : FaultKind)
-    → Leads file text old policy number rest → rest ≡ line ∷ more → LineMakes file policy number line (Err kind)
-    → FileMakes file text old (Err (record { line = number; kind = kind }))
+pub line_stops : (file : List ℕ) (old policy : Policy) (lines : List Numbered) (i : ℕ) (d line : Numbered) (kind : FaultKind)
+    → Leads file old policy lines (drop i lines) → i < length lines → line ≡ get_or lines i d
+    → LineMakes file policy line.line line.text (Err kind)
+    → LinesMake file old lines (Err (record { line = line.line; kind = kind }))
 unfolding LinesMake
-line_stops file text old policy number rest line more kind leads split makes = grind (arith, nat_tests)
+line_stops file old policy lines i d line kind leads below is makes = grind (arith, nat_tests, drop_more)
 
 -- the same of an error, which may be want of memory
-pub stopped : (file text : List ℕ) (old policy : Policy) (number : ℕ) (rest : List (List ℕ))
-    (line : List ℕ) (more : List (List ℕ)) (e : LineError)
-    → Leads file text old policy number rest → rest ≡ line ∷ more → MayFail e (LineMakes file policy number line)
-    → IsStopped (fault_at number e) (FileMakes file text old)
-stopped file text old policy number rest line more (Memory e) leads split makes = tt
-stopped file text old policy number rest line more (Fault kind) leads split makes =
-    line_stops file text old policy number rest line more kind leads split makes
+pub stopped : (file : List ℕ) (old policy : Policy) (lines : List Numbered) (i : ℕ) (d line : Numbered) (e : LineError)
+    → Leads file old policy lines (drop i lines) → i < length lines → line ≡ get_or lines i d
+    → MayFail e (LineMakes file policy line.line line.text)
+    → IsStopped (fault_at line.line e) (LinesMake file old lines)
+stopped file old policy lines i d line (Memory e) leads below is makes = tt
+stopped file old policy lines i d line (Fault kind) leads below is makes =
+    line_stops file old policy lines i d line kind leads below is makes
 
-pub lines_end : (file text : List ℕ) (old policy : Policy) (number : ℕ) (rest : List (List ℕ))
-    → Leads file text old policy number rest → rest ≡ [] → FileMakes file text old (Ok policy)
+pub lines_end : (file : List ℕ) (old policy : Policy) (lines : List Numbered) (i : ℕ)
+    → Leads file old policy lines (drop i lines) → length lines ≤ i → LinesMake file old lines (Ok policy)
 unfolding LinesMake
-lines_end file text old policy number rest leads none = grind (arith, nat_tests)
+lines_end file old policy lines i leads past = grind (arith, nat_tests, drop_of_length-le)
 
 -- the first of the things that are left was added
 pub item_keeps : (policy next : Policy) (origin : Origin) (rest more : List Item) (first : Item)

@@ -1,8 +1,10 @@
 -- The bytes of a line are read one by one, and the words of options passed on one by one.
-use Rattle.kob_policy_text.proofs.Words.{List, [], ◌∷◌, true, append_assoc, append-nil, arith, drop, drop_more, drop_of_length-le, get_or, held_at, length, nat_tests, next_place, no_words, refl, sym, with_shell_byte, ℕ, ◌++◌, ◌+◌, ◌<◌, ◌≡◌, ◌≤◌}
+use Rattle.kob_policy_text.proofs.Words.{List, [], ◌∷◌, true, append_assoc, append-nil, ap, arith, drop, drop_more, drop_of_length-le, get_or, held_at, length, nat_tests, next_place, no_cells, no_words, refl, sym, with_cell_byte, with_shell_byte, ℕ, ◌++◌, ◌+◌, ◌<◌, ◌≡◌, ◌≤◌}
 use Rattle.kob_policy_text.specs.Lines.{is_for_other_kind}
 use Rattle.kob_policy_text.specs.Options.{held_options}
 use Rattle.kob_script.specs.Words.{Word}
+use Rattle.kob_policy_text.specs.Cells.{Cells, cells_by, cells_in, read_cells}
+use Rattle.kob_policy_text.specs.Joined.{quoting_after}
 use Rattle.kob_policy_text.specs.Shell.{Words, read_on, shell_words, words_by}
 use Rattle.kob_policy_text.specs.declared.options.Place.{Place}
 
@@ -22,6 +24,28 @@ pub words_end : (words : Words) (line : List ℕ) (i : ℕ)
     → shell_words line ≡ words_by words.quoting words
 unfolding shell_words
 words_end words line i kept past = rw (sym (reads_all words _ line i kept past)) refl
+
+pub quoting_ends : (words : Words) (line : List ℕ) (i : ℕ)
+    → read_on words (drop i line) ≡ read_on no_words line → length line ≤ i → words.quoting ≡ quoting_after line
+unfolding quoting_after
+quoting_ends words line i kept past = ap (λ (w : Words). w.quoting) (reads_all words _ line i kept past)
+
+pub reads_cells : (cells next whole : Cells) (bytes : List ℕ) (i d byte : ℕ)
+    → read_cells cells (drop i bytes) ≡ whole → i < length bytes → byte ≡ get_or bytes i d
+    → next ≡ with_cell_byte cells byte → read_cells next (drop (i + 1) bytes) ≡ whole
+unfolding read_cells
+reads_cells cells next whole bytes i d byte kept below is more = grind (arith, nat_tests, drop_more)
+
+all_read : (cells whole : Cells) (bytes : List ℕ) (i : ℕ)
+    → read_cells cells (drop i bytes) ≡ whole → length bytes ≤ i → cells ≡ whole
+unfolding read_cells
+all_read cells whole bytes i kept past = grind (arith, nat_tests, drop_of_length-le)
+
+pub cells_end : (cells : Cells) (line : List ℕ) (i : ℕ)
+    → read_cells cells (drop i line) ≡ read_cells no_cells line → length line ≤ i
+    → cells_in line ≡ cells_by cells.spot cells
+unfolding cells_in
+cells_end cells line i kept past = rw (sym (all_read cells _ line i kept past)) refl
 
 pub passes_more : (place : Place) (words : List (List ℕ)) (i : ℕ) (d word : List ℕ) (out new whole : List (List ℕ))
     → out ++ held_options place (drop i words) ≡ whole → i < length words → word ≡ get_or words i d

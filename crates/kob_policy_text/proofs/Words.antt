@@ -4,13 +4,14 @@ pub use Rattle.kob_policy_text.specs.Answers.{omission_line, seen_text, who_line
 pub use Rattle.kob_policy_text.specs.Review.{answer_line, answers_text}
 pub use Rattle.kob_policy_text.specs.AtHand.{with_principal, with_text}
 pub use Rattle.kob_acl_cli.specs.Lines.{texts}
+pub use Rattle.kob_policy_text.specs.Cells.{no_cells, read_cells, with_cell_byte}
 pub use Rattle.kob_policy_text.specs.Lines.{SaysAt, has_heading, is_heading_line, super_item}
 pub use Rattle.kob_policy_text.specs.Options.{held_at, held_options, next_place, rule_items}
 pub use Rattle.kob_policy_text.specs.Shell.{no_words, read_on, with_shell_byte}
 pub use Rattle.kob_policy_text.specs.declared.options.Place.TheVariants.{Anywhere}
 pub use Rattle.kob_policy_text.specs.Outcomes.{MayFail, MayGive}
 pub use Rattle.kob_policy_text.specs.Listing.{held_name, trimmed}
-pub use Rattle.kob_policy_text.specs.Policy.{FileMakes, IsStopped, Policy, at_file, fault_at, place, unmarked, with_item, with_items}
+pub use Rattle.kob_policy_text.specs.Policy.{FileMakes, IsStopped, Policy, at_file, fault_at, place, with_item, with_items}
 pub use Rattle.kob_policy_text.specs.Questions.{Questions, lines_from, with_line}
 pub use Rattle.kob_policy_text.specs.declared.item.Item.{Item}
 pub use Rattle.kob_policy_text.specs.declared.origin.Origin.{Origin}

@@ -16,7 +16,7 @@ use Rattle.kob_policy_text.specs.declared.question.Act.TheVariants as act
 use Rattle.kob_policy_text.specs.declared.question.Asker.{Asker}
 use Rattle.kob_policy_text.specs.declared.question.Query.{Query}
 use Rattle.kob_policy_text.specs.declared.question.Question.{Question}
-use Rattle.kob_policy_text.specs.declared.question.Question.TheVariants.{May, Expect, Who, WhoConsumes, Sees, Summary, Unused, Shadowed, Removable}
+use Rattle.kob_policy_text.specs.declared.question.Question.TheVariants.{May, Expect, Who, WhoConsumes, WhoBelow, Rights, Sees, Summary, Unused, Shadowed, Removable}
 use Rattle.kob_policy_text.specs.declared.question.Right.{Right}
 use Rattle.kob_policy_text.specs.declared.release.Release.{Release}
 use Rattle.kob_policy_text.specs.declared.release.Release.TheVariants.{Before28, Since28}
@@ -117,6 +117,8 @@ fails policy (Expect expected access) = is_other_answer expected (is_allowed pol
 fails policy (May access) = false
 fails policy (Who right host) = false
 fails policy (WhoConsumes topic group) = false
+fails policy (WhoBelow right) = false
+fails policy (Rights principal host) = false
 fails policy (Sees asker) = false
 fails policy Summary = false
 fails policy Unused = false

@@ -1,6 +1,7 @@
 -- What a line of a policy says: a listed line, a setting, or a line that creates bindings.
 use Rattle.std.specs.Prelude.{◌≡◌, ◌==◌, ◌||◌, ◌&&◌, not, ℕ, Bool, true, false, List, [], ◌∷◌, filter, length, nat_lt, nat_eq, set, slice_get, is_some, Option, Some, None, ok_or, Result, Ok, Err, codes, if◌then◌else◌}
 use Rattle.std.specs.List.{list_all, list_any, slice_split, starts_with}
+use Rattle.std.specs.Option.{option_to_list}
 use Rattle.std.specs.Str.{bytes_eq, str_eq_ignore_ascii_case}
 use Rattle.kob_rights.specs.declared.event.Event.{Event}
 use Rattle.kob_rights.specs.declared.request.Request.{Request}
@@ -16,6 +17,7 @@ use Rattle.kob_policy_text.specs.declared.item.Item.TheVariants.{Super, Everyone
 use Rattle.kob_policy_text.specs.declared.item.LeftOut.TheVariants.{Principal}
 use Rattle.kob_policy_text.specs.Options.{SaysOptions, rule_items}
 use Rattle.kob_policy_text.specs.Releases.{release_named}
+use Rattle.kob_policy_text.specs.Rows.{is_tabular, tabular_item}
 use Rattle.kob_policy_text.specs.Shell.{shell_words}
 use Rattle.kob_policy_text.specs.Listing.{heading_item, newer_grant, older_grant, is_other_kind, other_principal, user_in, around_first, first_parts, holds_mark, last_parts, trimmed}
 
@@ -102,7 +104,12 @@ is_other_property line = not (is_property line) && has_key (first_parts line (co
 unfoldable pub is_listed : List ℕ → Bool
 is_listed line =
     is_comment line || (is_principal_heading line || (is_heading line || (is_newer_grant line
-    || (is_property line || holds_mark line (codes " permission for operations: ")))))
+    || (is_property line || (is_tabular line
+    || holds_mark line (codes " permission for operations: "))))))
+
+-- what one thing says, or nothing
+abbrev pub said_if : Result (Option Item) FaultKind → Result (List Item) FaultKind
+said_if read = read >>= λ item. Ok (option_to_list item)
 
 -- what such a line says
 unfoldable pub listed_items : List ℕ → Result (List Item) FaultKind
@@ -111,7 +118,8 @@ listed_items line =
     else (if is_heading line then said (heading_item line)
     else (if is_newer_grant line then said (newer_grant line)
     else (if is_property line then property_items line
-    else said (older_grant line))))
+    else (if is_tabular line then said_if (tabular_item line)
+    else said (older_grant line)))))
 
 -- what stands after the last slash of a path
 abbrev pub base_by : List ℕ → Option (List ℕ × List ℕ) → List ℕ

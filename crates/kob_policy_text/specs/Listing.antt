@@ -16,6 +16,7 @@ use Rattle.kob_names.specs.declared.kinds.PatternKind.{PatternKind}
 use Rattle.kob_names.specs.declared.kinds.ResourceKind.{ResourceKind}
 use Rattle.kob_names.specs.declared.kinds.ResourceKind.TheVariants.{TransactionalId}
 use Rattle.kob_words.specs.Words.{operation_named, resource_named, pattern_named, permission_named}
+use Rattle.kob_policy_text.specs.declared.item.Grant.{Grant}
 use Rattle.kob_policy_text.specs.declared.item.Item.{Item}
 use Rattle.kob_policy_text.specs.declared.item.LeftOut as kinds
 use Rattle.kob_policy_text.specs.declared.item.Target.{Target}
@@ -151,20 +152,23 @@ abbrev pub holder_by : Option Operation → List ℕ → Result (List ℕ) Fault
 holder_by None user = principal_of other_operation
 holder_by (Some operation) user = Ok user
 
-unfoldable pub grant_item : GrantWords → Result Item FaultKind
-grant_item words = do
+unfoldable pub grant_of : GrantWords → Result Grant FaultKind
+grant_of words = do
   permission ← ok_or (permission_named (unclosed words.permission)) BadWord
   operation ← ok_or (listed_operation words.operation) BadWord
   user ← user_in words.principal
   principal ← holder_by operation user
   text ← text_in words.host
   host ← host_of text
-  Ok (item.Grant (record {
+  Ok (record {
     permission = permission;
     principal = principal;
     host = host;
     operation = unwrap_or operation All;
-  }))
+  })
+
+abbrev pub grant_item : GrantWords → Result Item FaultKind
+grant_item words = grant_of words >>= λ grant. Ok (item.Grant grant)
 
 -- a principal, and not one binding and the next on one line
 abbrev pub one_principal : List ℕ → Result (List ℕ) FaultKind
@@ -210,12 +214,15 @@ pub record TargetWords : Type 0 where
   pub pattern : List ℕ
   pub name : List ℕ
 
-unfoldable pub target_item : TargetWords → Result Item FaultKind
-target_item words = do
+unfoldable pub target_of : TargetWords → Result (Option Target) FaultKind
+target_of words = do
   kind ← ok_or (listed_resource words.resource) BadWord
   pattern ← ok_or (pattern_named (unclosed words.pattern)) BadWord
   name ← text_in words.name
-  Ok (item.Resource (headed kind pattern name))
+  Ok (headed kind pattern name)
+
+abbrev pub target_item : TargetWords → Result Item FaultKind
+target_item words = target_of words >>= λ target. Ok (item.Resource target)
 
 -- ResourcePattern(resourceType=RESOURCE, name=NAME, patternType=PATTERN)
 unfoldable pub newer_resource : List ℕ → Result Item FaultKind

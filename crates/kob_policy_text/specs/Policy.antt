@@ -1,6 +1,6 @@
 -- A policy: the bindings of some files in the order in which they are read, the super users,
 -- whether what no binding matches is open to everyone, and the release of the brokers.
-use Rattle.std.specs.Prelude.{◌≡◌, ◌+◌, ◌||◌, ◌&&◌, not, ℕ, Bool, false, List, [], ◌∷◌, ◌++◌, Option, Some, None, Result, Ok, Err, codes, drop, is_none, length, nat_eq, nat_lt, if◌then◌else◌, ◌==◌, position}
+use Rattle.std.specs.Prelude.{◌≡◌, ◌||◌, ◌&&◌, not, ℕ, Bool, false, List, [], ◌∷◌, ◌++◌, Option, Some, None, Result, Ok, Err, codes, is_none, length, nat_lt, if◌then◌else◌, ◌==◌, position}
 use Rattle.kob_names.specs.Binding.{Binding, draft_fault, is_granted}
 use Rattle.kob_script.specs.declared.fault.FaultKind.{FaultKind}
 use Rattle.kob_script.specs.declared.fault.FaultKind.TheVariants.{BadName, NoResource}
@@ -15,8 +15,10 @@ use Rattle.kob_policy_text.specs.declared.item.LeftOut.{LeftOut}
 use Rattle.kob_policy_text.specs.declared.item.Target.{Target}
 use Rattle.kob_policy_text.specs.declared.origin.Origin.{Origin}
 use Rattle.kob_policy_text.specs.declared.origin.Omission.{Omission}
+use Rattle.kob_policy_text.specs.Encoding.{plain_text}
+use Rattle.kob_policy_text.specs.Joined.{Numbered, joined_lines}
 use Rattle.kob_policy_text.specs.Lines.{SaysAt, has_heading}
-use Rattle.std.specs.List.{starts_with}
+use Rattle.kob_policy_text.specs.Objects.{is_array, objects_in}
 use Rattle.kob_authorizer.specs.Decide.{Contents, decide, Question}
 use Rattle.kob_authorizer.specs.Creation.{Added, addition, create_fault}
 use Rattle.kob_authorizer.specs.declared.fault.CreateFault.{CreateFault}
@@ -131,12 +133,16 @@ draft_under target grant = record {
   pattern = target.pattern;
 }
 
+-- with a binding more on what is named, or left out
+abbrev pub with_row : Policy → Origin → Option Target → Grant → Result Policy FaultKind
+with_row policy origin None grant =
+    Ok (with_omission policy origin left_out.Resource (same_permission grant.permission Deny))
+with_row policy origin (Some target) grant =
+    with_draft policy origin (draft_under target grant)
+
 abbrev pub with_grant : Policy → Origin → Option (Option Target) → Grant → Result Policy FaultKind
 with_grant policy origin None grant = Err NoResource
-with_grant policy origin (Some None) grant =
-    Ok (with_omission policy origin left_out.Resource (same_permission grant.permission Deny))
-with_grant policy origin (Some (Some target)) grant =
-    with_draft policy origin (draft_under target grant)
+with_grant policy origin (Some target) grant = with_row policy origin target grant
 
 -- no binding may be on this
 abbrev pub has_bad_name : Target → Bool
@@ -162,6 +168,7 @@ with_item policy origin (item.Brokers release) = Ok (record policy { release = r
 with_item policy origin (item.Rule draft) = with_draft policy origin draft
 with_item policy origin (item.Resource target) = with_heading policy target
 with_item policy origin (item.Grant grant) = with_grant policy origin policy.heading grant
+with_item policy origin (item.Row target grant) = with_row policy origin target grant
 with_item policy origin item.Skipped = Ok (with_skipped policy origin)
 with_item policy origin (item.LeftOut what) = Ok (with_omission policy origin what false)
 
@@ -186,22 +193,30 @@ abbrev pub ThenLines : ℕ → Result Policy FaultKind → (Policy → Type 0) �
 ThenLines number (Ok policy) Others read = Others policy
 ThenLines number (Err kind) Others read = read ≡ Err (record { line = number; kind = kind })
 
--- the lines from one on, whose number is given, may make this
-unfoldable pub LinesMake : List ℕ → Policy → ℕ → List (List ℕ) → Result Policy Fault → Type 0
-LinesMake file policy number [] read = read ≡ Ok policy
-LinesMake file policy number (line ∷ lines) read =
-    (first : Result Policy FaultKind) × LineMakes file policy number line first
-    × ThenLines number first (λ next. LinesMake file next (number + 1) lines read) read
+-- the lines, each with its number, may make this
+unfoldable pub LinesMake : List ℕ → Policy → List Numbered → Result Policy Fault → Type 0
+LinesMake file policy [] read = read ≡ Ok policy
+LinesMake file policy (line ∷ lines) read =
+    (first : Result Policy FaultKind) × LineMakes file policy line.line line.text first
+    × ThenLines line.line first (λ next. LinesMake file next lines read) read
 
--- a byte order mark of UTF-8 is no part of the text
-abbrev pub unmarked : List ℕ → List ℕ
-unmarked text =
-    if starts_with nat_eq text (239 ∷ 187 ∷ 191 ∷ []) then drop 3 text else text
+-- the lines of a text, or the objects of an array, each with its number
+unfoldable pub numbered_in : List ℕ → Result (List Numbered) Fault
+numbered_in text =
+    if is_array text then objects_in (lines_in text) else Ok (joined_lines (lines_in text))
 
--- A file may make this of a policy, or have this first fault, with lines counted from 1.
+abbrev pub EachMakes : List ℕ → Policy → Result (List Numbered) Fault → Result Policy Fault → Type 0
+EachMakes file policy (Ok lines) read = LinesMake file policy lines read
+EachMakes file policy (Err fault) read = read ≡ Err fault
+
+abbrev pub TextMakes : List ℕ → Policy → Result (List ℕ) Fault → Result Policy Fault → Type 0
+TextMakes file policy (Ok text) read = EachMakes file (at_file text policy) (numbered_in text) read
+TextMakes file policy (Err fault) read = read ≡ Err fault
+
+-- A file may make this of a policy, or have this first fault, with lines counted from 1. One that is no
+-- text, or an array that is no JSON, has that fault whatever stands above it.
 abbrev pub FileMakes : List ℕ → List ℕ → Policy → Result Policy Fault → Type 0
-FileMakes file text policy read =
-    LinesMake file (at_file (unmarked text) policy) 1 (lines_in (unmarked text)) read
+FileMakes file text policy read = TextMakes file policy (plain_text text) read
 
 -- a fault with the number of its line
 abbrev pub fault_at : ℕ → LineError → ScriptError

@@ -19,7 +19,7 @@ use Rattle.kob_policy_text.specs.declared.question.Act.TheVariants as act
 use Rattle.kob_policy_text.specs.declared.question.Asker.{Asker}
 use Rattle.kob_policy_text.specs.declared.question.Query.{Query}
 use Rattle.kob_policy_text.specs.declared.question.Question.{Question}
-use Rattle.kob_policy_text.specs.declared.question.Question.TheVariants.{May, Expect, Who, WhoConsumes, Sees, Summary, Unused, Shadowed, Removable}
+use Rattle.kob_policy_text.specs.declared.question.Question.TheVariants.{May, Expect, Who, WhoConsumes, WhoBelow, Rights, Sees, Summary, Unused, Shadowed, Removable}
 use Rattle.kob_policy_text.specs.declared.question.Right.{Right}
 use Rattle.kob_policy_text.specs.Lines.{only_event}
 use Rattle.kob_policy_text.specs.Listing.{known_operation, known_resource, trimmed}
@@ -177,18 +177,41 @@ abbrev pub who_may : Word → Word → Word → Result Question FaultKind
 who_may operation resource name =
     right_of operation resource name >>= λ right. Ok (Who right None)
 
--- who produce TOPIC, who consume TOPIC GROUP, who OPERATION RESOURCE NAME, and HOST behind that
+-- the cluster has one name, and no names that begin with a prefix
+abbrev pub has_prefixes : Right → Result Question FaultKind
+has_prefixes right =
+    if same_resource right.resource Cluster then Err BadWord else Ok (WhoBelow right)
+
+-- who OPERATION RESOURCE prefix NAME
+abbrev pub who_below : Word → Word → Word → Result Question FaultKind
+who_below operation resource name = right_of operation resource name >>= has_prefixes
+
+-- who OPERATION RESOURCE NAME HOST
+abbrev pub who_from : Word → Word → Word → Word → Result Question FaultKind
+who_from operation resource name host = do
+  right ← right_of operation resource name
+  place ← host_in host
+  Ok (Who right (Some place))
+
+-- who produce TOPIC, who consume TOPIC GROUP, who OPERATION RESOURCE NAME, and HOST behind that, or
+-- `prefix` before the name
 abbrev pub who_words : List Word → Result Question FaultKind
 who_words (command ∷ topic ∷ []) =
     if is_word command (codes "produce") then who_produces topic else Err BadLine
 who_words (first ∷ second ∷ third ∷ []) =
     if is_word first (codes "consume") then who_consumes second third
     else who_may first second third
-who_words (operation ∷ resource ∷ name ∷ host ∷ []) = do
-  right ← right_of operation resource name
-  place ← host_in host
-  Ok (Who right (Some place))
+who_words (operation ∷ resource ∷ third ∷ fourth ∷ []) =
+    if is_word third (codes "prefix") then who_below operation resource fourth
+    else who_from operation resource third fourth
 who_words _ = Err BadLine
+
+-- rights PRINCIPAL [HOST]
+abbrev pub rights_words : List Word → Result Question FaultKind
+rights_words (principal ∷ []) = text_of principal >>= principal_of >>= λ who. Ok (Rights who None)
+rights_words (principal ∷ host ∷ []) =
+    asker_of principal host >>= λ asker. Ok (Rights asker.principal (Some asker.host))
+rights_words _ = Err BadLine
 
 abbrev pub sees_words : List Word → Result Question FaultKind
 sees_words (principal ∷ host ∷ []) = asker_of principal host >>= λ asker. Ok (Sees asker)
@@ -205,12 +228,13 @@ question_by first words =
     if is_word first (codes "may") then (may_words words >>= λ asked. Ok (May asked))
     else (if is_word first (codes "expect") then expect_words words
     else (if is_word first (codes "who") then who_words words
+    else (if is_word first (codes "rights") then rights_words words
     else (if is_word first (codes "sees") then sees_words words
     else (if is_word first (codes "summary") then alone Summary words
     else (if is_word first (codes "unused") then alone Unused words
     else (if is_word first (codes "shadowed") then alone Shadowed words
     else (if is_word first (codes "removable") then alone Removable words
-    else Err BadLine)))))))
+    else Err BadLine))))))))
 
 -- the names of topics that are given, and the questions in their order, each beside its text
 pub record Questions : Type 0 where

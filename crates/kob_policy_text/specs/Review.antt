@@ -9,8 +9,7 @@ use Rattle.kob_policy_review.specs.Granting.{answers_on}
 use Rattle.kob_policy_review.specs.Redundancy.{unused_in}
 use Rattle.kob_policy_review.specs.Shadows.{shadowed_in}
 use Rattle.kob_policy_review.specs.declared.class.Class.{Class}
-use Rattle.kob_policy_review.specs.declared.class.Names.{Names}
-use Rattle.kob_policy_review.specs.declared.class.Names.TheVariants.{Exactly, Below}
+use Rattle.kob_policy_review.specs.declared.class.Names.TheVariants.{Exactly}
 use Rattle.kob_policy_review.specs.declared.class.Target.{Target}
 use Rattle.kob_policy_review.specs.declared.granting.Answer.{Answer}
 use Rattle.kob_policy_review.specs.declared.difference.Change.{Change}
@@ -22,13 +21,16 @@ use Rattle.kob_policy_review.specs.declared.redundant.Unneeded.{Unneeded}
 use Rattle.kob_policy_text.specs.Access.{access_text, expect_text}
 use Rattle.kob_policy_text.specs.Answers.{from_text, line_at, line_by, reason_text, sees_text}
 use Rattle.kob_policy_text.specs.AtHand.{each_once}
+use Rattle.kob_policy_text.specs.Holdings.{holdings_text}
+use Rattle.kob_policy_text.specs.Parties.{names_text, party_text, super_grant}
 use Rattle.kob_policy_text.specs.Policy.{Policy, contents_of, place_of}
+use Rattle.kob_policy_text.specs.Reaches.{reaches_text}
 use Rattle.kob_policy_text.specs.Summary.{summary_text}
 use Rattle.kob_policy_text.specs.Questions.{Questions}
 use Rattle.kob_policy_text.specs.Removable.{removable_text}
 use Rattle.kob_policy_text.specs.declared.question.Query.{Query}
 use Rattle.kob_policy_text.specs.declared.question.Question.{Question}
-use Rattle.kob_policy_text.specs.declared.question.Question.TheVariants.{May, Expect, Who, WhoConsumes, Sees, Summary, Unused, Shadowed, Removable}
+use Rattle.kob_policy_text.specs.declared.question.Question.TheVariants.{May, Expect, Who, WhoConsumes, WhoBelow, Rights, Sees, Summary, Unused, Shadowed, Removable}
 use Rattle.kob_policy_text.specs.declared.question.Right.{Right}
 use Rattle.kob_words.specs.Words.{bytes_text, operation_name, resource_name}
 
@@ -57,20 +59,6 @@ shadowed_line policy serial = line_by policy (Some serial)
 
 abbrev pub shadowed_text : Policy → List ℕ
 shadowed_text policy = flat_map (shadowed_line policy) (shadowed_in (contents_of policy))
-
--- a principal or a host, or all that no binding names
-abbrev pub party_text : List ℕ → Option (List ℕ) → List ℕ
-party_text all None = all
-party_text all (Some party) = bytes_text party
-
--- a name, or those that begin so and that no longer pattern takes
-abbrev pub names_text : Names → List ℕ
-names_text (Exactly name) = bytes_text name
-names_text (Below start) = bytes_text start ++ codes "* (others)"
-
--- a super user, to whom all is granted from every host
-unfoldable pub super_grant : List ℕ → List ℕ
-super_grant user = codes "  " ++ bytes_text user ++ codes " yes super\n"
 
 -- the names of the right alone
 abbrev pub target_at : Right → Target
@@ -165,6 +153,8 @@ question_text policy topics (May access) = access_text policy access
 question_text policy topics (Expect expected access) = expect_text policy expected access
 question_text policy topics (Who right host) = who_text policy right host
 question_text policy topics (WhoConsumes topic group) = consumers_text policy topic group
+question_text policy topics (WhoBelow right) = reaches_text policy right
+question_text policy topics (Rights principal host) = holdings_text policy principal host
 question_text policy topics (Sees asker) = sees_text policy topics asker
 question_text policy topics Summary = summary_text policy
 question_text policy topics Unused = unused_text policy

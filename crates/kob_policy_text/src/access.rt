@@ -21,7 +21,7 @@ fn push_right_answer(out: &mut Vec<u8>, judge: &Judge, asked: &Asked<'_>) -> Res
 {
     let verdict = judge.verdict(asked);
     push_may(out, judge, verdict)?;
-    push_untaken(out, judge.policy(), verdict, asked)
+    push_untaken(out, judge, verdict, asked)
 }
 
 fn push_act(out: &mut Vec<u8>, judge: &Judge, asker: &Asker, act: &Act) -> Result<(), AllocError>
@@ -47,10 +47,11 @@ pub fn push_access(out: &mut Vec<u8>, judge: &Judge, access: &Access) -> Result<
 {
     push_act(out, judge, &access.asker, &access.act)?;
     let allowed = is_allowed(judge, access);
-    push_unnamed(out, judge.policy(), allowed, &access.asker.principal)
+    push_unnamed(out, judge, allowed, &access.asker.principal)
 }
 
-fn is_allowed(judge: &Judge, access: &Access) -> bool
+/// Whether the answer to `may` is yes.
+pub fn is_allowed(judge: &Judge, access: &Access) -> bool
     ensures { result ≡ is_allowed judge.now access.now }
 {
     let rights = rights_of(judge.policy().release(), &access.act);
@@ -97,6 +98,8 @@ fn fails(judge: &Judge, question: &Question) -> bool
         Question::May(_)
         | Question::Who(_, _)
         | Question::WhoConsumes(_, _)
+        | Question::WhoBelow(_)
+        | Question::Rights(_, _)
         | Question::Sees(_)
         | Question::Summary
         | Question::Unused

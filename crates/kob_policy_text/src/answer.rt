@@ -7,10 +7,12 @@ ghost use Rattle.kob_policy_text.specs.Review.{review_text};
 
 use crate::access::{push_access, push_expected};
 use crate::changes::print_changes;
+use crate::holdings::push_holdings;
 use crate::judge::Judge;
 use crate::policy::Policy;
 use crate::printed::push_omission;
 use crate::question::{Query, Question, Questions};
+use crate::reaches::push_reaches;
 use crate::removable::push_removable;
 use crate::shadowed::push_shadowed;
 use crate::summary::push_summary;
@@ -35,6 +37,8 @@ fn push_question(
         Question::Expect(expected, access) => push_expected(out, judge, *expected, access),
         Question::Who(right, host) => push_who(alloc, out, judge, right, host),
         Question::WhoConsumes(topic, group) => push_consumers(alloc, out, judge, topic, group),
+        Question::WhoBelow(right) => push_reaches(alloc, out, judge, right),
+        Question::Rights(principal, host) => push_holdings(alloc, out, judge, principal, host),
         Question::Sees(asker) => push_sees(alloc, out, judge, topics, asker),
         Question::Summary => push_summary(alloc, out, judge),
         Question::Unused => push_unused(alloc, out, judge),

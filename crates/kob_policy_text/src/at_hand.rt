@@ -1,12 +1,14 @@
 //! What bindings name, each once.
 
-ghost use Rattle.std.specs.Prelude.{◌≡◌, IfOk, OnOk, codes};
-ghost use Rattle.kob_policy_text.specs.AtHand.{each_once, hosts_named, is_known, is_one_topic};
+ghost use Rattle.std.specs.Prelude.{◌≡◌, [], IfOk, OnOk, codes};
+ghost use Rattle.kob_policy_text.specs.AtHand.{each_once, hosts_named, is_one_topic};
 ghost use Rattle.kob_policy_text.specs.AtHand.{names_named, principals_at_hand, principals_named};
 ghost use Rattle.kob_policy_text.specs.AtHand.{topics_named, with_name, with_text, with_topic};
 
-use kob_names::{Binding, PatternKind, PlainValue, Principal, PrincipalFault, ResourceKind, Text};
+use crate::texts::Texts;
+use kob_names::{Binding, PatternKind, PlainValue, Principal, PrincipalFault, ResourceKind};
 use std::alloc::{AllocError, Global};
+use std::marker::Model;
 
 fn every_user(alloc: Global) -> Result<Principal, AllocError>
     ensures { IfOk result (λ made. made ≡ codes "User:*") }
@@ -18,23 +20,52 @@ fn every_user(alloc: Global) -> Result<Principal, AllocError>
     }
 }
 
-fn knows_principal(principals: &[Principal], principal: &Principal) -> bool
-    ensures { result ≡ is_known principals.now principal.now }
-{
-    principals.iter().any(|known| principal == known)
+/// Principals, each once, in the order in which they came, and their texts. Contracts see their list.
+#[derive(Drop)]
+struct Users {
+    made: Vec<Principal>,
+    texts: Texts,
 }
 
-fn add_principal(
-    alloc: Global,
-    principals: &mut Vec<Principal>,
-    principal: &Principal,
-) -> Result<(), AllocError>
-    ensures { OnOk result (principals.new.items ≡ with_text principals.old.items principal.now) }
-{
-    if !knows_principal(principals, principal) {
-        principals.push(principal.copy(alloc)?)?;
+impl Model for Users {
+    ghost use Rattle.std.specs.Prelude.{◌≡◌, List, ℕ};
+
+    ghost Value = { List (List ℕ) };
+
+    ghost view = { λ users. users.made.items };
+
+    ghost invariant = { λ users. users.texts ≡ users.made.items };
+}
+
+impl Users {
+    fn new(alloc: Global) -> Users
+        ensures { result ≡ [] }
+    {
+        Users {
+            made: Vec::new(alloc),
+            texts: Texts::new(alloc),
+        }
     }
-    Ok(())
+
+    /// Puts the principal last, unless it is there.
+    fn add(&mut self, alloc: Global, principal: &Principal) -> Result<(), AllocError>
+        ensures { OnOk result (self.new ≡ with_text self.old principal.now) }
+    {
+        if self.texts.knows(principal.as_str()) {
+            return Ok(());
+        }
+        let copy = principal.copy(alloc)?;
+        self.made.reserve(1)?;
+        self.texts.add(alloc, principal.as_str())?;
+        self.made.push_reserved(copy);
+        Ok(())
+    }
+
+    fn into_vec(self) -> Vec<Principal>
+        ensures { result.items ≡ self }
+    {
+        self.made
+    }
 }
 
 /// The users in the order in which they first stand there.
@@ -42,11 +73,11 @@ fn add_principal(
 pub fn each_once(alloc: Global, users: &[Principal]) -> Result<Vec<Principal>, AllocError>
     ensures { IfOk result (λ made. made.items ≡ each_once users.now) }
 {
-    let mut made = Vec::new(alloc);
+    let mut made = Users::new(alloc);
     for user in users {
-        add_principal(alloc, &mut made, user)?;
+        made.add(alloc, user)?;
     }
-    Ok(made)
+    Ok(made.into_vec())
 }
 
 /// `User:*`, which asks as all others do, and the principals that bindings name, in the order in
@@ -55,65 +86,50 @@ pub fn each_once(alloc: Global, users: &[Principal]) -> Result<Vec<Principal>, A
 pub fn principals_at_hand(alloc: Global, bindings: &[Binding]) -> Result<Vec<Principal>, AllocError>
     ensures { IfOk result (λ made. made.items ≡ principals_at_hand bindings.now) }
 {
-    let mut principals = Vec::new(alloc);
-    principals.push(every_user(alloc)?)?;
+    let mut principals = Users::new(alloc);
+    principals.add(alloc, &every_user(alloc)?)?;
     for binding in bindings {
-        add_principal(alloc, &mut principals, &binding.parts().principal)?;
+        principals.add(alloc, &binding.parts().principal)?;
     }
-    Ok(principals)
-}
-
-fn knows_text(texts: &[Text], text: &str) -> bool
-    ensures { result ≡ is_known texts.now text.now }
-{
-    texts.iter().any(|known| text == known.as_str())
-}
-
-fn add_text(alloc: Global, texts: &mut Vec<Text>, text: &str) -> Result<(), AllocError>
-    ensures { OnOk result (texts.new.items ≡ with_text texts.old.items text.now) }
-{
-    if !knows_text(texts, text) {
-        texts.push(Text::copied(alloc, text)?)?;
-    }
-    Ok(())
+    Ok(principals.into_vec())
 }
 
 /// The principals that bindings name.
 #[tactic(auto, using(std::proofs::lemmas::List::Sums::fold_more))]
-pub fn principals_named(alloc: Global, bindings: &[Binding]) -> Result<Vec<Text>, AllocError>
-    ensures { IfOk result (λ made. made.items ≡ principals_named bindings.now) }
+pub fn principals_named(alloc: Global, bindings: &[Binding]) -> Result<Texts, AllocError>
+    ensures { IfOk result (λ made. made ≡ principals_named bindings.now) }
 {
-    let mut made = Vec::new(alloc);
+    let mut made = Texts::new(alloc);
     for binding in bindings {
-        add_text(alloc, &mut made, binding.parts().principal.as_str())?;
+        made.add(alloc, binding.parts().principal.as_str())?;
     }
     Ok(made)
 }
 
 /// The hosts that bindings name.
 #[tactic(auto, using(std::proofs::lemmas::List::Sums::fold_more))]
-pub fn hosts_named(alloc: Global, bindings: &[Binding]) -> Result<Vec<Text>, AllocError>
-    ensures { IfOk result (λ made. made.items ≡ hosts_named bindings.now) }
+pub fn hosts_named(alloc: Global, bindings: &[Binding]) -> Result<Texts, AllocError>
+    ensures { IfOk result (λ made. made ≡ hosts_named bindings.now) }
 {
-    let mut made = Vec::new(alloc);
+    let mut made = Texts::new(alloc);
     for binding in bindings {
-        add_text(alloc, &mut made, binding.parts().host.as_str())?;
+        made.add(alloc, binding.parts().host.as_str())?;
     }
     Ok(made)
 }
 
 fn add_name(
     alloc: Global,
-    names: &mut Vec<Text>,
+    names: &mut Texts,
     resource: ResourceKind,
     binding: &Binding,
 ) -> Result<(), AllocError>
     ensures { OnOk result
-        (names.new.items ≡ with_name resource names.old.items binding.now) }
+        (names.new ≡ with_name resource names.old binding.now) }
 {
     let parts = binding.parts();
     if parts.resource == resource {
-        add_text(alloc, names, parts.pattern.name.as_str())?;
+        names.add(alloc, parts.pattern.name.as_str())?;
     }
     Ok(())
 }
@@ -124,10 +140,10 @@ pub fn names_named(
     alloc: Global,
     resource: ResourceKind,
     bindings: &[Binding],
-) -> Result<Vec<Text>, AllocError>
-    ensures { IfOk result (λ made. made.items ≡ names_named resource bindings.now) }
+) -> Result<Texts, AllocError>
+    ensures { IfOk result (λ made. made ≡ names_named resource bindings.now) }
 {
-    let mut made = Vec::new(alloc);
+    let mut made = Texts::new(alloc);
     for binding in bindings {
         add_name(alloc, &mut made, resource, binding)?;
     }
@@ -144,21 +160,21 @@ fn is_one_topic(binding: &Binding) -> bool
         && parts.pattern.name.as_str() != "*"
 }
 
-fn add_topic(alloc: Global, topics: &mut Vec<Text>, binding: &Binding) -> Result<(), AllocError>
-    ensures { OnOk result (topics.new.items ≡ with_topic topics.old.items binding.now) }
+fn add_topic(alloc: Global, topics: &mut Texts, binding: &Binding) -> Result<(), AllocError>
+    ensures { OnOk result (topics.new ≡ with_topic topics.old binding.now) }
 {
     if is_one_topic(binding) {
-        add_text(alloc, topics, binding.parts().pattern.name.as_str())?;
+        topics.add(alloc, binding.parts().pattern.name.as_str())?;
     }
     Ok(())
 }
 
 /// The topics that literal patterns name.
 #[tactic(auto, using(std::proofs::lemmas::List::Sums::fold_more))]
-pub fn topics_named(alloc: Global, bindings: &[Binding]) -> Result<Vec<Text>, AllocError>
-    ensures { IfOk result (λ made. made.items ≡ topics_named bindings.now) }
+pub fn topics_named(alloc: Global, bindings: &[Binding]) -> Result<Texts, AllocError>
+    ensures { IfOk result (λ made. made ≡ topics_named bindings.now) }
 {
-    let mut made = Vec::new(alloc);
+    let mut made = Texts::new(alloc);
     for binding in bindings {
         add_topic(alloc, &mut made, binding)?;
     }

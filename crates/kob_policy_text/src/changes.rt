@@ -2,8 +2,9 @@
 
 ghost use Rattle.std.specs.Prelude.{◌≡◌, ◌++◌, OnOk, flat_map};
 ghost use Rattle.kob_policy_text.specs.Review.{asker_text, change_line, changes_text};
-ghost use Rattle.kob_policy_text.specs.Review.{everyone_text, names_text, outcome_text};
-ghost use Rattle.kob_policy_text.specs.Review.{party_text, super_line, supers_text, target_text};
+ghost use Rattle.kob_policy_text.specs.Parties.{names_text, party_text};
+ghost use Rattle.kob_policy_text.specs.Review.{everyone_text, outcome_text};
+ghost use Rattle.kob_policy_text.specs.Review.{super_line, supers_text, target_text};
 ghost use Rattle.kob_authorizer.specs.Decide.{is_super};
 
 use crate::judge::Judge;
@@ -22,8 +23,9 @@ pub fn push_party(out: &mut Vec<u8>, all: &[u8], party: &Option<Text>) -> Result
     }
 }
 
+/// A name, or those that begin so and that no longer pattern takes.
 #[tactic(auto, using(kob_words::proofs::Appending::appending))]
-fn push_names(out: &mut Vec<u8>, names: &Names) -> Result<(), AllocError>
+pub fn push_names(out: &mut Vec<u8>, names: &Names) -> Result<(), AllocError>
     ensures { OnOk result (out.new.items ≡ out.old.items ++ names_text names.now) }
 {
     match names {

@@ -39,6 +39,8 @@ pub enum Item {
     /// The bindings that are listed below are on this, or are left out.
     Resource(Option<Target>),
     Grant(Grant),
+    /// A binding with what it is on, which is left out or named.
+    Row(Option<Target>, Grant),
     /// The line says nothing of rules.
     Skipped,
     /// A super user is left out.

@@ -1,13 +1,19 @@
 //! How a policy decides.
 
 ghost use Rattle.std.specs.Prelude.{◌≡◌, ◌≢◌, [], IfErr, IfOk, OnOk, Some, alloc_error};
+ghost use Rattle.kob_policy_text.specs.AtHand.{principals_named};
+ghost use Rattle.kob_policy_text.specs.Hints.{is_named, is_taken};
+ghost use Rattle.kob_policy_text.specs.Taking.{taken_of};
 ghost use Rattle.kob_policy_text.specs.Policy.{added, closed, contents_of, deciding, is_yes, may};
 ghost use Rattle.kob_policy_text.specs.Policy.{open_fault, place_of, serials_of};
 
 use crate::asked::Asked;
+use crate::at_hand::principals_named;
+use crate::patterns::Patterns;
 use crate::policy::Policy;
+use crate::texts::Texts;
 use kob_authorizer::{Authorizer, CreateFault};
-use kob_names::{Items, Verdict};
+use kob_names::{Items, Principal, Verdict};
 use std::alloc::{AllocError, Global};
 use std::marker::Model;
 
@@ -17,11 +23,15 @@ pub struct Judge {
     policy: Policy,
     authorizer: Authorizer,
     serials: Vec<u64>,
+    users: Texts,
+    patterns: Patterns,
 }
 
 impl Model for Judge {
     ghost use Rattle.std.specs.Prelude.{◌≡◌};
+    ghost use Rattle.kob_policy_text.specs.AtHand.{principals_named};
     ghost use Rattle.kob_policy_text.specs.Policy.{contents_of, serials_of};
+    ghost use Rattle.kob_policy_text.specs.Taking.{taken_of};
     ghost use Rattle.kob_policy_text.specs.Policy as seen;
 
     ghost Value = { seen.Policy };
@@ -29,7 +39,9 @@ impl Model for Judge {
     ghost view = { λ judge. judge.policy };
 
     ghost invariant = { λ judge. (judge.authorizer.contents ≡ contents_of judge.policy)
-        × (judge.serials.items ≡ serials_of judge.policy) };
+        × ((judge.serials.items ≡ serials_of judge.policy)
+        × ((judge.users ≡ principals_named judge.policy.bindings)
+        × (judge.patterns ≡ taken_of judge.policy))) };
 }
 
 impl Judge {
@@ -40,11 +52,13 @@ impl Judge {
         ensures fault { IfErr result (λ fault. fault ≢ CreateFault.Memory alloc_error
             → open_fault policy ≡ Some fault) }
     {
-        match in_force(alloc, &policy) {
-            Ok((authorizer, serials)) => Ok(Judge {
+        match parts_of(alloc, &policy) {
+            Ok((named, authorizer, serials)) => Ok(Judge {
                 policy,
                 authorizer,
                 serials,
+                users: named.users,
+                patterns: named.patterns,
             }),
             Err(fault) => {
                 drop(policy);
@@ -94,12 +108,58 @@ impl Judge {
         self.serials.iter().position(|other| *other == serial)
     }
 
+    /// Whether a binding names the principal.
+    pub fn is_named(&self, principal: &Principal) -> bool
+        ensures { result ≡ is_named self.now principal.now }
+    {
+        self.users.knows(principal.as_str())
+    }
+
+    /// Whether the pattern of a binding takes the name that is asked for. That of a binding that is
+    /// left out counts.
+    pub fn is_taken(&self, asked: &Asked<'_>) -> bool
+        ensures { result ≡ is_taken self.now asked.now }
+    {
+        self.patterns.take(asked.resource, asked.name)
+    }
+
     /// The serials of the bindings, in their order.
     pub fn serials(&self) -> &[u64]
         ensures { result.now ≡ serials_of self.now }
     {
         self.serials.as_slice()
     }
+}
+
+/// The principals and the names that bindings have.
+#[derive(Drop)]
+struct Named {
+    users: Texts,
+    patterns: Patterns,
+}
+
+#[tactic(auto, unfolding(crate::specs::Taking::taken_of))]
+fn named_in(alloc: Global, policy: &Policy) -> Result<Named, AllocError>
+    ensures { IfOk result (λ made. (made.users ≡ principals_named policy.now.bindings)
+        × (made.patterns ≡ taken_of policy.now)) }
+{
+    let users = principals_named(alloc, policy.bindings())?;
+    let mut patterns = Patterns::of(alloc, policy.bindings())?;
+    patterns.add_all(alloc, policy.closings())?;
+    Ok(Named { users, patterns })
+}
+
+fn parts_of(alloc: Global, policy: &Policy) -> Result<(Named, Authorizer, Vec<u64>), CreateFault>
+    ensures named { IfOk result (λ made. (made.0.users ≡ principals_named policy.now.bindings)
+        × (made.0.patterns ≡ taken_of policy.now)) }
+    ensures made { IfOk result (λ made. (made.1.contents ≡ contents_of policy.now)
+        × (made.2.items ≡ serials_of policy.now)) }
+    ensures fault { IfErr result (λ fault. fault ≢ CreateFault.Memory alloc_error
+        → open_fault policy.now ≡ Some fault) }
+{
+    let named = named_in(alloc, policy)?;
+    let (authorizer, serials) = in_force(alloc, policy)?;
+    Ok((named, authorizer, serials))
 }
 
 /// The authorizer with the bindings of a policy, and their serials.

@@ -7,7 +7,8 @@ ghost use Rattle.kob_policy_text.specs.Lines.{is_for_other_kind, is_foreign, is_
 ghost use Rattle.kob_policy_text.specs.Lines.{is_heading_line, is_listed, is_release, is_skipped};
 ghost use Rattle.kob_policy_text.specs.Lines.{listed_items, names_other_kind, only_event};
 ghost use Rattle.kob_policy_text.specs.Lines.{release_line, rules_in, rules_of, setting_items};
-ghost use Rattle.kob_policy_text.specs.Lines.{super_line, texts_behind, words_items};
+ghost use Rattle.kob_policy_text.specs.Lines.{said_if, super_line, texts_behind, words_items};
+ghost use Rattle.kob_policy_text.specs.Rows.{tabular_item};
 ghost use Rattle.kob_policy_text.specs.Outcomes.{MayGive};
 ghost use Rattle.kob_script.specs.Words.{Gives, GivesSeen, each, text_of, words_of};
 ghost use Rattle.kob_script.specs.Script.{asks_clap};
@@ -18,6 +19,7 @@ use crate::options::{added, rule_items};
 use crate::pieces::{holds_mark, trimmed};
 use crate::properties::{is_other_property, is_property, one, property_items, super_item};
 use crate::release::release_named;
+use crate::rows::{is_tabular, tabular_item};
 use crate::tool::{tool_arguments, tool_items};
 use crate::users::{OTHER_PRINCIPAL, is_other_kind};
 use kob_names::{Host, Principal, Text};
@@ -54,7 +56,17 @@ fn is_listed(line: &[u8]) -> bool
         || is_heading(line)
         || line.starts_with(b"(principal=")
         || is_property(line)
+        || is_tabular(line)
         || holds_mark(line, b" permission for operations: ")
+}
+
+fn tabular_items(alloc: Global, line: &[u8]) -> Result<Vec<Item>, LineError>
+    ensures { GivesSeen (λ items. items.items) result (said_if (tabular_item line.now)) }
+{
+    match tabular_item(alloc, line)? {
+        Some(item) => one(alloc, item),
+        None => Ok(Vec::new(alloc)),
+    }
 }
 
 /// What a line that is read as a whole says.
@@ -70,6 +82,8 @@ fn listed_items(alloc: Global, line: &[u8]) -> Result<Vec<Item>, LineError>
         one(alloc, newer_grant(alloc, line)?)
     } else if is_property(line) {
         property_items(alloc, line)
+    } else if is_tabular(line) {
+        tabular_items(alloc, line)
     } else {
         one(alloc, older_grant(alloc, line)?)
     }
@@ -100,7 +114,7 @@ fn release_line(alloc: Global, arguments: &[Word<'_>]) -> Result<Vec<Item>, Line
             alloc,
             Item::Brokers(known(release_named(version.decoded()))?),
         ),
-        _ => Err(LineError::Fault(FaultKind::BadLine)),
+        [] | [_, _, ..] => Err(LineError::Fault(FaultKind::BadLine)),
     }
 }
 
@@ -169,7 +183,7 @@ fn rules_of(alloc: Global, asked: VecDeque<Event>) -> Result<Vec<Item>, LineErro
     ensures { GivesSeen (λ items. items.items) result (rules_of asked.items) }
 {
     match only_event(asked) {
-        Some(event) => rules_in(alloc, event.request),
+        Some(event) => rules_in(alloc, event.into_request()),
         None => Err(LineError::Fault(FaultKind::BadLine)),
     }
 }

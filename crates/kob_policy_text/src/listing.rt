@@ -1,14 +1,14 @@
 //! The lines that `kafka-acls --list` prints.
 
 ghost use Rattle.std.specs.Prelude.{◌≡◌, codes, ok_or};
-ghost use Rattle.kob_policy_text.specs.Listing.{grant_item, headed, heading_item, holder_by};
+ghost use Rattle.kob_policy_text.specs.Listing.{grant_item, grant_of, headed, heading_item, holder_by};
 ghost use Rattle.kob_policy_text.specs.Listing.{is_other_operation, is_other_resource, known_operation};
 ghost use Rattle.kob_policy_text.specs.Listing.{known_resource};
 ghost use Rattle.kob_policy_text.specs.Listing.{listed_operation, listed_resource, one_principal};
 ghost use Rattle.kob_policy_text.specs.Listing.{unclosed};
 ghost use Rattle.kob_policy_text.specs.Listing.{is_pattern_word, newer_grant, newer_resource};
 ghost use Rattle.kob_policy_text.specs.Listing.{older_grant, older_resource, older_target};
-ghost use Rattle.kob_policy_text.specs.Listing.{resource_item, target_item, first_parts};
+ghost use Rattle.kob_policy_text.specs.Listing.{resource_item, target_item, target_of, first_parts};
 ghost use Rattle.kob_script.specs.Words.{Gives, GivesSeen};
 ghost use Rattle.kob_script.specs.declared.fault.FaultKind.TheVariants.{BadWord};
 
@@ -24,10 +24,10 @@ use std::marker::Model;
 /// The parts of a listed binding, as they are there.
 #[derive(Drop)]
 pub struct GrantWords<'a> {
-    principal: &'a [u8],
-    host: &'a [u8],
-    operation: &'a [u8],
-    permission: &'a [u8],
+    pub principal: &'a [u8],
+    pub host: &'a [u8],
+    pub operation: &'a [u8],
+    pub permission: &'a [u8],
 }
 
 impl<'a> Model for GrantWords<'a> {
@@ -46,9 +46,9 @@ impl<'a> Model for GrantWords<'a> {
 /// The words of a resource.
 #[derive(Drop)]
 pub struct TargetWords<'a> {
-    resource: &'a [u8],
-    pattern: &'a [u8],
-    name: &'a [u8],
+    pub resource: &'a [u8],
+    pub pattern: &'a [u8],
+    pub name: &'a [u8],
 }
 
 impl<'a> Model for TargetWords<'a> {
@@ -170,21 +170,27 @@ fn holder_by(
     }
 }
 
-#[tactic(auto, unfolding(crate::specs::Listing::grant_item))]
-fn grant_item(alloc: Global, words: &GrantWords<'_>) -> Result<Item, LineError>
-    ensures { Gives result (grant_item words.now) }
+#[tactic(auto, unfolding(crate::specs::Listing::grant_of))]
+pub fn grant_of(alloc: Global, words: &GrantWords<'_>) -> Result<Grant, LineError>
+    ensures { Gives result (grant_of words.now) }
 {
     let permission = known(permission_named(unclosed(words.permission)))?;
     let operation = known(listed_operation(words.operation))?;
     let user = user_in(alloc, words.principal)?;
     let principal = holder_by(alloc, operation, user)?;
     let text = text_in(words.host)?;
-    Ok(Item::Grant(Grant {
+    Ok(Grant {
         permission,
         principal,
         host: host_of(alloc, text)?,
         operation: operation.unwrap_or(Operation::All),
-    }))
+    })
+}
+
+fn grant_item(alloc: Global, words: &GrantWords<'_>) -> Result<Item, LineError>
+    ensures { Gives result (grant_item words.now) }
+{
+    Ok(Item::Grant(grant_of(alloc, words)?))
 }
 
 /// The principal, unless another binding begins on the same line.
@@ -248,15 +254,21 @@ fn headed(kind: Option<ResourceKind>, pattern: PatternKind, name: Text) -> Optio
     }
 }
 
-#[tactic(auto, unfolding(crate::specs::Listing::target_item))]
-fn target_item(alloc: Global, words: &TargetWords<'_>) -> Result<Item, LineError>
-    ensures { Gives result (target_item words.now) }
+#[tactic(auto, unfolding(crate::specs::Listing::target_of))]
+pub fn target_of(alloc: Global, words: &TargetWords<'_>) -> Result<Option<Target>, LineError>
+    ensures { Gives result (target_of words.now) }
 {
     let kind = known(listed_resource(words.resource))?;
     let pattern = known(pattern_named(unclosed(words.pattern)))?;
     let text = text_in(words.name)?;
     let name = Text::copied(alloc, text)?;
-    Ok(Item::Resource(headed(kind, pattern, name)))
+    Ok(headed(kind, pattern, name))
+}
+
+fn target_item(alloc: Global, words: &TargetWords<'_>) -> Result<Item, LineError>
+    ensures { Gives result (target_item words.now) }
+{
+    Ok(Item::Resource(target_of(alloc, words)?))
 }
 
 #[tactic(auto, unfolding(crate::specs::Listing::newer_resource))]

@@ -4,7 +4,7 @@ ghost use Rattle.std.specs.Prelude.{◌≡◌, IfOk, OnOk, is_none};
 ghost use Rattle.kob_policy_text.specs.Lines.{has_heading};
 ghost use Rattle.kob_policy_text.specs.Policy.{at_file, empty_policy, with_binding, with_closing};
 ghost use Rattle.kob_policy_text.specs.Policy.{with_draft, with_draft_left_out, with_grant};
-ghost use Rattle.kob_policy_text.specs.Policy.{with_heading, with_item, with_omission, with_skipped};
+ghost use Rattle.kob_policy_text.specs.Policy.{with_heading, with_item, with_omission, with_row, with_skipped};
 ghost use Rattle.kob_script.specs.Words.{GivesSeen};
 
 use crate::drafts::{binding_of, closing_of, draft_under, has_bad_heading};
@@ -258,6 +258,31 @@ impl Policy {
         }
     }
 
+    fn add_row(
+        &mut self,
+        alloc: Global,
+        origin: &Origin,
+        target: &Option<Target>,
+        grant: Grant,
+    ) -> Result<(), LineError>
+        ensures { GivesSeen (λ _. self.new) result
+            (with_row self.old origin.now target.now grant) }
+    {
+        match target {
+            None => {
+                let denies = grant.permission == Permission::Deny;
+                drop(grant);
+                Ok(self.add_omission(alloc, origin, LeftOut::Resource, denies)?)
+            }
+            Some(target) => {
+                let draft = draft_under(alloc, target, grant)?;
+                let added = self.add_draft(alloc, origin, &draft);
+                drop(draft);
+                added
+            }
+        }
+    }
+
     fn add_heading(&mut self, target: Option<Target>) -> Result<(), LineError>
         ensures { GivesSeen (λ _. self.new) result (with_heading self.old target) }
     {
@@ -298,6 +323,7 @@ impl Policy {
             }
             Item::Resource(target) => self.add_heading(target),
             Item::Grant(grant) => self.add_grant(alloc, origin, grant),
+            Item::Row(target, grant) => self.add_row(alloc, origin, &target, grant),
             Item::Skipped => Ok(self.add_skipped(alloc, origin)?),
             Item::LeftOut(what) => Ok(self.add_omission(alloc, origin, what, false)?),
         }

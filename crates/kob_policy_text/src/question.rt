@@ -62,6 +62,10 @@ pub enum Question {
     Who(Right, Option<Host>),
     /// Who may read this topic, and who may read as this group?
     WhoConsumes(Right, Right),
+    /// Who may do this on all names, or on some, that begin with the name of the right?
+    WhoBelow(Right),
+    /// What is granted to this principal, from this host, or from each that counts?
+    Rights(Principal, Option<Host>),
     /// Which topics may this principal describe?
     Sees(Asker),
     /// How many are there of what the policy has?
@@ -209,8 +213,8 @@ fn read_lines(
     Ok(())
 }
 
-/// Reads questions, a line each, after those that were read before: `may`, `expect`, `who`, `sees`,
-/// `summary`, `unused`, `shadowed` and `removable`, and `topic` with a name that is given. The error is
+/// Reads questions, a line each, after those that were read before: `may`, `expect`, `who`, `rights`,
+/// `sees`, `summary`, `unused`, `shadowed` and `removable`, and `topic` with a name that is given. The error is
 /// the first line with a fault, or out of memory.
 pub fn read_questions(
     alloc: Global,

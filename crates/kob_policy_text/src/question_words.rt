@@ -5,14 +5,14 @@ ghost use Rattle.kob_policy_text.specs.Questions.{access_of, alone, asker_of, ex
 ghost use Rattle.kob_policy_text.specs.Questions.{expects, full_name, host_in, may_repeat, may_six, may_transact};
 ghost use Rattle.kob_policy_text.specs.Questions.{is_word, may_by, may_consume, may_produce, may_request};
 ghost use Rattle.kob_policy_text.specs.Questions.{may_right, may_words, produces, question_by};
-ghost use Rattle.kob_policy_text.specs.Questions.{right_of, sees_words};
+ghost use Rattle.kob_policy_text.specs.Questions.{right_of, rights_words, sees_words};
 ghost use Rattle.kob_script.specs.Words.{Gives};
 
 use crate::lines::only_event;
 use crate::listing::{known, known_operation, known_resource};
 use crate::question::{Access, Act, Asker, Question, Right};
 use crate::who_words::who_words;
-use kob_names::{Batch, Host, Items, ResourceKind, Text};
+use kob_names::{Batch, Host, Items, PlainValue, ResourceKind, Text};
 use kob_rights::{Event, OffsetCommit, Produce, Request};
 use kob_script::{
     FaultKind, LineError, Word, events_of, host_of, lent_text_of, principal_of, text_of,
@@ -182,16 +182,16 @@ fn may_consume(
     })
 }
 
-fn access_of(event: Event) -> Access
-    ensures { result ≡ access_of event }
+fn access_of(alloc: Global, event: Event) -> Result<Access, AllocError>
+    ensures { IfOk result (λ access. access ≡ access_of event) }
 {
-    Access {
+    Ok(Access {
         asker: Asker {
-            principal: event.principal,
-            host: event.host,
+            principal: event.principal.copy(alloc)?,
+            host: event.host.copy(alloc)?,
         },
-        act: Act::Request(event.request),
-    }
+        act: Act::Request(event.into_request()),
+    })
 }
 
 /// A request as a script has it; `acl` is not one.
@@ -201,7 +201,7 @@ fn may_request(alloc: Global, words: &[Word<'_>]) -> Result<Access, LineError>
 {
     let asked = events_of(alloc, words, &None)?;
     match only_event(asked) {
-        Some(event) => Ok(access_of(event)),
+        Some(event) => Ok(access_of(alloc, event)?),
         None => Err(LineError::Fault(FaultKind::BadLine)),
     }
 }
@@ -301,6 +301,22 @@ fn expect_words(alloc: Global, words: &[Word<'_>]) -> Result<Question, LineError
     }
 }
 
+fn rights_words(alloc: Global, words: &[Word<'_>]) -> Result<Question, LineError>
+    ensures { Gives result (rights_words words.now) }
+{
+    match words {
+        [principal] => {
+            let principal = principal_of(alloc, lent_text_of(principal)?)?;
+            Ok(Question::Rights(principal, None))
+        }
+        [principal, host] => {
+            let Asker { principal, host } = asker_of(alloc, principal, host)?;
+            Ok(Question::Rights(principal, Some(host)))
+        }
+        _ => Err(LineError::Fault(FaultKind::BadLine)),
+    }
+}
+
 fn sees_words(alloc: Global, words: &[Word<'_>]) -> Result<Question, LineError>
     ensures { Gives result (sees_words words.now) }
 {
@@ -337,6 +353,8 @@ pub fn question_by(
         expect_words(alloc, words)
     } else if is_word(first, b"who") {
         who_words(alloc, words)
+    } else if is_word(first, b"rights") {
+        rights_words(alloc, words)
     } else if is_word(first, b"sees") {
         sees_words(alloc, words)
     } else if is_word(first, b"summary") {

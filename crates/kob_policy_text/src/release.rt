@@ -36,7 +36,7 @@ fn is_below_8(minor: &[u8]) -> bool
     match minor {
         [] => true,
         [digit] => *digit < b'8',
-        _ => false,
+        [_, _, ..] => false,
     }
 }
 

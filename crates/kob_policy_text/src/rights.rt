@@ -132,7 +132,7 @@ fn push_check(
         ++ check_text judge.now number asked.now) }
 {
     push_check_line(out, judge, number, asked)?;
-    push_untaken(out, judge.policy(), judge.verdict(asked), asked)
+    push_untaken(out, judge, judge.verdict(asked), asked)
 }
 
 #[tactic(auto, using(kob_words::proofs::Appending::appending))]

@@ -5,6 +5,7 @@ ghost use Rattle.kob_policy_text.specs.Shell as seen;
 ghost use Rattle.kob_policy_text.specs.Shell.{ended_words, no_words, plain_byte, double_byte};
 ghost use Rattle.kob_policy_text.specs.Shell.{shell_words, single_byte, with_byte, with_end};
 ghost use Rattle.kob_policy_text.specs.Shell.{with_escaped, with_quoting, with_shell_byte};
+ghost use Rattle.kob_policy_text.specs.Joined.{quoting_after};
 ghost use Rattle.kob_script.specs.Words.{GivesSeen};
 
 use kob_names::Bytes;
@@ -166,6 +167,18 @@ impl Words {
         }
         Ok(ended)
     }
+}
+
+/// How a byte behind the line would be quoted.
+#[tactic(auto, using(crate::proofs::Passing::reads_more, crate::proofs::Passing::quoting_ends))]
+pub fn quoting_after(alloc: Global, line: &[u8]) -> Result<Quoting, AllocError>
+    ensures { IfOk result (λ quoting. quoting ≡ quoting_after line.now) }
+{
+    let mut words = Words::new(alloc);
+    for byte in line {
+        words.read(alloc, *byte)?;
+    }
+    Ok(words.quoting)
 }
 
 /// The words of a line, without their quotes. The fault is `Usage`: a quote that does not end, or a

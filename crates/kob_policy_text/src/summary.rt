@@ -1,8 +1,9 @@
 //! How many there are of what a policy has.
 
-ghost use Rattle.std.specs.Prelude.{◌≡◌, ◌++◌, OnOk, filter, length};
+ghost use Rattle.std.specs.Prelude.{◌≡◌, ◌++◌, IfOk, OnOk, codes, filter, length};
+ghost use Rattle.kob_policy_text.specs.AtHand.{each_once, hosts_named, names_named, principals_named};
 ghost use Rattle.kob_policy_text.specs.Summary.{count_line, idle_text, is_told, parties_text};
-ghost use Rattle.kob_policy_text.specs.Summary.{patterns_text, summary_text};
+ghost use Rattle.kob_policy_text.specs.Summary.{patterns_text, summary_text, unused_count};
 
 use crate::at_hand::{each_once, hosts_named, names_named, principals_named};
 use crate::judge::Judge;
@@ -22,30 +23,66 @@ fn push_count(out: &mut Vec<u8>, what: &str, count: usize) -> Result<(), AllocEr
     out.extend_from_slice(b"\n")
 }
 
+fn push_supers(alloc: Global, out: &mut Vec<u8>, judge: &Judge) -> Result<(), AllocError>
+    ensures { OnOk result (out.new.items ≡ out.old.items
+        ++ count_line (codes "super-users") (length (each_once judge.now.supers))) }
+{
+    let supers = each_once(alloc, judge.policy().supers())?;
+    push_count(out, "super-users", supers.len())
+}
+
+fn push_principals(alloc: Global, out: &mut Vec<u8>, judge: &Judge) -> Result<(), AllocError>
+    ensures { OnOk result (out.new.items ≡ out.old.items
+        ++ count_line (codes "principals") (length (principals_named judge.now.bindings))) }
+{
+    let principals = principals_named(alloc, judge.policy().bindings())?;
+    push_count(out, "principals", principals.len())
+}
+
+fn push_hosts(alloc: Global, out: &mut Vec<u8>, judge: &Judge) -> Result<(), AllocError>
+    ensures { OnOk result (out.new.items ≡ out.old.items
+        ++ count_line (codes "hosts") (length (hosts_named judge.now.bindings))) }
+{
+    let hosts = hosts_named(alloc, judge.policy().bindings())?;
+    push_count(out, "hosts", hosts.len())
+}
+
 #[tactic(auto, using(kob_words::proofs::Appending::appending), unfolding(crate::specs::Summary::parties_text))]
 fn push_parties(alloc: Global, out: &mut Vec<u8>, judge: &Judge) -> Result<(), AllocError>
     ensures { OnOk result (out.new.items ≡ out.old.items ++ parties_text judge.now) }
 {
-    let bindings = judge.policy().bindings();
-    let supers = each_once(alloc, judge.policy().supers())?;
-    let principals = principals_named(alloc, bindings)?;
-    let hosts = hosts_named(alloc, bindings)?;
-    push_count(out, "super-users", supers.len())?;
-    push_count(out, "principals", principals.len())?;
-    push_count(out, "hosts", hosts.len())
+    push_supers(alloc, out, judge)?;
+    push_principals(alloc, out, judge)?;
+    push_hosts(alloc, out, judge)
+}
+
+fn push_names(
+    alloc: Global,
+    out: &mut Vec<u8>,
+    what: &str,
+    resource: ResourceKind,
+    judge: &Judge,
+) -> Result<(), AllocError>
+    ensures { OnOk result (out.new.items ≡ out.old.items
+        ++ count_line what.now (length (names_named resource judge.now.bindings))) }
+{
+    let names = names_named(alloc, resource, judge.policy().bindings())?;
+    push_count(out, what, names.len())
 }
 
 #[tactic(auto, using(kob_words::proofs::Appending::appending), unfolding(crate::specs::Summary::patterns_text))]
 fn push_patterns(alloc: Global, out: &mut Vec<u8>, judge: &Judge) -> Result<(), AllocError>
     ensures { OnOk result (out.new.items ≡ out.old.items ++ patterns_text judge.now) }
 {
-    let bindings = judge.policy().bindings();
-    let topics = names_named(alloc, ResourceKind::Topic, bindings)?;
-    let groups = names_named(alloc, ResourceKind::Group, bindings)?;
-    let ids = names_named(alloc, ResourceKind::TransactionalId, bindings)?;
-    push_count(out, "topics", topics.len())?;
-    push_count(out, "groups", groups.len())?;
-    push_count(out, "transactional-ids", ids.len())
+    push_names(alloc, out, "topics", ResourceKind::Topic, judge)?;
+    push_names(alloc, out, "groups", ResourceKind::Group, judge)?;
+    push_names(
+        alloc,
+        out,
+        "transactional-ids",
+        ResourceKind::TransactionalId,
+        judge,
+    )
 }
 
 fn is_told(judge: &Judge, one: &Unneeded) -> bool
@@ -60,13 +97,21 @@ fn told(judge: &Judge, found: &[Unneeded]) -> usize
     found.iter().filter(|one| is_told(judge, one)).count()
 }
 
+/// How many bindings are unused, without those that stand for what is left out.
+pub fn unused_count(alloc: Global, judge: &Judge) -> Result<usize, AllocError>
+    ensures { IfOk result (λ count. count ≡ unused_count judge.now) }
+{
+    let idle = unused(alloc, judge.authorizer())?;
+    Ok(told(judge, &idle))
+}
+
 #[tactic(auto, using(kob_words::proofs::Appending::appending), unfolding(crate::specs::Summary::idle_text))]
 fn push_idle(alloc: Global, out: &mut Vec<u8>, judge: &Judge) -> Result<(), AllocError>
     ensures { OnOk result (out.new.items ≡ out.old.items ++ idle_text judge.now) }
 {
-    let idle = unused(alloc, judge.authorizer())?;
+    let idle = unused_count(alloc, judge)?;
     let beaten = shadowed(alloc, judge.authorizer())?;
-    push_count(out, "unused", told(judge, &idle))?;
+    push_count(out, "unused", idle)?;
     push_count(out, "shadowed", beaten.len())
 }
 

@@ -6,7 +6,8 @@ ghost use Rattle.kob_policy_review.specs.Difference.{names_all};
 ghost use Rattle.kob_policy_text.specs.Answers.{from_text, is_seen, seen_text, sees_text};
 ghost use Rattle.kob_policy_text.specs.Answers.{topic_text, topics_asked, who_line};
 ghost use Rattle.kob_policy_text.specs.Review.{grant_if_told, grant_line, granted_text, is_told};
-ghost use Rattle.kob_policy_text.specs.Review.{super_grant, target_at, who_text};
+ghost use Rattle.kob_policy_text.specs.Parties.{super_grant};
+ghost use Rattle.kob_policy_text.specs.Review.{target_at, who_text};
 ghost use Rattle.kob_policy_text.specs.Review.{consumers_text, grants_text, right_line};
 
 use crate::asked::Asked;
@@ -85,14 +86,15 @@ fn push_user(out: &mut Vec<u8>, user: &Principal, what: &[u8]) -> Result<(), All
     out.extend_from_slice(what)
 }
 
-#[tactic(auto, unfolding(crate::specs::Review::super_grant))]
+#[tactic(auto, unfolding(crate::specs::Parties::super_grant))]
 fn push_super(out: &mut Vec<u8>, user: &Principal) -> Result<(), AllocError>
     ensures { OnOk result (out.new.items ≡ out.old.items ++ super_grant user.now) }
 {
     push_user(out, user, b" yes super\n")
 }
 
-fn push_supers(out: &mut Vec<u8>, supers: &[Principal]) -> Result<(), AllocError>
+/// Each super user, to whom all is granted.
+pub fn push_supers(out: &mut Vec<u8>, supers: &[Principal]) -> Result<(), AllocError>
     ensures { OnOk result (out.new.items ≡ out.old.items ++ flat_map super_grant supers.now) }
 {
     for user in supers {
@@ -101,7 +103,8 @@ fn push_supers(out: &mut Vec<u8>, supers: &[Principal]) -> Result<(), AllocError
     Ok(())
 }
 
-fn target_at(alloc: Global, right: &Right) -> Result<Target, AllocError>
+/// The one name that a right is on.
+pub fn target_at(alloc: Global, right: &Right) -> Result<Target, AllocError>
     ensures { IfOk result (λ made. made ≡ target_at right.now) }
 {
     let names = Names::Exactly(right.name.copy(alloc)?);
@@ -111,7 +114,8 @@ fn target_at(alloc: Global, right: &Right) -> Result<Target, AllocError>
     })
 }
 
-fn names_all(all: &str, party: &Option<Text>) -> bool
+/// Whether the party is the word for all, which asks as all others do.
+pub fn names_all(all: &str, party: &Option<Text>) -> bool
     ensures { result ≡ names_all all.now party.now }
 {
     match party {
@@ -120,7 +124,8 @@ fn names_all(all: &str, party: &Option<Text>) -> bool
     }
 }
 
-fn is_told(answer: &Answer) -> bool
+/// Whether `who` lists the answer: a grant, of which no other row speaks.
+pub fn is_told(answer: &Answer) -> bool
     ensures { result ≡ is_told answer.now }
 {
     answer.verdict.is_granted()
@@ -229,7 +234,8 @@ pub fn push_consumers(
     push_grants_of(alloc, out, judge, group)
 }
 
-fn is_seen(judge: &Judge, asker: &Asker, topic: &Text) -> bool
+/// Whether an asker may describe a topic.
+pub fn is_seen(judge: &Judge, asker: &Asker, topic: &Text) -> bool
     ensures { result ≡ is_seen judge.now asker.now topic.now }
 {
     judge.is_yes(&Asked {
@@ -278,7 +284,7 @@ fn push_asked(
 {
     match topics {
         [] => {
-            let named = topics_named(alloc, judge.policy().bindings())?;
+            let named = topics_named(alloc, judge.policy().bindings())?.into_vec();
             push_topics(out, judge, asker, named.as_slice())
         }
         _ => push_topics(out, judge, asker, topics),

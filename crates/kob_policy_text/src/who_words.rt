@@ -2,7 +2,7 @@
 
 ghost use Rattle.std.specs.Prelude.{◌≡◌};
 ghost use Rattle.kob_policy_text.specs.Questions.{right_to_read, who_consumes, who_may, who_produces};
-ghost use Rattle.kob_policy_text.specs.Questions.{who_words};
+ghost use Rattle.kob_policy_text.specs.Questions.{has_prefixes, who_below, who_from, who_words};
 ghost use Rattle.kob_script.specs.Words.{Gives};
 
 use crate::question::{Question, Right};
@@ -55,6 +55,42 @@ fn who_may(
     Ok(Question::Who(right, None))
 }
 
+/// The cluster has one name, and no names that begin with a prefix.
+fn has_prefixes(right: Right) -> Result<Question, LineError>
+    ensures { Gives result (has_prefixes right) }
+{
+    if right.resource == ResourceKind::Cluster {
+        drop(right);
+        return Err(LineError::Fault(FaultKind::BadWord));
+    }
+    Ok(Question::WhoBelow(right))
+}
+
+fn who_below(
+    alloc: Global,
+    operation: &Word<'_>,
+    resource: &Word<'_>,
+    name: &Word<'_>,
+) -> Result<Question, LineError>
+    ensures { Gives result (who_below operation.now resource.now name.now) }
+{
+    has_prefixes(right_of(alloc, operation, resource, name)?)
+}
+
+fn who_from(
+    alloc: Global,
+    operation: &Word<'_>,
+    resource: &Word<'_>,
+    name: &Word<'_>,
+    host: &Word<'_>,
+) -> Result<Question, LineError>
+    ensures { Gives result (who_from operation.now resource.now name.now host.now) }
+{
+    let right = right_of(alloc, operation, resource, name)?;
+    let host = host_in(alloc, host)?;
+    Ok(Question::Who(right, Some(host)))
+}
+
 /// The question that the words after `who` ask.
 pub fn who_words(alloc: Global, words: &[Word<'_>]) -> Result<Question, LineError>
     ensures { Gives result (who_words words.now) }
@@ -65,11 +101,10 @@ pub fn who_words(alloc: Global, words: &[Word<'_>]) -> Result<Question, LineErro
             who_consumes(alloc, topic, group)
         }
         [operation, resource, name] => who_may(alloc, operation, resource, name),
-        [operation, resource, name, host] => {
-            let right = right_of(alloc, operation, resource, name)?;
-            let host = host_in(alloc, host)?;
-            Ok(Question::Who(right, Some(host)))
+        [operation, resource, prefix, name] if is_word(prefix, b"prefix") => {
+            who_below(alloc, operation, resource, name)
         }
+        [operation, resource, name, host] => who_from(alloc, operation, resource, name, host),
         _ => Err(LineError::Fault(FaultKind::BadLine)),
     }
 }

@@ -118,3 +118,11 @@ binding_line d =
     write_note (same_operation d.operation IdempotentWrite)
     ++ refused_note (is_taken d.resource d.operation) ++ comment_unless (is_written d)
     ++ line_text (is_written d) add_text d
+
+-- a removal needs no answer to a question
+unfoldable pub remove_text : List ℕ
+remove_text = codes "kafka-acls.sh --remove --force"
+
+abbrev pub removal_line : Draft → List ℕ
+removal_line d = refused_note (is_taken d.resource d.operation) ++ comment_unless (is_written d)
+    ++ line_text (is_written d) remove_text d

@@ -6,7 +6,8 @@ ghost use Rattle.kob_scene_export.specs.Bindings.{host_text, is_of_groups, is_of
 ghost use Rattle.kob_scene_export.specs.Bindings.{is_of_topics, is_of_transactions, is_taken};
 ghost use Rattle.kob_scene_export.specs.Bindings.{is_whole_cluster, is_written, line_text};
 ghost use Rattle.kob_scene_export.specs.Bindings.{named_text, pattern_text, principal_option};
-ghost use Rattle.kob_scene_export.specs.Bindings.{refused_note, target_text, write_note};
+ghost use Rattle.kob_scene_export.specs.Bindings.{refused_note, removal_line, remove_text};
+ghost use Rattle.kob_scene_export.specs.Bindings.{target_text, write_note};
 
 use crate::plain::{is_line, push_mark, push_word};
 use kob_names::{Draft, Operation, Pattern, PatternKind, Permission, ResourceKind};
@@ -28,6 +29,19 @@ pub fn export_binding(out: &mut Vec<u8>, binding: &Draft) -> Result<(), AllocErr
     out.extend_from_slice(refused_note(is_taken(binding.resource, binding.operation)).as_bytes())?;
     push_mark(out, is_written)?;
     push_line(out, is_written, add_text().as_bytes(), binding)
+}
+
+/// Appends the line `kafka-acls.sh --remove --force ..` that removes a binding and no other. It is a
+/// comment where that of [`export_binding`] is. The error is out of memory; `out` then ends with a
+/// part of the text.
+#[tactic(auto, using(kob_words::proofs::Appending::appending))]
+pub fn export_removal(out: &mut Vec<u8>, binding: &Draft) -> Result<(), AllocError>
+    ensures { OnOk result (out.new.items ≡ out.old.items ++ removal_line binding.now) }
+{
+    let is_written = is_written(binding);
+    out.extend_from_slice(refused_note(is_taken(binding.resource, binding.operation)).as_bytes())?;
+    push_mark(out, is_written)?;
+    push_line(out, is_written, remove_text().as_bytes(), binding)
 }
 
 fn refused_note(is_taken: bool) -> &'static str
@@ -55,6 +69,13 @@ fn add_text() -> &'static str
     ensures { result.now ≡ add_text }
 {
     "kafka-acls.sh --add"
+}
+
+#[tactic(auto, unfolding(crate::specs::Bindings::remove_text))]
+fn remove_text() -> &'static str
+    ensures { result.now ≡ remove_text }
+{
+    "kafka-acls.sh --remove --force"
 }
 
 #[tactic(auto, using(kob_words::proofs::Appending::appending), unfolding(crate::specs::Bindings::line_text))]

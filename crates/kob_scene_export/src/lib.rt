@@ -7,7 +7,7 @@ mod plain;
 mod server;
 mod topics;
 
-pub use bindings::export_binding;
+pub use bindings::{export_binding, export_removal};
 pub use connector::export_connector;
 pub use server::{export_head, export_settings};
 pub use topics::{export_topic, metric_name};

@@ -8,13 +8,15 @@ pub checked : (service consumer : ℕ) (stage : Stage) (sender : PlayedService) 
     → slice_get stage.services.items service ≡ Some sender → slice_get stage.consumers.items consumer ≡ Some taker
     → journal ≡ stage.recorded.journal → from ≡ sender.service → to ≡ taker.consumer
     → IsFound sender.service taker.consumer journal found
-    → now ≡ held ++ check_text (one_more told) from.recorded found.fates.items found.repeats.items
-    to.fetcher.subscription.assignment
+    → now ≡ held ++ check_text (one_more told) journal from.recorded found to.fetcher.subscription.assignment
     → Tells (IsChecked service consumer stage told) held now
 checked service consumer stage sender taker found told held now journal from to first second is_journal is_from is_to is printed =
-    let text = λ (s : Service) (t : Consumer). check_text (one_more told) s.recorded found.fates.items found.repeats.items
-    t.fetcher.subscription.assignment in (
-      text sender.service taker.consumer,
+    let text = λ (j : List Entry) (s : Service) (t : Consumer). check_text (one_more told) j s.recorded found
+    t.fetcher.subscription.assignment in
+    let stood = stage.recorded.journal in (
+      text stood sender.service taker.consumer,
       (sender, taker, first, second, (found, rw is_journal at is, refl)),
-      printed ∙ ap (λ (s : Service). held ++ text s to) is_from ∙ ap (λ (t : Consumer). held ++ text sender.service t) is_to,
+      printed ∙ ap (λ (j : List Entry). held ++ text j from to) is_journal
+          ∙ ap (λ (s : Service). held ++ text stood s to) is_from
+          ∙ ap (λ (t : Consumer). held ++ text stood sender.service t) is_to,
     )

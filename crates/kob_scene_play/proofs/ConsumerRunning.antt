@@ -1,5 +1,5 @@
 -- A consumer's run of ticks, one tick after another.
-use Rattle.kob_scene_play.proofs.Words.{Consumer, IsConsumerStep, IsConsumerTick, IsReadOnce, Left, List, None, Option, Record, Some, Tells, ap, consumer_goes_on, consumer_tick_text, idle_in_row, idle_with, is_some, left_after, length, option_and_then, refl, subst, sym, ℕ, ◌+◌, ◌∙◌, ◌∷◌, ◌≡◌}
+use Rattle.kob_scene_play.proofs.Words.{Consumer, IsConsumerStep, IsConsumerTick, IsReadOnce, Left, List, None, Option, Record, Some, Tells, ap, consumer_goes_on, consumer_line, idle_in_row, idle_with, is_some, left_after, length, option_and_then, refl, subst, sym, ℕ, ◌+◌, ◌∙◌, ◌∷◌, ◌≡◌}
 use Rattle.kob_scene_play.proofs.Running.{HasRun}
 use Rattle.kob_scene_play.proofs.Running as running
 use Rattle.kob_lines.specs.declared.lossy.Loss.TheVariants as losses
@@ -8,7 +8,7 @@ use Rattle.kob_scene_text.specs.declared.scene.ConsumerStep.TheVariants as consu
 -- so many ticks of a consumer with so many partitions, and how many of the last ones were idle in a row
 pub record HasTaken (partitions : ℕ) (old now : Consumer) (before after : Record) (told then_told : ℕ)
     (held then_held : List ℕ) (count idle : ℕ) : Type 0 where
-  pub run : HasRun (IsConsumerTick losses.None) consumer_tick_text (consumer_goes_on partitions) old now before after
+  pub run : HasRun (IsConsumerTick losses.None) consumer_line (consumer_goes_on partitions) old now before after
       told then_told held then_held count
   pub in_row : idle_in_row partitions run.ticks ≡ Some idle
 
@@ -17,7 +17,7 @@ pub none_at_first : (partitions : ℕ) (consumer : Consumer) (r : Record) (told 
     → HasTaken partitions consumer consumer r r told told held held 0 0
 unfolding running.none_at_first
 none_at_first partitions consumer r told held = record {
-  run = running.none_at_first (IsConsumerTick losses.None) consumer_tick_text (consumer_goes_on partitions) consumer r told held;
+  run = running.none_at_first (IsConsumerTick losses.None) consumer_line (consumer_goes_on partitions) consumer r told held;
   in_row = refl;
 }
 
@@ -37,7 +37,7 @@ module _ (partitions : ℕ) (old mid now : Consumer) (before between after : Rec
   unfolding running.one_tick_more
   one_tick_more in_row so = record {
     run =
-        running.one_tick_more (IsConsumerTick losses.None) consumer_tick_text (consumer_goes_on partitions) old mid now before
+        running.one_tick_more (IsConsumerTick losses.None) consumer_line (consumer_goes_on partitions) old mid now before
         between after told mid_told then_told held mid_held then_held count taken.run ticked.0 ticked.2
         (ap is_some (next ∙ so));
     in_row = next ∙ so;
@@ -47,9 +47,9 @@ module _ (partitions : ℕ) (old mid now : Consumer) (before between after : Rec
   pub last_tick : more ≡ None → partitions ≡ length old.fetcher.subscription.assignment
       → Tells (IsConsumerStep consumer_steps.Run old now before after told then_told) held then_held
   last_tick so all =
-      subst (λ n. Tells (running.Ran (IsConsumerTick losses.None) consumer_tick_text (consumer_goes_on n) old now before after told
+      subst (λ n. Tells (running.Ran (IsConsumerTick losses.None) consumer_line (consumer_goes_on n) old now before after told
       then_told) held then_held) all
-      (running.last_tick (IsConsumerTick losses.None) consumer_tick_text (consumer_goes_on partitions) old mid now before
+      (running.last_tick (IsConsumerTick losses.None) consumer_line (consumer_goes_on partitions) old mid now before
       between after told mid_told then_told held mid_held then_held count taken.run ticked.0 ticked.2
       (ap is_some (next ∙ so)))
 
@@ -59,7 +59,7 @@ pub spent : (partitions : ℕ) (old now : Consumer) (before after : Record) (tol
     → partitions ≡ length old.fetcher.subscription.assignment
     → Tells (IsConsumerStep consumer_steps.Run old now before after told then_told) held then_held
 spent partitions old now before after told then_told held then_held idle taken all =
-    subst (λ n. Tells (running.Ran (IsConsumerTick losses.None) consumer_tick_text (consumer_goes_on n) old now before after told
+    subst (λ n. Tells (running.Ran (IsConsumerTick losses.None) consumer_line (consumer_goes_on n) old now before after told
     then_told) held then_held) all
-    (running.spent (IsConsumerTick losses.None) consumer_tick_text (consumer_goes_on partitions) old now before after told
+    (running.spent (IsConsumerTick losses.None) consumer_line (consumer_goes_on partitions) old now before after told
     then_told held then_held taken.run)

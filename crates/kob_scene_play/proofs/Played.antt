@@ -1,7 +1,12 @@
 -- The steps of a scene, one after another.
 use Rattle.kob_scene_play.proofs.Words.{Appends, Appends-trans, ArePlayed, Consumer, ConsumerStep, EndsAs, EndsScene, EndsSteps, Entry, Err, IfOk, IsAnswered, IsChecked, IsConsumerChange, IsConsumerStep, IsRead, IsReady, IsServed, IsServiceChange, IsServiceStep, IsShown, IsStep, Leaves, List, None, Ok, OnOk, Option, OthersStay, PlayFault, PlayedConsumer, PlayedService, Record, Result, Scene, Service, ServiceStep, Show, Shown, Some, Stage, Step, StopsIn, Tells, Writes, WritesSteps, [], ap, append-nil, append_assoc, arith, declared_consumer, declared_service, inl, inr, length, map, named_consumer, named_service, one_more, refl, set, show_of, slice_get, stopped_shown, subst, suc, sym, ℕ, ◌++◌, ◌+◌, ◌∙◌, ◌∷◌, ◌≡◌}
 use Rattle.kob_scene_play.proofs.Places.{put_at}
+use Rattle.kob_scene_play.specs.Expectations.{IsExpected}
+use Rattle.kob_scene_play.specs.Scenes.{IsPlayed}
+use Rattle.kob_scene_play.specs.declared.playing.Played.TheVariants as played
 use Rattle.kob_scene_play.specs.declared.text.Ended.TheVariants as ended
+use Rattle.kob_scene_text.specs.declared.scene.Expected.{Expected}
+use Rattle.std.proofs.Common.{Bool}
 use Rattle.kob_scene_text.specs.declared.scene.ConsumerStep.TheVariants as consumer_steps
 use Rattle.kob_scene_text.specs.declared.scene.ServiceStep.TheVariants as service_steps
 use Rattle.kob_scene_text.specs.declared.scene.Step.TheVariants as steps
@@ -105,16 +110,16 @@ step_shown show place before step old new journal told begun then_told shown_tol
 -- a scene whose stage was not opened
 pub scene_unopened : (shown : Shown) (scene : Scene) (told : ℕ) (first : Option (List ℕ)) (held : List ℕ)
     (fault : PlayFault) → told ≡ 0 → held ≡ [] → Appends first first []
-    → EndsScene shown scene told first first held (Some fault)
+    → EndsScene shown scene told first first held (played.Stopped fault)
 scene_unopened shown scene told first held fault none empty nothing = ([], inl (none, refl), ([], sym empty, nothing))
 
 -- the steps of a scene
-pub scene_played : {E : Type 0} (result : Result (Option PlayFault) E) (shown : Shown) (scene : Scene)
+pub scene_whole : (shown : Shown) (scene : Scene)
     (opened closed : Stage) (told then_told : ℕ) (first second : Option (List ℕ)) (held then_held : List ℕ)
     → told ≡ 0 → held ≡ [] → IsReady scene opened
-    → IfOk result (EndsSteps (show_of shown scene) scene.steps.items opened closed told then_told first held second then_held)
-    → IfOk result (EndsScene shown scene then_told first second then_held)
-scene_played (Ok None) shown scene opened closed told then_told first second held then_held none empty ready
+    → EndsSteps (show_of shown scene) scene.steps.items opened closed told then_told first held second then_held None
+    → EndsScene shown scene then_told first second then_held (played.Whole closed.is_unmet)
+scene_whole shown scene opened closed told then_told first second held then_held none empty ready
     (text, are, written) = (
       text,
       (
@@ -123,10 +128,18 @@ scene_played (Ok None) shown scene opened closed told then_told first second hel
         then_told,
         ready,
         subst (λ n. ArePlayed (show_of shown scene) 0 scene.steps.items opened closed n then_told text) none are,
+        refl,
       ),
       subst (λ xs. Writes first xs second then_held text) empty written,
     )
-scene_played (Ok (Some fault)) shown scene opened closed told then_told first second held then_held none empty ready
+
+-- up to one that stopped
+pub scene_cut : (shown : Shown) (scene : Scene)
+    (opened closed : Stage) (told then_told : ℕ) (first second : Option (List ℕ)) (held then_held : List ℕ)
+    (fault : PlayFault) → told ≡ 0 → held ≡ [] → IsReady scene opened
+    → EndsSteps (show_of shown scene) scene.steps.items opened closed told then_told first held second then_held (Some fault)
+    → EndsScene shown scene then_told first second then_held (played.Stopped fault)
+scene_cut shown scene opened closed told then_told first second held then_held fault none empty ready
     (text, stops, written) = (
       text,
       inr (
@@ -136,72 +149,80 @@ scene_played (Ok (Some fault)) shown scene opened closed told then_told first se
       ),
       subst (λ xs. Writes first xs second then_held text) empty written,
     )
-scene_played (Err fault) shown scene opened closed told then_told first second held then_held none empty ready ends = tt
 
 -- what was held is written at the end
-pub scene_clean : {E : Type 0} (result : Result (Unit {0}) E) (shown : Shown) (scene : Scene) (told : ℕ)
-    (first second third : Option (List ℕ)) (held : List ℕ) → EndsScene shown scene told first second held None
-    → OnOk result (Appends second third held) → OnOk result (EndsAs shown scene first third ended.Clean)
-scene_clean (Ok done) shown scene told first second third held (text, is, (front, split, appended)) rest =
+pub scene_written : (shown : Shown) (scene : Scene) (is_unmet : Bool) (told : ℕ)
+    (first second third : Option (List ℕ)) (held : List ℕ)
+    → EndsScene shown scene told first second held (played.Whole is_unmet) → Appends second third held
+    → (text : List ℕ) × IsPlayed (show_of shown scene) scene is_unmet text × Appends first third text
+scene_written shown scene is_unmet told first second third held (text, is, (front, split, appended)) rest =
     (text, is, subst (λ xs. Appends first third xs) (sym split) (Appends-trans first second third front held appended rest))
-scene_clean (Err fault) shown scene told first second third held ends rest = tt
 
 -- and after it that the scene stopped
-pub scene_stopped : {E : Type 0} (result : Result (Unit {0}) E) (shown : Shown) (scene : Scene) (told : ℕ)
-    (first second third : Option (List ℕ)) (held last : List ℕ) (fault : PlayFault)
-    → EndsScene shown scene told first second held (Some fault) → last ≡ stopped_shown shown told
-    → OnOk result (Appends second third (held ++ last)) → OnOk result (EndsAs shown scene first third (ended.Stopped fault))
-scene_stopped (Ok done) shown scene told first second third held last fault (text, is, (front, split, appended)) says rest = (
-  told,
-  text,
-  is,
-  subst (λ xs. Appends first third xs)
-      (sym (append_assoc front held last) ∙ ap (λ xs. xs ++ last) (sym split) ∙ ap (λ xs. text ++ xs) says)
-      (Appends-trans first second third front (held ++ last) appended rest),
-)
-scene_stopped (Err fault) shown scene told first second third held last other ends says rest = tt
+pub scene_stopped : (shown : Shown) (scene : Scene) (told : ℕ)
+    (first second third : Option (List ℕ)) (held : List ℕ) (fault : PlayFault)
+    → EndsScene shown scene told first second held (played.Stopped fault)
+    → Appends second third (held ++ stopped_shown shown told) → EndsAs shown scene first third (ended.Stopped fault)
+scene_stopped shown scene told first second third held fault (text, is, (front, split, appended)) rest =
+    let last = stopped_shown shown told in (
+      told,
+      text,
+      is,
+      subst (λ xs. Appends first third xs) (sym (append_assoc front held last) ∙ ap (λ xs. xs ++ last) (sym split))
+          (Appends-trans first second third front (held ++ last) appended rest),
+    )
 
 -- a step of a service
 pub service_played : {E : Type 0} (result : Result (Unit {0}) E) (which : ℕ) (step : ServiceStep) (old new : Stage)
-    (told then_told : ℕ) (held then_held : List ℕ) → new.consumers ≡ old.consumers
+    (told then_told : ℕ) (held then_held : List ℕ) → new.consumers ≡ old.consumers → new.is_unmet ≡ old.is_unmet
     → OthersStay which old.services.items new.services.items
     → OnOk result (Tells (IsServed which step old.services.items new.services.items old.recorded new.recorded told
     then_told) held then_held)
     → OnOk result (Tells (IsStep (steps.Service which step) old new told then_told) held then_held)
-service_played (Ok done) which step old new told then_told held then_held consumers others (text, made, prints) =
-    (text, (consumers, others, made), prints)
-service_played (Err fault) which step old new told then_told held then_held consumers others made = tt
+service_played (Ok done) which step old new told then_told held then_held consumers unmet others (text, made, prints) =
+    (text, (consumers, unmet, others, made), prints)
+service_played (Err fault) which step old new told then_told held then_held consumers unmet others made = tt
 
 -- a step of a consumer
 pub consumer_played : {E : Type 0} (result : Result (Unit {0}) E) (which : ℕ) (step : ConsumerStep) (old new : Stage)
-    (told then_told : ℕ) (held then_held : List ℕ) → new.services ≡ old.services
+    (told then_told : ℕ) (held then_held : List ℕ) → new.services ≡ old.services → new.is_unmet ≡ old.is_unmet
     → OthersStay which old.consumers.items new.consumers.items
     → OnOk result (Tells (IsRead which step old.consumers.items new.consumers.items old.recorded new.recorded told
     then_told) held then_held)
     → OnOk result (Tells (IsStep (steps.Consumer which step) old new told then_told) held then_held)
-consumer_played (Ok done) which step old new told then_told held then_held services others (text, made, prints) =
-    (text, (services, others, made), prints)
-consumer_played (Err fault) which step old new told then_told held then_held services others made = tt
+consumer_played (Ok done) which step old new told then_told held then_held services unmet others (text, made, prints) =
+    (text, (services, unmet, others, made), prints)
+consumer_played (Err fault) which step old new told then_told held then_held services unmet others made = tt
 
 -- a question about the laws
 pub law_played : {E : Type 0} (result : Result (Unit {0}) E) (service consumer : ℕ) (old new : Stage) (told then_told : ℕ)
     (held then_held : List ℕ) → new.recorded ≡ old.recorded → new.services ≡ old.services
-    → new.consumers.items ≡ old.consumers.items → OnOk result (then_told ≡ one_more told)
+    → new.consumers.items ≡ old.consumers.items → new.is_unmet ≡ old.is_unmet → OnOk result (then_told ≡ one_more told)
     → OnOk result (Tells (IsAnswered service consumer old told) held then_held)
     → OnOk result (Tells (IsStep (steps.Law service consumer) old new told then_told) held then_held)
-law_played (Ok done) service consumer old new told then_told held then_held recorded services consumers counted (text, answered, prints) =
-    (text, (recorded, services, consumers, counted, answered), prints)
-law_played (Err fault) service consumer old new told then_told held then_held recorded services consumers counted answered = tt
+law_played (Ok done) service consumer old new told then_told held then_held recorded services consumers unmet counted (text, answered, prints) =
+    (text, (recorded, services, consumers, unmet, counted, answered), prints)
+law_played (Err fault) service consumer old new told then_told held then_held recorded services consumers unmet counted answered = tt
 
 -- a question about where the events are
 pub check_played : {E : Type 0} (result : Result (Unit {0}) E) (service consumer : ℕ) (old new : Stage) (told then_told : ℕ)
     (held then_held : List ℕ) → new.recorded ≡ old.recorded → new.services.items ≡ old.services.items
-    → new.consumers.items ≡ old.consumers.items → OnOk result (then_told ≡ one_more told)
+    → new.consumers.items ≡ old.consumers.items → new.is_unmet ≡ old.is_unmet → OnOk result (then_told ≡ one_more told)
     → OnOk result (Tells (IsChecked service consumer old told) held then_held)
     → OnOk result (Tells (IsStep (steps.Check service consumer) old new told then_told) held then_held)
-check_played (Ok done) service consumer old new told then_told held then_held recorded services consumers counted (text, checked, prints) =
-    (text, (recorded, services, consumers, counted, checked), prints)
-check_played (Err fault) service consumer old new told then_told held then_held recorded services consumers counted checked = tt
+check_played (Ok done) service consumer old new told then_told held then_held recorded services consumers unmet counted (text, checked, prints) =
+    (text, (recorded, services, consumers, unmet, counted, checked), prints)
+check_played (Err fault) service consumer old new told then_told held then_held recorded services consumers unmet counted checked = tt
+
+-- a question whether they are where they are expected to be
+pub expect_played : {E : Type 0} (result : Result (Unit {0}) E) (service consumer : ℕ) (what : Expected) (old new : Stage)
+    (told then_told : ℕ) (held then_held : List ℕ) → new.recorded ≡ old.recorded → new.services.items ≡ old.services.items
+    → new.consumers.items ≡ old.consumers.items → OnOk result (then_told ≡ one_more told)
+    → OnOk result (Tells (IsExpected service consumer what old new.is_unmet told) held then_held)
+    → OnOk result (Tells (IsStep (steps.Expect service consumer what) old new told then_told) held then_held)
+expect_played (Ok done) service consumer what old new told then_told held then_held recorded services consumers counted (text, expected, prints) =
+    (text, (recorded, services, consumers, counted, expected), prints)
+expect_played (Err fault) service consumer what old new told then_told held then_held recorded services consumers counted expected = tt
 
 -- the service at a place made its step
 pub served_at : {E : Type 0} (result : Result (Unit {0}) E) (which : ℕ) (step : ServiceStep) (old : List PlayedService)

@@ -1,12 +1,12 @@
 -- A run of ticks, one tick after another.
-use Rattle.kob_scene_play.proofs.Words.{AllGoOn, AreTicks, Bool, EndsRun, IsPrinted, IsServiceTick, List, Record, Service, Tells, [], ap, append-nil, append_assoc, arith, false, inl, inr, length, refl, service_goes_on, service_tick_text, sym, true, ℕ, ◌++◌, ◌+◌, ◌∙◌, ◌∷◌, ◌≡◌}
+use Rattle.kob_scene_play.proofs.Words.{AllGoOn, AreTicks, Bool, EndsRun, IsPrinted, IsServiceTick, List, Record, Service, Tells, [], ap, append-nil, append_assoc, arith, false, inl, inr, length, refl, service_goes_on, service_line, sym, true, ℕ, ◌++◌, ◌+◌, ◌∙◌, ◌∷◌, ◌≡◌}
 use Rattle.kob_lines.specs.declared.lossy.Loss.TheVariants as losses
 
 -- one text behind another
 pub joined : (held mid now one two : List ℕ) → mid ≡ held ++ one → now ≡ mid ++ two → now ≡ held ++ (one ++ two)
 joined held mid now one two first second = second ∙ ap (λ xs. xs ++ two) first ∙ append_assoc held one two
 
-module _ {Worker Answer : Type 0} (IsTick : Worker → Worker → Record → Record → Answer → Type 0) (line : Answer → List ℕ)
+module _ {Worker Answer : Type 0} (IsTick : Worker → Worker → Record → Record → Answer → Type 0) (line : Record → Record → Answer → List ℕ)
     (goes_on : List Answer → Bool) where
   -- so many ticks after which the run goes on, and what they print
   pub record HasRun (old now : Worker) (before after : Record) (told then_told : ℕ) (held then_held : List ℕ) (count : ℕ) : Type 0 where
@@ -20,7 +20,7 @@ module _ {Worker Answer : Type 0} (IsTick : Worker → Worker → Record → Rec
   -- a tick, and its line
   abbrev pub Ticked : Answer → Worker → Worker → Record → Record → ℕ → ℕ → List ℕ → Type 0
   Ticked tick old new before after told then_told text =
-      IsTick old new before after tick × IsPrinted (line tick) told then_told text
+      IsTick old new before after tick × IsPrinted (line before after tick) told then_told text
 
   -- a whole run
   abbrev pub Ran : Worker → Worker → Record → Record → ℕ → ℕ → List ℕ → Type 0
@@ -80,4 +80,4 @@ module _ {Worker Answer : Type 0} (IsTick : Worker → Worker → Record → Rec
 
 -- so many ticks of a service
 abbrev pub HasServed : Service → Service → Record → Record → ℕ → ℕ → List ℕ → List ℕ → ℕ → Type 0
-HasServed = HasRun (IsServiceTick losses.None) service_tick_text service_goes_on
+HasServed = HasRun (IsServiceTick losses.None) service_line service_goes_on

@@ -24,7 +24,7 @@ pub use Rattle.kob_router.specs.declared.line.Call.{Call}
 pub use Rattle.kob_scene_play.specs.Stages.{line_of, IsOpened, declared_consumer, declared_service, named_consumer, named_service, IsAnswered, IsLaw, law_text, IsMisplaced}
 pub use Rattle.kob_delivery_check.specs.Printed.{check_text}
 pub use Rattle.kob_scene_play.specs.Checks.{IsChecked, IsFound}
-pub use Rattle.kob_scene_play.specs.Steps.{Tells, Writes, AllGoOn, AreTicks, EndsRun, IsConsumerStep, IsServiceStep, IsTold, Records, Consumer, Consumes, Does, IsConsumerTick, IsSameConsumer, IsServiceTick, LosesFirst, Service, IsConsumerChange, IsPrinted, IsReadOnce, IsServiceChange, IsSameService, consumer_goes_on, idle_in_row, idle_with, left_after, recorded_after, service_goes_on}
+pub use Rattle.kob_scene_play.specs.Steps.{Tells, Writes, AllGoOn, AreTicks, EndsRun, IsConsumerStep, IsServiceStep, IsTold, Records, Consumer, Consumes, Does, IsConsumerTick, IsSameConsumer, IsServiceTick, LosesFirst, Service, IsConsumerChange, IsPrinted, IsReadOnce, IsServiceChange, IsSameService, consumer_goes_on, consumer_line, service_line, idle_in_row, idle_with, left_after, recorded_after, service_goes_on}
 pub use Rattle.kob_scene_play.specs.Scenes.{ArePlayed, EndsAs, EndsScene, EndsSteps, IsRead, IsReady, IsServed, IsShown, IsStep, IsWritten, Leaves, OthersStay, Show, StopsIn, WritesSteps, show_of}
 pub use Rattle.kob_scene_play.specs.Forms.{fault_shown, shown_by, shown_text, stopped_shown}
 pub use Rattle.kob_scene_play.specs.declared.form.Form.{Form}
@@ -36,7 +36,6 @@ pub use Rattle.kob_scene_play.specs.declared.stage.PlayedConsumer.{PlayedConsume
 pub use Rattle.kob_scene_play.specs.declared.stage.PlayedService.{PlayedService}
 pub use Rattle.kob_scene_play.specs.declared.stage.Stage.{Stage}
 pub use Rattle.kob_scene_play.specs.declared.text.Ended.{Ended}
-pub use Rattle.kob_scene_text.specs.PrintedRows.{service_tick_text, consumer_tick_text}
 pub use Rattle.kob_scene_text.specs.Scenes.{HasLines, MayRead, seen}
 pub use Rattle.kob_scene_text.specs.Reading.{scene_fault_text}
 pub use Rattle.kob_scene_text.specs.declared.fault.SceneFault.{SceneFault}

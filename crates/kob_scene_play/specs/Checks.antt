@@ -1,6 +1,7 @@
 -- Where each event of a service is, on its way to a consumer.
 use Rattle.std.specs.List.{enumerate_from}
 use Rattle.std.specs.Prelude.{◌≡◌, ℕ, List, Some, map, slice_get}
+use Rattle.kob_delivery_check.specs.Causes.{losses_by}
 use Rattle.kob_delivery_check.specs.Fates.{fates_by}
 use Rattle.kob_delivery_check.specs.Journaled.{reach_of}
 use Rattle.kob_delivery_check.specs.Printed.{check_text}
@@ -45,17 +46,18 @@ AreFates service consumer journal fates =
     ≡ first_after service.outbox.mark 4294967295 service.outbox.events)
     × (fates ≡ fates_by taken (ahead_of journal consumer) waiting service.recorded)
 
--- where each event is, and which records repeat one
+-- where each event is, why each lost one is lost, and which records repeat one
 abbrev pub IsFound : Service → Consumer → List Entry → Found → Type 0
 IsFound service consumer journal found =
     AreFates service consumer journal found.fates.items
+    × (found.losses.items ≡ losses_by consumer.fetcher.subscription journal service.recorded found.fates.items)
     × (found.repeats.items ≡ repeats_in journal consumer)
 
 abbrev pub IsCheck : Service → Consumer → List Entry → ℕ → List ℕ → Type 0
 IsCheck service consumer journal told text =
     (found : Found)
     × IsFound service consumer journal found
-    × (text ≡ check_text (one_more told) service.recorded found.fates.items found.repeats.items
+    × (text ≡ check_text (one_more told) journal service.recorded found
     consumer.fetcher.subscription.assignment)
 
 -- the answer about the service and the consumer at these places

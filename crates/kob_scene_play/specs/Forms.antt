@@ -4,7 +4,7 @@ use Rattle.kob_scene_play.specs.declared.form.Form.TheVariants as forms
 use Rattle.kob_scene_play.specs.declared.form.Shown.{Shown}
 use Rattle.kob_scene_play.specs.declared.form.Shown.TheVariants.{Plain, Trace, Json}
 use Rattle.kob_scene_play.specs.Json.{json_text}
-use Rattle.kob_scene_play.specs.Needs.{needs_of}
+use Rattle.kob_scene_play.specs.Needs.{needs_of, noted}
 use Rattle.kob_scene_text.specs.Reading.{scene_fault_text}
 use Rattle.kob_scene_text.specs.declared.fault.SceneFault.{SceneFault}
 use Rattle.kob_script.specs.Printed.{stopped_text}
@@ -34,20 +34,30 @@ head_text texts lines place =
     if line_at lines place == line_before lines place then []
     else codes "> " ++ get_or texts (line_at lines place - 1) [] ++ codes "\n"
 
+-- the last request of a step, if it made one; before the step there were so many requests
+abbrev pub last_entry : ℕ → List Entry → Option Entry
+last_entry before journal =
+    if length journal == before then None else slice_get journal (length journal - 1)
+
 abbrev pub entry_needs : Option Entry → List ℕ
 entry_needs None = []
 entry_needs (Some entry) = needs_of entry.event.request entry.reply
 
--- the right that the last request of a step lacked; before the step there were so many requests
+-- what the last request of a step lacked
 abbrev pub last_needs : ℕ → List Entry → List ℕ
-last_needs before journal =
-    if length journal == before then [] else entry_needs (slice_get journal (length journal - 1))
+last_needs before journal = entry_needs (last_entry before journal)
+
+-- the line of the trace about the request of a principal; a worker's step has it in its own line
+abbrev pub entry_note : Option Entry → List ℕ
+entry_note None = []
+entry_note (Some entry) =
+    if entry.worker == 0 then noted (needs_of entry.event.request entry.reply) else []
 
 -- What is shown of the answers to the step at a place. Before it the journal had so many entries.
 abbrev pub shown_text : Shown → List ℕ → ℕ → ℕ → List Entry → List ℕ → List ℕ
 shown_text Plain lines place before journal answers = answers
 shown_text (Trace texts) lines place before journal answers =
-    head_text texts lines place ++ answers ++ last_needs before journal
+    head_text texts lines place ++ answers ++ entry_note (last_entry before journal)
 shown_text Json lines place before journal answers = json_text (line_at lines place) answers
 
 -- the last line of a scene that stopped after so many answers

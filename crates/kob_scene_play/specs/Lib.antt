@@ -1,4 +1,5 @@
 pub mod Checks
+pub mod Expectations
 pub mod Faults
 pub mod Forms
 pub mod Json

@@ -28,24 +28,23 @@ check_text check =
     ++ codes " " ++ bytes_text check.name
 
 abbrev pub others_text : List Check → List ℕ
-others_text [] = codes "\n"
+others_text [] = []
 others_text (check ∷ checks) = codes " or " ++ check_text check ++ others_text checks
 
 abbrev pub needs_text : List Check → List ℕ
 needs_text [] = []
-needs_text (check ∷ checks) = codes "> # needs " ++ check_text check ++ others_text checks
+needs_text (check ∷ checks) = codes "needs " ++ check_text check ++ others_text checks
 
--- a name between two texts
-abbrev pub between : List ℕ → List ℕ → List ℕ → List ℕ
-between before name after = before ++ bytes_text name ++ after
+-- a name behind a text
+abbrev pub named : List ℕ → List ℕ → List ℕ
+named before name = before ++ bytes_text name
 
 abbrev pub no_topic : List ℕ → List ℕ
-no_topic topic = between (codes "> # no topic ") topic (codes "\n")
+no_topic topic = named (codes "no topic ") topic
 
 abbrev pub no_partition : List ℕ → ℕ → List ℕ
 no_partition topic partition =
-    (codes "> # no partition " ++ decimal partition)
-    ++ between (codes " of topic ") topic (codes "\n")
+    (codes "no partition " ++ decimal partition) ++ named (codes " of topic ") topic
 
 -- the topic, or the partition of it, that is not there
 abbrev pub absence_text : Reason → List ℕ × ℕ → List ℕ
@@ -58,8 +57,17 @@ abbrev pub absent_text : Reason → Option (List ℕ × ℕ) → List ℕ
 absent_text reason None = []
 absent_text reason (Some named) = absence_text reason named
 
--- what the trace says below the answer to a request
+-- what a request lacked, by the reply to it: nothing if it is done
 abbrev pub needs_of : Request → Reply → List ℕ
 needs_of request (Denied code verdicts) = needs_text (lacked code (rights request))
 needs_of request (Refused code reason) = absent_text reason (partition_named request)
 needs_of request (Done body) = []
+
+-- the same on a line of the trace, and in the line of an answer
+abbrev pub noted : List ℕ → List ℕ
+noted [] = []
+noted (byte ∷ text) = codes "> # " ++ (byte ∷ text) ++ codes "\n"
+
+abbrev pub behind : List ℕ → List ℕ
+behind [] = []
+behind (byte ∷ text) = codes " " ++ byte ∷ text

@@ -3,6 +3,7 @@ use Rattle.std.specs.Prelude.{◌≡◌, ◌≢◌, ◌⊎◌, ◌+◌, ℕ, Lis
 use Rattle.kob_router.specs.Line.{one_more}
 use Rattle.kob_scene_play.specs.Stages.{journal_text, IsOpened, declared_consumer, declared_service, named_consumer, named_service, IsAnswered}
 use Rattle.kob_scene_play.specs.Checks.{IsChecked}
+use Rattle.kob_scene_play.specs.Expectations.{IsExpected}
 use Rattle.kob_scene_play.specs.Steps.{IsConsumerStep, IsServiceStep, Writes}
 use Rattle.kob_scene_play.specs.declared.stage.PlayedConsumer.{PlayedConsumer}
 use Rattle.kob_scene_play.specs.declared.stage.PlayedService.{PlayedService}
@@ -20,6 +21,8 @@ use Rattle.kob_scene_play.specs.Forms.{fault_shown, shown_by, shown_text, stoppe
 use Rattle.kob_scene_play.specs.declared.fault.PlayFault.{PlayFault}
 use Rattle.kob_scene_play.specs.declared.form.Form.{Form}
 use Rattle.kob_scene_play.specs.declared.form.Shown.{Shown}
+use Rattle.kob_scene_play.specs.declared.playing.Played.{Played}
+use Rattle.kob_scene_play.specs.declared.playing.Played.TheVariants as played
 use Rattle.kob_scene_text.specs.Scenes.{HasLines, MayRead, seen}
 use Rattle.kob_scene_text.specs.declared.scene.ConsumerStep.TheVariants as consumer_steps
 use Rattle.kob_scene_text.specs.declared.scene.ServiceStep.TheVariants as service_steps
@@ -53,21 +56,25 @@ IsRead which step old new before after told then_told text =
 
 -- What a step changes, and what it prints; before it so many answers were printed, and then so many.
 -- A request is one entry more, of worker 0. A step of a worker changes no other worker, and the
--- journal by its own calls alone; a question changes nothing.
+-- journal by its own calls alone; a question changes nothing. Something expected that is not so stays
+-- noted.
 abbrev pub IsStep : Step → Stage → Stage → ℕ → ℕ → List ℕ → Type 0
 IsStep (steps.Request event) old new told then_told text =
     (new.recorded ≡ after_event old.recorded 0 event)
     × (new.services ≡ old.services)
     × (new.consumers ≡ old.consumers)
+    × (new.is_unmet ≡ old.is_unmet)
     × (then_told ≡ one_more told)
     × (text ≡ reply_text (one_more told) (outcome_of old.recorded event).reply)
 IsStep (steps.Service which step) old new told then_told text =
     (new.consumers ≡ old.consumers)
+    × (new.is_unmet ≡ old.is_unmet)
     × OthersStay which old.services.items new.services.items
     × IsServed which step old.services.items new.services.items old.recorded new.recorded told
     then_told text
 IsStep (steps.Consumer which step) old new told then_told text =
     (new.services ≡ old.services)
+    × (new.is_unmet ≡ old.is_unmet)
     × OthersStay which old.consumers.items new.consumers.items
     × IsRead which step old.consumers.items new.consumers.items old.recorded new.recorded told
     then_told text
@@ -77,14 +84,22 @@ IsStep (steps.Law service consumer) old new told then_told text =
     (new.recorded ≡ old.recorded)
     × (new.services ≡ old.services)
     × (new.consumers.items ≡ old.consumers.items)
+    × (new.is_unmet ≡ old.is_unmet)
     × (then_told ≡ one_more told)
     × IsAnswered service consumer old told text
 IsStep (steps.Check service consumer) old new told then_told text =
     (new.recorded ≡ old.recorded)
     × (new.services.items ≡ old.services.items)
     × (new.consumers.items ≡ old.consumers.items)
+    × (new.is_unmet ≡ old.is_unmet)
     × (then_told ≡ one_more told)
     × IsChecked service consumer old told text
+IsStep (steps.Expect service consumer what) old new told then_told text =
+    (new.recorded ≡ old.recorded)
+    × (new.services.items ≡ old.services.items)
+    × (new.consumers.items ≡ old.consumers.items)
+    × (then_told ≡ one_more told)
+    × IsExpected service consumer what old new.is_unmet told text
 
 -- how the answers to the step at a place are shown, by the number of entries of the journal before
 -- it, and by the journal after it
@@ -134,15 +149,17 @@ StopsIn show all old told then_told text =
 abbrev pub IsReady : Scene → Stage → Type 0
 IsReady scene opened =
     IsOpened scene.settings opened
+    × (opened.is_unmet ≡ false)
     × (map named_service opened.services.items ≡ map declared_service scene.services.items)
     × (map named_consumer opened.consumers.items ≡ map declared_consumer scene.consumers.items)
 
--- all steps of a scene
-abbrev pub IsPlayed : Show → Scene → List ℕ → Type 0
-IsPlayed show scene text =
+-- all steps of a scene, and whether something expected was not so
+abbrev pub IsPlayed : Show → Scene → Bool → List ℕ → Type 0
+IsPlayed show scene is_unmet text =
     (opened closed : Stage) × (told : ℕ)
     × IsReady scene opened
     × ArePlayed show 0 scene.steps.items opened closed 0 told text
+    × (is_unmet ≡ closed.is_unmet)
 
 -- a scene that stopped after so many answers: before its first step, or at one of its steps
 abbrev pub IsCut : Show → Scene → ℕ → List ℕ → Type 0
@@ -176,17 +193,20 @@ show_of shown scene = shown_text shown scene.lines.items
 -- a scene was played, or stopped after so many answers, and what is shown of it was written, but for
 -- what is held
 abbrev pub EndsScene : Shown → Scene → ℕ → Option (List ℕ) → Option (List ℕ) → List ℕ
-    → Option PlayFault → Type 0
-EndsScene shown scene told before now held None =
-    (text : List ℕ) × IsPlayed (show_of shown scene) scene text × Writes before [] now held text
-EndsScene shown scene told before now held (Some fault) =
+    → Played → Type 0
+EndsScene shown scene told before now held (played.Whole is_unmet) =
+    (text : List ℕ) × IsPlayed (show_of shown scene) scene is_unmet text
+    × Writes before [] now held text
+EndsScene shown scene told before now held (played.Stopped fault) =
     (text : List ℕ) × IsCut (show_of shown scene) scene told text × Writes before [] now held text
 
 -- How the playing of a scene ended, and what was written. Where it stopped, the answers before are
 -- written, and then their number.
 abbrev pub EndsAs : Shown → Scene → Option (List ℕ) → Option (List ℕ) → Ended → Type 0
 EndsAs shown scene before now ended.Clean =
-    (text : List ℕ) × IsPlayed (show_of shown scene) scene text × Appends before now text
+    (text : List ℕ) × IsPlayed (show_of shown scene) scene false text × Appends before now text
+EndsAs shown scene before now ended.Unmet =
+    (text : List ℕ) × IsPlayed (show_of shown scene) scene true text × Appends before now text
 EndsAs shown scene before now (ended.Fault fault) = ⊥
 EndsAs shown scene before now (ended.Stopped fault) =
     (told : ℕ) × (text : List ℕ)
@@ -198,6 +218,9 @@ abbrev pub IsWritten : Form → List ℕ → Option (List ℕ) → Option (List 
 IsWritten form source before now ended.Clean =
     (scene : Scene) × MayRead source (Ok scene) × HasLines source (seen scene) scene.lines.items
     × EndsAs (shown_by form source) scene before now ended.Clean
+IsWritten form source before now ended.Unmet =
+    (scene : Scene) × MayRead source (Ok scene) × HasLines source (seen scene) scene.lines.items
+    × EndsAs (shown_by form source) scene before now ended.Unmet
 IsWritten form source before now (ended.Fault fault) =
     MayRead source (Err (scene_error.Fault fault)) × Appends before now (fault_shown form fault)
 IsWritten form source before now (ended.Stopped fault) =

@@ -26,6 +26,8 @@ use Rattle.kob_scene_text.specs.declared.scene.ConsumerStep.{ConsumerStep}
 use Rattle.kob_scene_text.specs.declared.scene.Lost.{Lost}
 use Rattle.kob_scene_text.specs.declared.scene.ServiceStep.{ServiceStep}
 use Rattle.kob_shared.specs.Journals.{Record}
+use Rattle.kob_scene_play.specs.Forms.{last_needs}
+use Rattle.kob_scene_play.specs.Needs.{behind}
 use Rattle.kob_inbox.specs.Run as consuming
 use Rattle.kob_inbox.specs.Tick as consumer_ticks
 use Rattle.kob_inbox.specs.declared.tick.Tick.TheVariants as readings
@@ -198,7 +200,8 @@ consumer_goes_on partitions ticks = is_some (idle_in_row partitions ticks)
 -- ticks of a worker, the last one first: each goes on from where the one before it ended, and prints
 -- its line with the next number
 abbrev pub AreTicks : {Worker Answer : Type 0}
-    → (Worker → Worker → Record → Record → Answer → Type 0) → (Answer → List ℕ) → List Answer
+    → (Worker → Worker → Record → Record → Answer → Type 0)
+    → (Record → Record → Answer → List ℕ) → List Answer
     → Worker → Worker → Record → Record → ℕ → ℕ → List ℕ → Type 0
 AreTicks IsTick line [] old new before after told then_told text =
     (new ≡ old) × (after ≡ before) × (then_told ≡ told) × (text ≡ [])
@@ -206,7 +209,7 @@ AreTicks {Worker} IsTick line (tick ∷ ticks) old new before after told then_to
     (mid : Worker) × (between : Record) × (mid_told : ℕ) × (front back : List ℕ)
     × AreTicks IsTick line ticks old mid before between told mid_told front
     × IsTick mid new between after tick
-    × IsPrinted (line tick) mid_told then_told back
+    × IsPrinted (line between after tick) mid_told then_told back
     × (text ≡ front ++ back)
 
 -- after each of these ticks the run goes on
@@ -234,6 +237,26 @@ Records change event old new (Err faults.DuplicateId) =
 Records change event old new (Err (faults.Memory e)) = new ≡ old
 Records change event old new (Err faults.Store) = new ≡ old
 
+-- what the last request of a tick lacked that stopped the worker
+abbrev pub service_lacks : RouterAnswer → List ℕ → List ℕ
+service_lacks (answers.Stopped reason) needs = behind needs
+service_lacks tick needs = []
+
+abbrev pub consumer_lacks : ConsumerAnswer → List ℕ → List ℕ
+consumer_lacks (readings.Stopped reason) needs = behind needs
+consumer_lacks tick needs = []
+
+-- the answer to a tick, and what a stopped one lacked
+abbrev pub service_line : Record → Record → RouterAnswer → List ℕ
+service_line before after tick =
+    service_tick_text tick
+    ++ service_lacks tick (last_needs (length before.journal) after.journal)
+
+abbrev pub consumer_line : Record → Record → ConsumerAnswer → List ℕ
+consumer_line before after tick =
+    consumer_tick_text tick
+    ++ consumer_lacks tick (last_needs (length before.journal) after.journal)
+
 -- how many rows a sweep dropped
 abbrev pub swept_text : ℕ → List ℕ
 swept_text count = codes " ok swept " ++ decimal count
@@ -243,14 +266,14 @@ abbrev pub IsServiceAnswer : Option Lost → RouterAnswer → Service → Servic
     → List ℕ → Type 0
 IsServiceAnswer lost tick old new before after told then_told text =
     IsServiceTick (loss_for lost) old new before after tick
-    × IsPrinted (service_tick_text tick) told then_told text
+    × IsPrinted (service_line before after tick) told then_told text
 
 -- one tick of a consumer, and its answer
 abbrev pub IsConsumerAnswer : Option Lost → ConsumerAnswer → Consumer → Consumer → Record → Record
     → ℕ → ℕ → List ℕ → Type 0
 IsConsumerAnswer lost tick old new before after told then_told text =
     IsConsumerTick (loss_for lost) old new before after tick
-    × IsPrinted (consumer_tick_text tick) told then_told text
+    × IsPrinted (consumer_line before after tick) told then_told text
 
 -- what a step of a service does that makes no tick, and the text that it prints; before it so many
 -- answers were printed, and then so many
@@ -284,7 +307,7 @@ IsServiceStep (service_steps.Tick lost) old new before after told then_told text
     (tick : RouterAnswer) × IsServiceAnswer lost tick old new before after told then_told text
 IsServiceStep service_steps.Run old new before after told then_told text =
     (ticks : List RouterAnswer)
-    × AreTicks (IsServiceTick losses.None) service_tick_text ticks old new before after told
+    × AreTicks (IsServiceTick losses.None) service_line ticks old new before after told
     then_told text
     × EndsRun service_goes_on ticks
 IsServiceStep step old new before after told then_told text =
@@ -310,7 +333,7 @@ IsConsumerStep (consumer_steps.Tick lost) old new before after told then_told te
     (tick : ConsumerAnswer) × IsConsumerAnswer lost tick old new before after told then_told text
 IsConsumerStep consumer_steps.Run old new before after told then_told text =
     (ticks : List ConsumerAnswer)
-    × AreTicks (IsConsumerTick losses.None) consumer_tick_text ticks old new before after told
+    × AreTicks (IsConsumerTick losses.None) consumer_line ticks old new before after told
     then_told text
     × EndsRun (consumer_goes_on (length old.fetcher.subscription.assignment)) ticks
 IsConsumerStep step old new before after told then_told text =

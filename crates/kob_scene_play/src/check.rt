@@ -13,7 +13,8 @@ use crate::output::Output;
 use crate::service_worker::ServiceWorker;
 use crate::stage::Stage;
 use kob_delivery_check::{
-    Fate, Found, Stored, fates_of, print_check, reaches_by, records_ahead, records_of, repeats_of,
+    Fate, Found, Stored, fates_of, losses_of, print_check, reaches_by, records_ahead, records_of,
+    repeats_of,
 };
 use kob_shared::Journal;
 use std::alloc::{AllocError, Global};
@@ -31,6 +32,7 @@ pub(crate) fn show_check(
     ensures recorded { stage.new.recorded ≡ stage.old.recorded }
     ensures services { stage.new.services.items ≡ stage.old.services.items }
     ensures consumers { stage.new.consumers.items ≡ stage.old.consumers.items }
+    ensures unmet { stage.new.is_unmet ≡ stage.old.is_unmet }
     ensures done { OnOk result (Tells (IsChecked service consumer stage.old out.old.told)
         out.old.text.items out.new.text.items) }
     ensures told { OnOk result (out.new.told ≡ one_more out.old.told) }
@@ -43,7 +45,7 @@ pub(crate) fn show_check(
     };
     let journal = stage.recorded.journal();
     let found = found_at(alloc, journal, &mut sender.service, &mut taker.consumer)?;
-    print(&sender.service, &taker.consumer, &found, out)?;
+    print(journal, &sender.service, &taker.consumer, &found, out)?;
     Ok(())
 }
 
@@ -60,11 +62,22 @@ fn found_at(
 {
     let repeats = repeats_in(alloc, journal, taker)?;
     let fates = fates_at(alloc, journal, sender, taker)?;
-    Ok(Found { fates, repeats })
+    let losses = losses_of(
+        alloc,
+        taker.subscription(),
+        journal,
+        sender.recorded(),
+        &fates,
+    )?;
+    Ok(Found {
+        fates,
+        losses,
+        repeats,
+    })
 }
 
 /// Where each event of the service is, in the order in which they were recorded.
-fn fates_at(
+pub(crate) fn fates_at(
     alloc: Global,
     journal: &Journal,
     sender: &mut ServiceWorker<'_>,
@@ -108,19 +121,27 @@ fn repeats_in(
 }
 
 fn print(
+    journal: &Journal,
     sender: &ServiceWorker<'_>,
     taker: &ConsumerWorker,
     found: &Found,
     out: &mut Output,
 ) -> Result<(), AllocError>
     ensures printed { OnOk result (out.new.text.items ≡ out.old.text.items
-        ++ check_text (one_more out.old.told) sender.now.recorded found.now.fates.items
-        found.now.repeats.items taker.now.fetcher.subscription.assignment) }
+        ++ check_text (one_more out.old.told) journal.now sender.now.recorded found.now
+        taker.now.fetcher.subscription.assignment) }
     ensures told { OnOk result (out.new.told ≡ one_more out.old.told) }
 {
     let number = out.number();
     let assignment = taker.subscription().assignment.as_slice();
-    print_check(&mut out.text, number, sender.recorded(), found, assignment)?;
+    print_check(
+        &mut out.text,
+        number,
+        journal,
+        sender.recorded(),
+        found,
+        assignment,
+    )?;
     out.tell();
     Ok(())
 }

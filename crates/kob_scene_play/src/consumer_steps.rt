@@ -2,17 +2,19 @@
 
 ghost use Rattle.std.specs.Prelude.{◌≡◌, IfOk, OnOk};
 ghost use Rattle.kob_scene_play.specs.Steps.{IsConsumerChange, IsConsumerStep, IsReadOnce, Tells};
-ghost use Rattle.kob_scene_play.specs.Steps.{idle_with, left_after};
+ghost use Rattle.kob_scene_play.specs.Steps.{consumer_lacks, idle_with, left_after};
+ghost use Rattle.kob_scene_play.specs.Forms.{last_needs};
 ghost use Rattle.kob_scene_text.specs.declared.scene.ConsumerStep.TheVariants as consumer_steps;
 
 use crate::consumer_worker::ConsumerWorker;
 use crate::fault::PlayFault;
+use crate::needs::last_needs;
 use crate::output::Output;
 use crate::service_steps::{RUN_LIMIT, loss_of};
 use kob_inbox::Tick;
 use kob_scene_text::{ConsumerStep, Lost, print_consumer_tick, print_inbox, print_restarted};
 use kob_shared::Recorded;
-use std::alloc::Global;
+use std::alloc::{AllocError, Global};
 
 /// What is left to do after a tick.
 #[derive(Clone, Copy)]
@@ -59,12 +61,32 @@ fn tick(
         recorded.old recorded.new out.old.told out.new.told out.old.text.items
         out.new.text.items) }
 {
+    let before = recorded.journal().len();
     let tick = consumer.tick(alloc, recorded, loss_of(lost))?;
     let left = left_by(&tick);
+    let lacks = lacks_of(alloc, &tick, before, recorded)?;
     let number = out.number();
-    print_consumer_tick(&mut out.text, number, tick)?;
+    print_consumer_tick(&mut out.text, number, tick, &lacks)?;
     out.tell();
     Ok(left)
+}
+
+/// What the last request of a tick lacked that stopped the consumer, behind a space.
+fn lacks_of(
+    alloc: Global,
+    tick: &Tick,
+    before: usize,
+    recorded: &Recorded,
+) -> Result<Vec<u8>, AllocError>
+    ensures { IfOk result (λ text. text.items
+        ≡ consumer_lacks tick.now (last_needs before recorded.now.journal)) }
+{
+    match tick {
+        Tick::Stopped(_) => last_needs(alloc, before, recorded.journal()),
+        Tick::Placed(_) | Tick::Took(_) | Tick::Committed | Tick::Idle | Tick::Repeat => {
+            Ok(Vec::new(alloc))
+        }
+    }
 }
 
 fn left_by(tick: &Tick) -> Left

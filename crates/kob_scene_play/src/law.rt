@@ -35,6 +35,7 @@ pub(crate) fn show_law(
     ensures recorded { stage.new.recorded ≡ stage.old.recorded }
     ensures services { stage.new.services ≡ stage.old.services }
     ensures consumers { stage.new.consumers.items ≡ stage.old.consumers.items }
+    ensures unmet { stage.new.is_unmet ≡ stage.old.is_unmet }
     ensures done { OnOk result (Tells (IsAnswered service consumer stage.old out.old.told)
         out.old.text.items out.new.text.items) }
     ensures told { OnOk result (out.new.told ≡ one_more out.old.told) }
@@ -99,7 +100,7 @@ fn push_law(
 }
 
 /// The place of the first row of the inbox that is out of order.
-fn misplaced_row(
+pub(crate) fn misplaced_row(
     alloc: Global,
     sender: &ServiceWorker<'_>,
     taker: &mut ConsumerWorker,

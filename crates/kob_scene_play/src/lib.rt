@@ -5,6 +5,7 @@
 mod check;
 mod consumer_steps;
 mod consumer_worker;
+mod expect;
 mod fault;
 mod form;
 mod journal;

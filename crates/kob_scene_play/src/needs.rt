@@ -1,24 +1,118 @@
 //! What a request lacked that was denied, or that named no topic or no partition that is there.
 
-ghost use Rattle.std.specs.Prelude.{◌≡◌, ◌<◌, ◌++◌, [], OnOk, length, slice_index_or};
+ghost use Rattle.std.specs.Prelude.{◌≡◌, ◌<◌, ◌++◌, [], IfOk, OnOk, length};
+ghost use Rattle.std.specs.Prelude.{option_copied, slice_index_or};
 ghost use Rattle.kob_rights.specs.Requests.{partition_named};
 ghost use Rattle.kob_rights.specs.Table.{check_view, clause_view, rights};
-ghost use Rattle.kob_scene_play.specs.Needs.{absence_text, absent_text, check_text, has_code};
-ghost use Rattle.kob_scene_play.specs.Needs.{lacked, needs_of, needs_text};
-ghost use Rattle.kob_scene_play.specs.Needs.{between, no_partition, no_topic};
+ghost use Rattle.kob_scene_play.specs.Forms.{entry_note, last_entry, last_needs};
+ghost use Rattle.kob_scene_play.specs.Needs.{absence_text, absent_text, behind, check_text};
+ghost use Rattle.kob_scene_play.specs.Needs.{has_code, lacked, named, needs_of, needs_text};
+ghost use Rattle.kob_scene_play.specs.Needs.{no_partition, no_topic, noted};
 
 use crate::output::push_counted;
 use kob_rights::{Check, Clause, Code, Reason, Reply, Request, Rights};
+use kob_shared::{Entry, Journal};
 use kob_words::{operation_name, push_bytes, resource_name};
-use std::alloc::AllocError;
+use std::alloc::{AllocError, Global};
 
-/// Appends a line with the right that the request lacked, if it was denied, or with the topic or the
-/// partition that it needs and that is not there.
-pub(crate) fn push_needs(
+/// The last entry of a journal, if it had fewer entries before.
+fn last_entry(before: usize, journal: &Journal) -> Option<&Entry>
+    ensures { option_copied result ≡ last_entry before journal.now }
+{
+    if journal.len() == before {
+        return None;
+    }
+    journal.get(journal.len().saturating_sub(1))
+}
+
+/// Appends the line of the trace about the last request, if a principal made it.
+pub(crate) fn push_last_note(
+    alloc: Global,
+    out: &mut Vec<u8>,
+    before: usize,
+    journal: &Journal,
+) -> Result<(), AllocError>
+    ensures { OnOk result (out.new.items
+        ≡ out.old.items ++ entry_note (last_entry before journal.now)) }
+{
+    match last_entry(before, journal) {
+        Some(entry) if entry.worker == 0 => {
+            push_note(alloc, out, &entry.event.request, &entry.reply)
+        }
+        Some(_) => Ok(()),
+        None => Ok(()),
+    }
+}
+
+fn push_note(
+    alloc: Global,
     out: &mut Vec<u8>,
     request: &Request,
     reply: &Reply,
 ) -> Result<(), AllocError>
+    ensures { OnOk result (out.new.items
+        ≡ out.old.items ++ noted (needs_of request.now reply.now)) }
+{
+    let mut needs = Vec::new(alloc);
+    push_needs(&mut needs, request, reply)?;
+    push_noted(out, &needs)
+}
+
+#[tactic(auto, using(kob_words::proofs::Appending::appending))]
+fn push_noted(out: &mut Vec<u8>, needs: &[u8]) -> Result<(), AllocError>
+    ensures { OnOk result (out.new.items ≡ out.old.items ++ noted needs.now) }
+{
+    match needs {
+        [] => Ok(()),
+        [_, ..] => {
+            out.extend_from_slice(b"> # ")?;
+            out.extend_from_slice(needs)?;
+            out.extend_from_slice(b"\n")
+        }
+    }
+}
+
+/// What the last request of a step lacked, behind a space; nothing if it is done. Before the step
+/// the journal had so many entries.
+pub(crate) fn last_needs(
+    alloc: Global,
+    before: usize,
+    journal: &Journal,
+) -> Result<Vec<u8>, AllocError>
+    ensures { IfOk result (λ text. text.items ≡ behind (last_needs before journal.now)) }
+{
+    match last_entry(before, journal) {
+        Some(entry) => needs_behind(alloc, &entry.event.request, &entry.reply),
+        None => Ok(Vec::new(alloc)),
+    }
+}
+
+fn needs_behind(alloc: Global, request: &Request, reply: &Reply) -> Result<Vec<u8>, AllocError>
+    ensures { IfOk result (λ text. text.items ≡ behind (needs_of request.now reply.now)) }
+{
+    let mut needs = Vec::new(alloc);
+    push_needs(&mut needs, request, reply)?;
+    text_behind(alloc, &needs)
+}
+
+#[tactic(auto, using(kob_words::proofs::Appending::appending))]
+fn text_behind(alloc: Global, needs: &[u8]) -> Result<Vec<u8>, AllocError>
+    ensures { IfOk result (λ text. text.items ≡ behind needs.now) }
+{
+    let mut text = Vec::new(alloc);
+    match needs {
+        [] => {}
+        [_, ..] => {
+            text.extend_from_slice(b" ")?;
+            text.extend_from_slice(needs)?;
+        }
+    }
+    Ok(text)
+}
+
+/// Appends the right that the request lacked, if it was denied, or the topic or the partition that
+/// it needs and that is not there.
+fn push_needs(out: &mut Vec<u8>, request: &Request, reply: &Reply) -> Result<(), AllocError>
     ensures { OnOk result (out.new.items ≡ out.old.items ++ needs_of request.now reply.now) }
 {
     match reply {
@@ -76,30 +170,24 @@ fn push_absence(
 fn push_no_topic(out: &mut Vec<u8>, topic: &str) -> Result<(), AllocError>
     ensures { OnOk result (out.new.items ≡ out.old.items ++ no_topic topic.now) }
 {
-    push_between(out, b"> # no topic ", topic, b"\n")
+    push_named(out, b"no topic ", topic)
 }
 
 #[tactic(auto, using(kob_words::proofs::Appending::appending))]
 fn push_no_partition(out: &mut Vec<u8>, topic: &str, partition: u64) -> Result<(), AllocError>
     ensures { OnOk result (out.new.items ≡ out.old.items ++ no_partition topic.now partition) }
 {
-    push_counted(out, b"> # no partition ", partition, b"")?;
-    push_between(out, b" of topic ", topic, b"\n")
+    push_counted(out, b"no partition ", partition, b"")?;
+    push_named(out, b" of topic ", topic)
 }
 
-/// A name between two texts.
+/// A name behind a text.
 #[tactic(auto, using(kob_words::proofs::Appending::appending))]
-fn push_between(
-    out: &mut Vec<u8>,
-    before: &[u8],
-    name: &str,
-    after: &[u8],
-) -> Result<(), AllocError>
-    ensures { OnOk result (out.new.items ≡ out.old.items ++ between before.now name.now after.now) }
+fn push_named(out: &mut Vec<u8>, before: &[u8], name: &str) -> Result<(), AllocError>
+    ensures { OnOk result (out.new.items ≡ out.old.items ++ named before.now name.now) }
 {
     out.extend_from_slice(before)?;
-    push_bytes(out, name.as_bytes())?;
-    out.extend_from_slice(after)
+    push_bytes(out, name.as_bytes())
 }
 
 fn push_lacked(out: &mut Vec<u8>, request: &Request, code: Code) -> Result<(), AllocError>
@@ -128,16 +216,15 @@ fn has_code(request: &Request, place: usize, code: Code) -> bool
 fn push_clause(out: &mut Vec<u8>, clause: &Clause<'_>) -> Result<(), AllocError>
     ensures { OnOk result (out.new.items ≡ out.old.items ++ needs_text (clause_view clause.now)) }
 {
-    out.extend_from_slice(b"> # needs ")?;
+    out.extend_from_slice(b"needs ")?;
     match clause {
-        Clause::Only(check) => push_check(out, check)?,
+        Clause::Only(check) => push_check(out, check),
         Clause::Either(first, second) => {
             push_check(out, first)?;
             out.extend_from_slice(b" or ")?;
-            push_check(out, second)?;
+            push_check(out, second)
         }
     }
-    out.extend_from_slice(b"\n")
 }
 
 #[tactic(auto, using(kob_words::proofs::Appending::appending))]

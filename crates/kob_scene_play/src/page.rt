@@ -2,14 +2,14 @@
 
 ghost use Rattle.std.specs.Prelude.{◌≡◌, ◌++◌, [], IfOk, OnErr, OnOk, length};
 ghost use Rattle.std.specs.Io.KnownBytes.{Appends};
-ghost use Rattle.kob_scene_play.specs.Forms.{last_needs, shown_text, stopped_shown};
+ghost use Rattle.kob_scene_play.specs.Forms.{shown_text, stopped_shown};
 ghost use Rattle.kob_scene_play.specs.Steps.{Writes};
 ghost use Rattle.kob_scene_play.specs.declared.form.Shown.TheVariants.{Trace};
 
 use crate::fault::PlayFault;
 use crate::form::{Showing, Shown, line_at, push_head};
 use crate::json::push_json;
-use crate::needs::push_needs;
+use crate::needs::push_last_note;
 use crate::output::{Output, push_counted};
 use kob_names::Bytes;
 use kob_shared::Journal;
@@ -63,6 +63,7 @@ impl Page {
                 let mut text = Vec::new(alloc);
                 let texts = texts.as_slice();
                 push_traced(
+                    alloc,
                     &mut text,
                     texts,
                     showing.lines,
@@ -130,9 +131,10 @@ impl Page {
     }
 }
 
-/// The line of the scene's text, the answers, and what the last request lacked.
+/// The line of the scene's text, the answers, and what the request of a principal lacked.
 #[tactic(auto, using(kob_words::proofs::Appending::appending))]
 fn push_traced(
+    alloc: Global,
     out: &mut Vec<u8>,
     texts: &[Bytes],
     lines: &[u64],
@@ -146,19 +148,7 @@ fn push_traced(
 {
     push_head(out, texts, lines, place)?;
     out.extend_from_slice(answers)?;
-    push_last_needs(out, before, journal)
-}
-
-fn push_last_needs(out: &mut Vec<u8>, before: usize, journal: &Journal) -> Result<(), AllocError>
-    ensures { OnOk result (out.new.items ≡ out.old.items ++ last_needs before journal.now) }
-{
-    if journal.len() == before {
-        return Ok(());
-    }
-    match journal.get(journal.len().saturating_sub(1)) {
-        Some(entry) => push_needs(out, &entry.event.request, &entry.reply),
-        None => Ok(()),
-    }
+    push_last_note(alloc, out, before, journal)
 }
 
 fn push_stopped(out: &mut Vec<u8>, shown: &Shown, told: u64) -> Result<(), AllocError>

@@ -12,6 +12,7 @@ ghost use Rattle.kob_shared.specs.Journals.{after_event, outcome_of};
 
 use crate::check::show_check;
 use crate::consumer_steps::play_consumer;
+use crate::expect::show_expected;
 use crate::fault::PlayFault;
 use crate::form::{Showing, Shown};
 use crate::journal::show_journal;
@@ -30,7 +31,6 @@ use std::io::Write;
 
 /// Plays a scene, one step after another, and writes the answers in this form and nothing else. The
 /// fault is `WriteFailed`, or `Memory` before the first step.
-#[tactic(auto, using(crate::proofs::Played::scene_clean, crate::proofs::Played::scene_stopped))]
 pub fn play<W: Write>(
     alloc: Global,
     shown: &Shown,
@@ -48,26 +48,38 @@ pub fn play<W: Write>(
         }
     };
     match play_scene(alloc, shown, scene, &mut page, writer)? {
-        None => {
+        Played::Whole { is_unmet: false } => {
             page.write(writer)?;
             Ok(Ended::Clean)
         }
-        Some(fault) => {
+        Played::Whole { is_unmet: true } => {
+            page.write(writer)?;
+            Ok(Ended::Unmet)
+        }
+        Played::Stopped(fault) => {
             page.stop(shown, writer)?;
             Ok(Ended::Stopped(fault))
         }
     }
 }
 
-/// Plays a scene from an empty page on. Returns the fault that stopped it; the only error is
-/// `WriteFailed`.
+/// How the steps of a scene were played.
+#[derive(Clone, Copy)]
+pub(crate) enum Played {
+    /// All of them, and whether something that was expected was not so.
+    Whole { is_unmet: bool },
+    /// Up to one that this fault stopped.
+    Stopped(PlayFault),
+}
+
+/// Plays a scene from an empty page on. The only error is `WriteFailed`.
 fn play_scene<W: Write>(
     alloc: Global,
     shown: &Shown,
     scene: Scene,
     page: &mut Page,
     writer: &mut W,
-) -> Result<Option<PlayFault>, PlayFault>
+) -> Result<Played, PlayFault>
     requires text { page.old.text.items ≡ [] }
     requires told { page.old.told ≡ 0 }
     ensures { IfOk result (EndsScene shown.now scene page.new.told (W.contents writer.old)
@@ -84,7 +96,7 @@ fn play_scene<W: Write>(
         Ok(stage) => stage,
         Err(fault) => {
             drop(steps);
-            return Ok(Some(fault));
+            return Ok(Played::Stopped(fault));
         }
     };
     let showing = Showing {
@@ -92,9 +104,13 @@ fn play_scene<W: Write>(
         lines: &lines,
     };
     let played = play_steps(alloc, showing, &mut stage, &steps, page, writer);
+    let is_unmet = stage.is_unmet;
     drop(stage);
     drop(steps);
-    played
+    match played? {
+        None => Ok(Played::Whole { is_unmet }),
+        Some(fault) => Ok(Played::Stopped(fault)),
+    }
 }
 
 /// Plays the steps, up to one that stops.
@@ -181,6 +197,11 @@ fn play_step<'s>(
         Step::Journal => show_journal(stage, out),
         Step::Law { service, consumer } => show_law(alloc, stage, *service, *consumer, out),
         Step::Check { service, consumer } => show_check(alloc, stage, *service, *consumer, out),
+        Step::Expect {
+            service,
+            consumer,
+            what,
+        } => show_expected(alloc, stage, *service, *consumer, *what, out),
     }
 }
 
@@ -193,6 +214,7 @@ fn play_service_at<'s>(
     out: &mut Output,
 ) -> Result<(), PlayFault>
     ensures consumers { stage.new.consumers ≡ stage.old.consumers }
+    ensures unmet { stage.new.is_unmet ≡ stage.old.is_unmet }
     ensures others { OthersStay which stage.old.services.items stage.new.services.items }
     ensures done { OnOk result (Tells (IsServed which step.now stage.old.services.items
         stage.new.services.items stage.old.recorded stage.new.recorded out.old.told
@@ -213,6 +235,7 @@ fn play_consumer_at(
     out: &mut Output,
 ) -> Result<(), PlayFault>
     ensures services { stage.new.services ≡ stage.old.services }
+    ensures unmet { stage.new.is_unmet ≡ stage.old.is_unmet }
     ensures others { OthersStay which stage.old.consumers.items stage.new.consumers.items }
     ensures done { OnOk result (Tells (IsRead which step.now stage.old.consumers.items
         stage.new.consumers.items stage.old.recorded stage.new.recorded out.old.told

@@ -2,10 +2,12 @@
 
 ghost use Rattle.std.specs.Prelude.{◌≡◌, IfOk, OnOk};
 ghost use Rattle.kob_scene_play.specs.Steps.{IsServiceChange, IsServiceStep, IsTold, Tells};
-ghost use Rattle.kob_scene_play.specs.Steps.{goes_on_after, loss_for};
+ghost use Rattle.kob_scene_play.specs.Steps.{goes_on_after, loss_for, service_lacks};
+ghost use Rattle.kob_scene_play.specs.Forms.{last_needs};
 ghost use Rattle.kob_scene_text.specs.declared.scene.ServiceStep.TheVariants as service_steps;
 
 use crate::fault::PlayFault;
+use crate::needs::last_needs;
 use crate::output::Output;
 use crate::service_worker::ServiceWorker;
 use kob_lines::Loss;
@@ -17,7 +19,7 @@ use kob_scene_text::{
     print_state, print_swept,
 };
 use kob_shared::Recorded;
-use std::alloc::Global;
+use std::alloc::{AllocError, Global};
 
 /// A step `run` makes no more ticks than this.
 pub(crate) const RUN_LIMIT: u32 = 1_000_000;
@@ -86,12 +88,30 @@ fn tick(
         recorded.old recorded.new out.old.told out.new.told out.old.text.items
         out.new.text.items) }
 {
+    let before = recorded.journal().len();
     let tick = service.tick(alloc, recorded, loss_of(lost))?;
     let goes_on = goes_on(&tick);
+    let lacks = lacks_of(alloc, &tick, before, recorded)?;
     let number = out.number();
-    print_service_tick(&mut out.text, number, tick)?;
+    print_service_tick(&mut out.text, number, tick, &lacks)?;
     out.tell();
     Ok(goes_on)
+}
+
+/// What the last request of a tick lacked that stopped the router, behind a space.
+fn lacks_of(
+    alloc: Global,
+    tick: &Tick,
+    before: usize,
+    recorded: &Recorded,
+) -> Result<Vec<u8>, AllocError>
+    ensures { IfOk result (λ text. text.items
+        ≡ service_lacks tick.now (last_needs before recorded.now.journal)) }
+{
+    match tick {
+        Tick::Stopped(_) => last_needs(alloc, before, recorded.journal()),
+        Tick::Moved(_) | Tick::Idle | Tick::Repeat => Ok(Vec::new(alloc)),
+    }
 }
 
 /// Whether a tick moved the mark, or has to be made again.

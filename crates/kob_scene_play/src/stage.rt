@@ -1,6 +1,6 @@
 //! What a scene is played on.
 
-ghost use Rattle.std.specs.Prelude.{◌≡◌, ◌++◌, ◌∷◌, [], IfOk, OnOk, map};
+ghost use Rattle.std.specs.Prelude.{◌≡◌, ◌++◌, ◌∷◌, [], IfOk, OnOk, false, map};
 ghost use Rattle.std.specs.Option.{option_copied};
 ghost use Rattle.kob_broker.specs.Step.{state_of};
 ghost use Rattle.kob_broker.specs.State.{settings_of};
@@ -38,6 +38,8 @@ pub struct Stage<'s> {
     pub recorded: Recorded,
     pub services: Vec<PlayedService<'s>>,
     pub consumers: Vec<PlayedConsumer>,
+    /// Whether something was expected that is not so.
+    pub is_unmet: bool,
 }
 
 impl<'s> Stage<'s> {
@@ -53,6 +55,7 @@ impl<'s> Stage<'s> {
             ≡ map declared_service services.items) }
         ensures consumers { IfOk result (λ stage. map named_consumer stage.consumers.items
             ≡ map declared_consumer consumers.items) }
+        ensures met { IfOk result (λ stage. stage.is_unmet ≡ false) }
     {
         let services = match all_services(alloc, services) {
             Ok(services) => services,
@@ -73,6 +76,7 @@ impl<'s> Stage<'s> {
                 recorded,
                 services,
                 consumers,
+                is_unmet: false,
             }),
             Err(fault) => {
                 drop(services);

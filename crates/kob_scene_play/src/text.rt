@@ -17,8 +17,10 @@ use std::io::Write;
 /// How a scene ended, once its output was written.
 #[derive(Clone, Copy)]
 pub enum Ended {
-    /// All steps were played.
+    /// All steps were played, and all that was expected is so.
     Clean,
+    /// All steps were played, and something that was expected is not so.
+    Unmet,
     /// The text has a fault, and no step was played.
     Fault(SceneFault),
     /// The scene stopped after some of the steps.

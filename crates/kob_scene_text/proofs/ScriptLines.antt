@@ -1,5 +1,5 @@
 -- A script reads as the scene that it is.
-use Rattle.kob_scene_text.proofs.Words.{Bool, Check, CliArgs, Consumer, Err, Event, HasNoWorkerLine, Head, Journal, LateSetting, Law, List, Of, Ok, Option, ReadsAs, Request, Result, SceneFaultKind, Script, Seen, Service, Setting, Settings, ThenLines, Unknown, Word, [], and_parts, ap, arith, as_line, as_scene, as_scripts, false, if◌then◌else◌, is_request, is_script_line, list_all, map-append, nat_lt, nat_tests, refl, rules, scene_of, suc, tests, true, with_head, with_setting, words_of, ℕ, ◌+◌, ◌==◌, ◌>>=◌, ◌>>>◌, ◌∙◌, ◌∷◌, ◌≡◌}
+use Rattle.kob_scene_text.proofs.Words.{Bool, Check, CliArgs, Consumer, Err, Event, Expect, HasNoWorkerLine, Head, Journal, LateSetting, Law, List, Of, Ok, Option, ReadsAs, Request, Result, SceneFaultKind, Script, Seen, Service, Setting, Settings, ThenLines, Unknown, Word, [], and_parts, ap, arith, as_line, as_scene, as_scripts, false, if◌then◌else◌, is_request, is_script_line, list_all, map-append, nat_lt, nat_tests, refl, rules, scene_of, suc, tests, true, with_head, with_setting, words_of, ℕ, ◌+◌, ◌==◌, ◌>>=◌, ◌>>>◌, ◌∙◌, ◌∷◌, ◌≡◌}
 use Rattle.kob_script.specs.declared.fault.Fault as script_fault
 use Rattle.kob_script.specs.declared.fault.FaultKind as script_kind
 use Rattle.kob_script.specs.Script as script
@@ -35,6 +35,7 @@ head_alike answer s first rest false Consumer plain = absurd cc
 head_alike answer s first rest false Journal plain = absurd cc
 head_alike answer s first rest false Law plain = absurd cc
 head_alike answer s first rest false Check plain = absurd cc
+head_alike answer s first rest false Expect plain = absurd cc
 head_alike answer s first rest false (Of worker) plain = absurd cc
 head_alike answer s first rest false Unknown plain = absurd cc
 

@@ -14,7 +14,7 @@ pub use Rattle.kob_scene_text.specs.declared.fault.SceneFaultKind.TheVariants.{B
 pub use Rattle.kob_scene_text.specs.declared.fault.StepError.{StepError}
 pub use Rattle.kob_scene_text.specs.declared.fault.StepError.TheVariants.{Fault, Memory}
 pub use Rattle.kob_scene_text.specs.declared.line.Head.{Head}
-pub use Rattle.kob_scene_text.specs.declared.line.Head.TheVariants.{Check, Consumer, Journal, Law, Of, Request, Service, Setting, Unknown}
+pub use Rattle.kob_scene_text.specs.declared.line.Head.TheVariants.{Check, Consumer, Expect, Journal, Law, Of, Request, Service, Setting, Unknown}
 pub use Rattle.kob_script.proofs.Each.{each_ends, each_fails, each_keeps, with_front}
 pub use Rattle.kob_script.specs.Words.{each, ◌>>=◌, Word, words_of}
 pub use Rattle.kob_script.specs.Script.{IsAnswerTo, IsAnswerToLine, lines_in}

@@ -1,3 +1,4 @@
+pub mod Places
 pub mod PrintedRequest
 pub mod PrintedRows
 pub mod Reading

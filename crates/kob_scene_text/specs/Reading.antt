@@ -1,7 +1,7 @@
 -- Reading a scene's line, up to the first fault.
-use Rattle.std.specs.Prelude.{◌≡◌, Result, Ok, Err, ℕ, List, ◌++◌, codes, Bool, false, ◌&&◌, ◌==◌, ◌∷◌, if◌then◌else◌}
+use Rattle.std.specs.Prelude.{◌≡◌, Result, Ok, Err, ℕ, List, ◌++◌, codes}
 use Rattle.kob_script.specs.declared.fault.FaultKind.{FaultKind}
-use Rattle.kob_script.specs.declared.fault.FaultKind.TheVariants.{BadLine, BadEscape, LateSetting, BadText, BadPrincipal, BadHost, BadNumber, BadWord, Usage, NoAction, BadName, BadMix, NoResource, NoPrincipal}
+use Rattle.kob_script.specs.declared.fault.FaultKind.TheVariants.{BadLine}
 use Rattle.kob_script.specs.declared.fault.LineError.{LineError}
 use Rattle.kob_scene_text.specs.declared.fault.SceneFaultKind.{SceneFaultKind}
 use Rattle.kob_scene_text.specs.declared.fault.SceneFaultKind.TheVariants.{Script, UnknownWorker, BadWorkerName, NameTaken, BadPartitions, BadRoute, BadId}
@@ -10,7 +10,6 @@ use Rattle.kob_scene_text.specs.declared.fault.StepError.TheVariants.{Memory, Fa
 use Rattle.std.specs.Fmt.{decimal}
 use Rattle.kob_scene_text.specs.declared.fault.SceneFault.{SceneFault}
 use Rattle.kob_script.specs.Printed.{fault_text as line_of_script}
-use Rattle.kob_words.specs.Words.{bytes_text}
 use Rattle.kob_script.specs.declared.fault.LineError.TheVariants as line_error
 
 -- a step of reading, and those after it unless it failed
@@ -71,46 +70,3 @@ line_of_kind line kind =
 -- the whole output for a scene with a fault
 abbrev pub scene_fault_text : SceneFault → List ℕ
 scene_fault_text fault = line_of_kind fault.line fault.kind
-
--- What is said of a scene's fault to a person.
-
--- the byte order mark of UTF-8
-abbrev pub begins_with_mark : List ℕ → Bool
-begins_with_mark (first ∷ second ∷ third ∷ rest) = first == 239 && second == 187 && third == 191
-begins_with_mark _ = false
-
-abbrev pub script_sentence : FaultKind → List ℕ
-script_sentence BadEscape = codes "a percent sign without two hexadecimal digits"
-script_sentence LateSetting = codes "a setting after a request, a declaration or a step"
-script_sentence BadLine = codes "an unknown command, or words that do not fit it"
-script_sentence BadText = codes "a text that is not UTF-8"
-script_sentence BadPrincipal = codes "invalid principal"
-script_sentence BadHost = codes "invalid host"
-script_sentence BadNumber = codes "invalid number: not decimal digits, or more than 64 bits"
-script_sentence BadWord = codes "an unknown permission, operation, resource, pattern or column"
-script_sentence Usage = codes "unknown or malformed options of kafka-acls"
-script_sentence NoAction = codes "not exactly one of --add, --remove and --list"
-script_sentence BadName = codes "invalid principal, host, operation or pattern type in an option"
-script_sentence BadMix = codes "options that may not be used together"
-script_sentence NoResource = codes "missing topic, group, cluster or transactional id"
-script_sentence NoPrincipal = codes "missing principal"
-
-abbrev pub sentence_of : SceneFaultKind → List ℕ
-sentence_of (Script kind) = script_sentence kind
-sentence_of UnknownWorker = codes "unknown worker"
-sentence_of BadWorkerName = codes "invalid worker name"
-sentence_of NameTaken = codes "duplicate worker name"
-sentence_of BadPartitions = codes "invalid number of partitions: not from 1 to 1,000"
-sentence_of BadRoute = codes "invalid replacement or placement of a route"
-sentence_of BadId = codes "invalid UUID"
-
-abbrev pub sentence : Bool → SceneFaultKind → List ℕ
-sentence marked kind =
-    if marked then codes "a byte order mark before the first word" else sentence_of kind
-
--- line N: what is wrong: a word
-abbrev pub remark_text : Bool → SceneFault → List ℕ → List ℕ
-remark_text marked fault word =
-    codes "line " ++ decimal fault.line ++ codes ": "
-    ++ sentence (marked && fault.line == 1) fault.kind ++ codes ": " ++ bytes_text word
-    ++ codes "\n"

@@ -18,7 +18,7 @@ use Rattle.kob_scene_text.specs.declared.scene.Service.{Service}
 use Rattle.kob_scene_text.specs.declared.scene.Step.{Step}
 use Rattle.kob_scene_text.specs.declared.service_lines.DeclaredService.{DeclaredService}
 use Rattle.kob_scene_text.specs.Workers.{consumer_of, consumer_named, new_name, service_named, worker_named, service_of}
-use Rattle.kob_scene_text.specs.Steps.{head_of, ServiceTold, consumer_step_of, service_step_of, service_told, head_by_word}
+use Rattle.kob_scene_text.specs.Steps.{head_of, ServiceTold, consumer_step_of, expected_of, service_step_of, service_told, head_by_word}
 use Rattle.kob_scene_text.specs.Reading.{◌>>>◌, as_scripts, bad_line, Fails}
 use Rattle.kob_scene_text.specs.declared.fault.SceneError.{SceneError}
 use Rattle.kob_scene_text.specs.declared.fault.SceneFault.{SceneFault}
@@ -136,10 +136,13 @@ both_of (Some service) (Some consumer) = Ok (service, consumer)
 both_of _ _ = Err kinds.UnknownWorker
 
 -- SERVICE CONSUMER, by their places
-abbrev pub pair_of : Seen → List Word → Result (ℕ × ℕ) SceneFaultKind
-pair_of s (service ∷ consumer ∷ []) =
+abbrev pub pair_named : Seen → Word → Word → Result (ℕ × ℕ) SceneFaultKind
+pair_named s service consumer =
     both_of (service_named s.services service.decoded)
     (consumer_named s.consumers consumer.decoded)
+
+abbrev pub pair_of : Seen → List Word → Result (ℕ × ℕ) SceneFaultKind
+pair_of s (service ∷ consumer ∷ []) = pair_named s service consumer
 pair_of s _ = Err bad_line
 
 -- law SERVICE CONSUMER
@@ -151,6 +154,13 @@ with_law s words =
 abbrev pub with_check : Seen → List Word → Result Seen SceneFaultKind
 with_check s words =
     pair_of s words >>> λ pair. Ok (with_steps s (Plain (step_forms.Check pair.0 pair.1) ∷ []))
+
+-- expect SERVICE CONSUMER and what is expected
+abbrev pub with_expect : Seen → List Word → Result Seen SceneFaultKind
+with_expect s (service ∷ consumer ∷ rest) =
+    pair_named s service consumer >>> λ pair. expected_of rest
+    >>> λ what. Ok (with_steps s (Plain (step_forms.Expect pair.0 pair.1 what) ∷ []))
+with_expect s _ = Err bad_line
 
 -- a worker's step
 abbrev pub with_step : Seen → Worker → List Word → Result Seen SceneFaultKind
@@ -177,6 +187,7 @@ with_head answer heads.Consumer s first rest = with_consumer s rest
 with_head answer heads.Journal s first rest = with_journal s rest
 with_head answer heads.Law s first rest = with_law s rest
 with_head answer heads.Check s first rest = with_check s rest
+with_head answer heads.Expect s first rest = with_expect s rest
 with_head answer (heads.Of worker) s first rest = with_step s worker rest
 with_head answer heads.Unknown s first rest = Err kinds.UnknownWorker
 with_head answer heads.Request s first rest = with_requests answer s (first ∷ rest)

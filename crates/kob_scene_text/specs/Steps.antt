@@ -1,5 +1,5 @@
 -- Lines that are a step of a worker, and steps as they are seen.
-use Rattle.std.specs.Prelude.{ℕ, Bool, ◌||◌, List, [], ◌∷◌, Option, Some, None, Result, Ok, Err, codes, if◌then◌else◌, string_bytes, false, ◌==◌}
+use Rattle.std.specs.Prelude.{ℕ, Bool, ◌||◌, ◌&&◌, List, [], ◌∷◌, Option, Some, None, Result, Ok, Err, codes, if◌then◌else◌, string_bytes, false, ◌==◌}
 use Rattle.std.specs.Str.{bytes_eq}
 use Rattle.uuid.specs.Text.{parsed}
 use Rattle.kob_outbox.specs.Contents.{Event, Key, id_text, key_of, stored_event}
@@ -10,6 +10,8 @@ use Rattle.kob_script.specs.Words.{◌>>=◌, text_of, Word}
 use Rattle.kob_scene_text.specs.declared.fault.SceneFaultKind.{SceneFaultKind}
 use Rattle.kob_scene_text.specs.declared.fault.SceneFaultKind.TheVariants.{BadId}
 use Rattle.kob_scene_text.specs.declared.scene.ConsumerStep.{ConsumerStep}
+use Rattle.kob_scene_text.specs.declared.scene.Expected.{Expected}
+use Rattle.kob_scene_text.specs.declared.scene.Expected.TheVariants as expectations
 use Rattle.kob_scene_text.specs.declared.scene.Lost.{Lost}
 use Rattle.kob_scene_text.specs.declared.scene.ServiceStep.{ServiceStep}
 use Rattle.kob_scene_text.specs.Reading.{◌>>>◌, as_scripts, bad_line}
@@ -17,7 +19,7 @@ use Rattle.std.specs.List.{list_any}
 use Rattle.kob_script.specs.Script.{is_setting}
 use Rattle.kob_scene_text.specs.declared.name.Worker.{Worker}
 use Rattle.kob_scene_text.specs.declared.line.Head.{Head}
-use Rattle.kob_scene_text.specs.declared.line.Head.TheVariants.{Setting, Service, Consumer, Journal, Law, Check, Of, Unknown, Request}
+use Rattle.kob_scene_text.specs.declared.line.Head.TheVariants.{Setting, Service, Consumer, Journal, Law, Check, Expect, Of, Unknown, Request}
 use Rattle.kob_scene_text.specs.declared.scene.ConsumerStep.TheVariants as consumer_steps
 use Rattle.kob_scene_text.specs.declared.scene.Lost.TheVariants as losses
 use Rattle.kob_scene_text.specs.declared.scene.ServiceStep.TheVariants as service_steps
@@ -147,6 +149,22 @@ consumer_step_of (first ∷ words) =
     then (lost_of words >>= λ lost. Ok (consumer_steps.Tick lost))
     else bare_consumer_line first.decoded words
 
+-- lost ID, or delivered all
+abbrev pub expected_by : List ℕ → Word → Result Expected SceneFaultKind
+expected_by first second =
+    if bytes_eq first (codes "lost") then (id_of second >>> λ id. Ok (expectations.Lost id))
+    else (if bytes_eq first (codes "delivered") && bytes_eq second.decoded (codes "all")
+    then Ok expectations.Delivered else Err bad_line)
+
+abbrev pub expected_alone : List ℕ → Result Expected SceneFaultKind
+expected_alone word = if bytes_eq word (codes "order") then Ok expectations.Order else Err bad_line
+
+-- what is expected: delivered all, lost ID, or order
+abbrev pub expected_of : List Word → Result Expected SceneFaultKind
+expected_of (word ∷ []) = expected_alone word.decoded
+expected_of (first ∷ second ∷ []) = expected_by first.decoded second
+expected_of _ = Err bad_line
+
 -- What a line begins with.
 
 -- the second word begins a step
@@ -173,7 +191,8 @@ head_by_word worker name rest =
     else (if bytes_eq name (codes "journal") then Journal
     else (if bytes_eq name (codes "law") then Law
     else (if bytes_eq name (codes "check") then Check
-    else head_named worker name rest))))
+    else (if bytes_eq name (codes "expect") then Expect
+    else head_named worker name rest)))))
 
 abbrev pub head_of : Option Worker → Word → List Word → Head
 head_of worker first rest =

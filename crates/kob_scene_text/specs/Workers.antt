@@ -51,7 +51,7 @@ is_keyword name =
     bytes_eq name (codes "super") || bytes_eq name (codes "everyone")
     || bytes_eq name (codes "service") || bytes_eq name (codes "consumer")
     || bytes_eq name (codes "journal") || bytes_eq name (codes "law")
-    || bytes_eq name (codes "check")
+    || bytes_eq name (codes "check") || bytes_eq name (codes "expect")
 
 -- a letter, a digit, a dash or an underscore
 abbrev pub is_name_byte : ℕ → Bool

@@ -80,7 +80,7 @@ fn each_place(alloc: Global, words: &[Word<'_>]) -> Result<Items<Place>, LineErr
 }
 
 /// `TOPIC:PARTITION`, split at the first colon that is not escaped.
-fn place_of(alloc: Global, word: &Word<'_>) -> Result<Place, LineError>
+pub(crate) fn place_of(alloc: Global, word: &Word<'_>) -> Result<Place, LineError>
     ensures { Gives result (place_of word.now) }
 {
     match cut(word.raw()) {

@@ -3,22 +3,26 @@
 
 mod consumer_lines;
 mod fault;
+mod forms;
 mod laws;
 mod line;
 mod name;
+mod place;
 mod printed_bindings;
 mod printed_fault;
 mod printed_request;
 mod printed_rows;
 mod printed_tick;
 mod reading;
-mod remark;
 mod scene;
 mod service_lines;
 mod step_lines;
+mod word_faults;
+mod workers_before;
 
 pub use fault::{SceneError, SceneFault, SceneFaultKind};
 pub use laws::scripts_are_scenes;
+pub use place::fault_place;
 pub use printed_fault::print_scene_fault;
 pub use printed_request::print_entry;
 pub use printed_rows::{print_inbox, print_outbox, print_state};
@@ -26,5 +30,6 @@ pub use printed_tick::{
     print_consumer_tick, print_recorded, print_restarted, print_service_tick, print_swept,
 };
 pub use reading::read_scene;
-pub use remark::print_remark;
-pub use scene::{Consumer, ConsumerStep, Lost, Routed, Scene, Service, ServiceStep, Step};
+pub use scene::{
+    Consumer, ConsumerStep, Expected, Lost, Routed, Scene, Service, ServiceStep, Step,
+};

@@ -6,7 +6,8 @@ ghost use Rattle.kob_scene_text.specs.Scenes.{ReadsLine, ReadsNext};
 ghost use Rattle.kob_scene_text.specs.Scenes.{asked, is_early, next_worker, so_far, told};
 ghost use Rattle.kob_scene_text.specs.Scenes.{consumer_at, service_at};
 ghost use Rattle.kob_scene_text.specs.Reading.{Gives};
-ghost use Rattle.kob_scene_text.specs.Scenes.{pair_of, with_check, with_consumer, with_head};
+ghost use Rattle.kob_scene_text.specs.Scenes.{pair_named, pair_of, with_check, with_consumer};
+ghost use Rattle.kob_scene_text.specs.Scenes.{with_expect, with_head};
 ghost use Rattle.kob_scene_text.specs.Scenes.{with_journal, with_law};
 ghost use Rattle.kob_scene_text.specs.Scenes.{with_requests, with_service, with_setting};
 ghost use Rattle.kob_scene_text.specs.Scenes.{with_step, with_steps, with_words};
@@ -18,7 +19,7 @@ use crate::name::{Worker, consumer_named, new_name, service_named, worker_named}
 use crate::reading::Reading;
 use crate::scene::{Consumer, Service, Step};
 use crate::service_lines::{DeclaredService, service_of};
-use crate::step_lines::{begins_step, consumer_step, service_step};
+use crate::step_lines::{begins_step, consumer_step, expected_of, service_step};
 use kob_acl_cli::CliArgs;
 use kob_names::{Text, sum_of};
 use kob_rights::Event;
@@ -37,6 +38,7 @@ pub(crate) enum Head {
     Journal,
     Law,
     Check,
+    Expect,
     Of(Worker),
     Unknown,
     Request,
@@ -96,12 +98,14 @@ fn head_by_word(worker: Option<Worker>, name: &[u8], rest: &[Word<'_>]) -> Head
         Head::Law
     } else if name == b"check".as_slice() {
         Head::Check
+    } else if name == b"expect".as_slice() {
+        Head::Expect
     } else {
         head_named(worker, name, rest)
     }
 }
 
-fn head_of(worker: Option<Worker>, first: &Word<'_>, rest: &[Word<'_>]) -> Head
+pub(crate) fn head_of(worker: Option<Worker>, first: &Word<'_>, rest: &[Word<'_>]) -> Head
     ensures { result ≡ head_of worker first.now rest.now }
 {
     if is_setting(first) {
@@ -162,6 +166,7 @@ impl Reading {
             Head::Journal => self.add_journal(rest),
             Head::Law => self.add_law(rest),
             Head::Check => self.add_check(rest),
+            Head::Expect => self.add_expect(rest),
             Head::Of(worker) => self.add_step(alloc, worker, rest),
             Head::Unknown => Err(StepError::Fault(SceneFaultKind::UnknownWorker)),
             Head::Request => self.add_requests(alloc, words, answer),
@@ -310,13 +315,39 @@ impl Reading {
         self.push_step(Step::Check { service, consumer })
     }
 
+    /// `expect SERVICE CONSUMER` and what is expected
+    fn add_expect(&mut self, words: &[Word<'_>]) -> Result<(), StepError>
+        ensures { ReadsNext self.new result (with_expect (so_far self.old) words.now) }
+    {
+        let [service, consumer, rest @ ..] = words else {
+            return Err(StepError::Fault(SceneFaultKind::Script(FaultKind::BadLine)));
+        };
+        let (service, consumer) = self.pair_named(service, consumer)?;
+        let what = expected_of(rest)?;
+        self.push_step(Step::Expect {
+            service,
+            consumer,
+            what,
+        })
+    }
+
     /// The places of a service and of a consumer, by their names.
     fn pair_of(&self, words: &[Word<'_>]) -> Result<(usize, usize), StepError>
         ensures { Gives result (pair_of (so_far self.now) words.now) }
     {
-        let [service, consumer] = words else {
-            return Err(StepError::Fault(SceneFaultKind::Script(FaultKind::BadLine)));
-        };
+        match words {
+            [service, consumer] => self.pair_named(service, consumer),
+            _ => Err(StepError::Fault(SceneFaultKind::Script(FaultKind::BadLine))),
+        }
+    }
+
+    fn pair_named(
+        &self,
+        service: &Word<'_>,
+        consumer: &Word<'_>,
+    ) -> Result<(usize, usize), StepError>
+        ensures { Gives result (pair_named (so_far self.now) service.now consumer.now) }
+    {
         let service = service_named(&self.services, service.decoded());
         let consumer = consumer_named(&self.consumers, consumer.decoded());
         match (service, consumer) {

@@ -76,6 +76,7 @@ fn is_keyword(name: &[u8]) -> bool
         || name == b"journal".as_slice()
         || name == b"law".as_slice()
         || name == b"check".as_slice()
+        || name == b"expect".as_slice()
 }
 
 fn has_name_bytes(name: &[u8]) -> bool
@@ -84,7 +85,7 @@ fn has_name_bytes(name: &[u8]) -> bool
     name.iter().all(|byte| is_name_byte(*byte))
 }
 
-fn is_name(name: &[u8]) -> bool
+pub(crate) fn is_name(name: &[u8]) -> bool
     ensures { result ≡ is_name name.now }
 {
     !name.is_empty() && name.len() <= 64 && !is_keyword(name) && has_name_bytes(name)

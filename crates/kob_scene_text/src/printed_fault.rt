@@ -1,4 +1,4 @@
-//! How a scene's fault is printed, and what is reported about it to a person.
+//! How a scene's fault is printed.
 
 ghost use Rattle.std.specs.Prelude.{◌≡◌, ◌++◌, OnOk};
 ghost use Rattle.kob_scene_text.specs.Reading.{kind_text, scene_fault_text};

@@ -12,57 +12,71 @@ use kob_words::push_number;
 use std::alloc::AllocError;
 
 /// Prints what a tick of a service came to: `N moved SEQ`, `N idle`, `N repeat`, or `N stopped` with
-/// the reason. The error is out of memory; `out` has then grown by a part of it.
+/// the reason, and `behind`, a text that follows it in the line. The error is out of memory; `out`
+/// has then grown by a part of it.
+#[tactic(auto, using(kob_words::proofs::Appending::appending))]
 pub fn print_service_tick(
     out: &mut Vec<u8>,
     number: u64,
     tick: kob_router::Tick,
+    behind: &[u8],
 ) -> Result<(), AllocError>
     ensures { OnOk result (out.new.items
-        ≡ out.old.items ++ numbered number (service_tick_text tick)) }
+        ≡ out.old.items ++ numbered number (service_tick_text tick ++ behind.now)) }
+{
+    push_number(out, number)?;
+    push_service_tick(out, tick)?;
+    out.extend_from_slice(behind)?;
+    out.extend_from_slice(b"\n")
+}
+
+fn push_service_tick(out: &mut Vec<u8>, tick: kob_router::Tick) -> Result<(), AllocError>
+    ensures { OnOk result (out.new.items ≡ out.old.items ++ service_tick_text tick) }
 {
     match tick {
-        kob_router::Tick::Moved(seq) => print_counted(out, number, b" moved ", seq),
-        kob_router::Tick::Idle => print_word(out, number, b" idle"),
-        kob_router::Tick::Repeat => print_word(out, number, b" repeat"),
-        kob_router::Tick::Stopped(reason) => print_service_stop(out, number, reason),
+        kob_router::Tick::Moved(seq) => push_counted(out, b" moved ", seq),
+        kob_router::Tick::Idle => out.extend_from_slice(b" idle"),
+        kob_router::Tick::Repeat => out.extend_from_slice(b" repeat"),
+        kob_router::Tick::Stopped(reason) => push_service_stop(out, reason),
     }
 }
 
 ghost use Rattle.kob_router.specs.declared.tick.Tick.TheVariants as service_tick;
 
-fn print_service_stop(
-    out: &mut Vec<u8>,
-    number: u64,
-    reason: kob_router::StopReason,
-) -> Result<(), AllocError>
+fn push_service_stop(out: &mut Vec<u8>, reason: kob_router::StopReason) -> Result<(), AllocError>
     ensures { OnOk result (out.new.items
-        ≡ out.old.items ++ numbered number (service_tick_text (service_tick.Stopped reason))) }
+        ≡ out.old.items ++ service_tick_text (service_tick.Stopped reason)) }
 {
     match reason {
         kob_router::StopReason::Denied { code, verdicts } => {
-            print_stopped(out, number, &Reply::Denied { code, verdicts })
+            push_stopped(out, &Reply::Denied { code, verdicts })
         }
         kob_router::StopReason::Refused { code, reason } => {
-            print_stopped(out, number, &Reply::Refused { code, reason })
+            push_stopped(out, &Reply::Refused { code, reason })
         }
-        kob_router::StopReason::BadTopic => print_word(out, number, b" stopped bad-topic"),
-        kob_router::StopReason::Memory(_) => print_word(out, number, b" stopped memory"),
-        kob_router::StopReason::Store => print_word(out, number, b" stopped store"),
+        kob_router::StopReason::BadTopic => out.extend_from_slice(b" stopped bad-topic"),
+        kob_router::StopReason::Memory(_) => out.extend_from_slice(b" stopped memory"),
+        kob_router::StopReason::Store => out.extend_from_slice(b" stopped store"),
     }
 }
 
 ghost use Rattle.kob_script.specs.Printed.{outcome_text};
 
 #[tactic(auto, using(kob_words::proofs::Appending::appending))]
-fn print_stopped(out: &mut Vec<u8>, number: u64, reply: &Reply) -> Result<(), AllocError>
+fn push_stopped(out: &mut Vec<u8>, reply: &Reply) -> Result<(), AllocError>
     ensures { OnOk result (out.new.items
-        ≡ out.old.items ++ numbered number (codes " stopped" ++ outcome_text reply.now)) }
+        ≡ out.old.items ++ (codes " stopped" ++ outcome_text reply.now)) }
 {
-    push_number(out, number)?;
     out.extend_from_slice(b" stopped")?;
-    push_outcome(out, reply)?;
-    out.extend_from_slice(b"\n")
+    push_outcome(out, reply)
+}
+
+#[tactic(auto, using(kob_words::proofs::Appending::appending))]
+fn push_counted(out: &mut Vec<u8>, word: &[u8], count: u64) -> Result<(), AllocError>
+    ensures { OnOk result (out.new.items ≡ out.old.items ++ (word.now ++ decimal count)) }
+{
+    out.extend_from_slice(word)?;
+    push_number(out, count)
 }
 
 #[tactic(auto, using(kob_words::proofs::Appending::appending))]
@@ -80,51 +94,57 @@ fn print_counted(out: &mut Vec<u8>, number: u64, word: &[u8], count: u64) -> Res
         ≡ out.old.items ++ numbered number (word.now ++ decimal count)) }
 {
     push_number(out, number)?;
-    out.extend_from_slice(word)?;
-    push_number(out, count)?;
+    push_counted(out, word, count)?;
     out.extend_from_slice(b"\n")
 }
 
 /// Prints what a tick of a consumer came to: `N placed POSITION`, `N took COUNT`, `N committed`,
-/// `N idle`, `N repeat`, or `N stopped` with the reason. The error is out of memory; `out` has then
-/// grown by a part of it.
+/// `N idle`, `N repeat`, or `N stopped` with the reason, and `behind`, a text that follows it in the
+/// line. The error is out of memory; `out` has then grown by a part of it.
+#[tactic(auto, using(kob_words::proofs::Appending::appending))]
 pub fn print_consumer_tick(
     out: &mut Vec<u8>,
     number: u64,
     tick: kob_inbox::Tick,
+    behind: &[u8],
 ) -> Result<(), AllocError>
     ensures { OnOk result (out.new.items
-        ≡ out.old.items ++ numbered number (consumer_tick_text tick)) }
+        ≡ out.old.items ++ numbered number (consumer_tick_text tick ++ behind.now)) }
+{
+    push_number(out, number)?;
+    push_consumer_tick(out, tick)?;
+    out.extend_from_slice(behind)?;
+    out.extend_from_slice(b"\n")
+}
+
+fn push_consumer_tick(out: &mut Vec<u8>, tick: kob_inbox::Tick) -> Result<(), AllocError>
+    ensures { OnOk result (out.new.items ≡ out.old.items ++ consumer_tick_text tick) }
 {
     match tick {
-        kob_inbox::Tick::Placed(position) => print_counted(out, number, b" placed ", position),
-        kob_inbox::Tick::Took(count) => print_counted(out, number, b" took ", count),
-        kob_inbox::Tick::Committed => print_word(out, number, b" committed"),
-        kob_inbox::Tick::Idle => print_word(out, number, b" idle"),
-        kob_inbox::Tick::Repeat => print_word(out, number, b" repeat"),
-        kob_inbox::Tick::Stopped(reason) => print_consumer_stop(out, number, reason),
+        kob_inbox::Tick::Placed(position) => push_counted(out, b" placed ", position),
+        kob_inbox::Tick::Took(count) => push_counted(out, b" took ", count),
+        kob_inbox::Tick::Committed => out.extend_from_slice(b" committed"),
+        kob_inbox::Tick::Idle => out.extend_from_slice(b" idle"),
+        kob_inbox::Tick::Repeat => out.extend_from_slice(b" repeat"),
+        kob_inbox::Tick::Stopped(reason) => push_consumer_stop(out, reason),
     }
 }
 
 ghost use Rattle.kob_inbox.specs.declared.tick.Tick.TheVariants as consumer_tick;
 
-fn print_consumer_stop(
-    out: &mut Vec<u8>,
-    number: u64,
-    reason: kob_inbox::StopReason,
-) -> Result<(), AllocError>
+fn push_consumer_stop(out: &mut Vec<u8>, reason: kob_inbox::StopReason) -> Result<(), AllocError>
     ensures { OnOk result (out.new.items
-        ≡ out.old.items ++ numbered number (consumer_tick_text (consumer_tick.Stopped reason))) }
+        ≡ out.old.items ++ consumer_tick_text (consumer_tick.Stopped reason)) }
 {
     match reason {
         kob_inbox::StopReason::Denied { code, verdicts } => {
-            print_stopped(out, number, &Reply::Denied { code, verdicts })
+            push_stopped(out, &Reply::Denied { code, verdicts })
         }
         kob_inbox::StopReason::Refused { code, reason } => {
-            print_stopped(out, number, &Reply::Refused { code, reason })
+            push_stopped(out, &Reply::Refused { code, reason })
         }
-        kob_inbox::StopReason::Memory(_) => print_word(out, number, b" stopped memory"),
-        kob_inbox::StopReason::Store => print_word(out, number, b" stopped store"),
+        kob_inbox::StopReason::Memory(_) => out.extend_from_slice(b" stopped memory"),
+        kob_inbox::StopReason::Store => out.extend_from_slice(b" stopped store"),
     }
 }
 

@@ -8,6 +8,7 @@ use kob_outbox::{Change, OutboxEvent};
 use kob_rights::Event;
 use kob_router::{Route, RouteSettings, Target};
 use std::marker::Model;
+use uuid::Uuid;
 
 /// A scene: the settings of its broker, which open no bindings, its workers, its steps, and the line
 /// of the text that each step is of, from 1 on. A line `acl` can have several steps.
@@ -102,9 +103,32 @@ pub enum Step {
     /// Prints every entry of the journal.
     Journal,
     /// Asks whether the laws of delivery apply to a service and a consumer, by their places.
-    Law { service: usize, consumer: usize },
+    Law {
+        service: usize,
+        consumer: usize,
+    },
     /// Asks where each event of a service is, on its way to a consumer, by their places.
-    Check { service: usize, consumer: usize },
+    Check {
+        service: usize,
+        consumer: usize,
+    },
+    /// Asks whether the events of a service are where they are expected to be.
+    Expect {
+        service: usize,
+        consumer: usize,
+        what: Expected,
+    },
+}
+
+/// What is expected of the events of a service, on their way to a consumer.
+#[derive(Clone, Copy)]
+pub enum Expected {
+    /// All of them are in the consumer's inbox.
+    Delivered,
+    /// The one with this id is lost.
+    Lost(Uuid),
+    /// The inbox has of each aggregate the first events that the service recorded, in their order.
+    Order,
 }
 
 /// Which message of a tick's first call is lost.

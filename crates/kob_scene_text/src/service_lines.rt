@@ -75,7 +75,7 @@ fn declared_route(
 }
 
 /// From 1 to 1,000. `BadNumber` comes before `BadPartitions`.
-fn partitions_of(word: &Word<'_>) -> Result<u32, StepError>
+pub(crate) fn partitions_of(word: &Word<'_>) -> Result<u32, StepError>
     ensures value { Gives result (partitions_of word.now) }
     ensures some { IfOk result (λ partitions. 1 ≤ partitions) }
     ensures most { IfOk result (λ partitions. partitions ≤ 1000) }
@@ -123,7 +123,7 @@ fn by_first<'w, 'l>(words: &'w [Word<'l>]) -> Result<(RouteBy, &'w [Word<'l>]), 
     }
 }
 
-fn by_named(word: &Word<'_>) -> Result<RouteBy, LineError>
+pub(crate) fn by_named(word: &Word<'_>) -> Result<RouteBy, LineError>
     ensures { ScriptGives result (by_named word.now) }
 {
     if word.decoded() == b"aggregatetype".as_slice() {
@@ -158,7 +158,7 @@ fn text_first<'w, 'l>(
 }
 
 /// The fault is `BadRoute`.
-fn route_of(alloc: Global, settings: &RouteSettings) -> Result<Route, StepError>
+pub(crate) fn route_of(alloc: Global, settings: &RouteSettings) -> Result<Route, StepError>
     ensures { Gives result (route_of settings.now) }
 {
     match Route::new(alloc, settings) {

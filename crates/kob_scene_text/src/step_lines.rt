@@ -10,10 +10,11 @@ ghost use Rattle.kob_scene_text.specs.Steps.{bare_consumer_step, bare_service_li
 ghost use Rattle.kob_scene_text.specs.Steps.{bare_service_step, begins_step, business_of};
 ghost use Rattle.kob_scene_text.specs.Steps.{consumer_step_of, event_of, id_of, lost_of};
 ghost use Rattle.kob_scene_text.specs.Steps.{id_in, record_of, record_with, service_line};
+ghost use Rattle.kob_scene_text.specs.Steps.{expected_alone, expected_by, expected_of};
 ghost use Rattle.kob_scene_text.specs.Steps.{service_step_of, service_told, written, written_of};
 
 use crate::fault::{SceneFaultKind, StepError};
-use crate::scene::{ConsumerStep, Lost, ServiceStep};
+use crate::scene::{ConsumerStep, Expected, Lost, ServiceStep};
 use kob_outbox::{Change, OutboxEvent};
 use kob_script::{FaultKind, LineError, Word, lent_text_of, text_of};
 use std::alloc::Global;
@@ -141,6 +142,39 @@ fn string_of(alloc: Global, word: &Word<'_>) -> Result<String, LineError>
     Ok(String::from_str(alloc, text)?)
 }
 
+/// What is expected: `delivered all`, `lost ID` or `order`.
+pub(crate) fn expected_of(words: &[Word<'_>]) -> Result<Expected, StepError>
+    ensures { Gives result (expected_of words.now) }
+{
+    match words {
+        [word] => expected_alone(word.decoded()),
+        [first, second] => expected_by(first.decoded(), second),
+        _ => Err(StepError::Fault(SceneFaultKind::Script(FaultKind::BadLine))),
+    }
+}
+
+fn expected_alone(word: &[u8]) -> Result<Expected, StepError>
+    ensures { Gives result (expected_alone word.now) }
+{
+    if word == b"order".as_slice() {
+        Ok(Expected::Order)
+    } else {
+        Err(StepError::Fault(SceneFaultKind::Script(FaultKind::BadLine)))
+    }
+}
+
+fn expected_by(first: &[u8], second: &Word<'_>) -> Result<Expected, StepError>
+    ensures { Gives result (expected_by first.now second.now) }
+{
+    if first == b"lost".as_slice() {
+        Ok(Expected::Lost(id_of(second)?))
+    } else if first == b"delivered".as_slice() && second.decoded() == b"all".as_slice() {
+        Ok(Expected::Delivered)
+    } else {
+        Err(StepError::Fault(SceneFaultKind::Script(FaultKind::BadLine)))
+    }
+}
+
 /// `ID AGGREGATETYPE AGGREGATEID TYPE PAYLOAD KIND KEY STATE`. The words are checked from left to
 /// right.
 fn record_step(alloc: Global, words: &[Word<'_>]) -> Result<ServiceStep, StepError>
@@ -186,7 +220,7 @@ fn record_with(
 }
 
 /// `BadText` comes before `BadId`.
-fn id_of(word: &Word<'_>) -> Result<Uuid, StepError>
+pub(crate) fn id_of(word: &Word<'_>) -> Result<Uuid, StepError>
     ensures { Gives result (id_of word.now) }
 {
     let text = lent_text_of(word)?;

@@ -4,6 +4,7 @@
 mod checked;
 mod command;
 mod command_lines;
+mod command_requests;
 mod fault;
 mod faults;
 mod laws;

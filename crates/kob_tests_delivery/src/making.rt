@@ -54,9 +54,7 @@ pub(crate) fn event_of(alloc: Global, line: &str) -> Option<Event> {
 /// The request of a script's line.
 pub(crate) fn request_of(alloc: Global, line: &str) -> Option<Request> {
     let event = event_of(alloc, line)?;
-    drop(event.principal);
-    drop(event.host);
-    Some(event.request)
+    Some(event.into_request())
 }
 
 fn put_times(
@@ -74,18 +72,14 @@ fn put_times(
 
 /// This number of copies of the request of a line, by the principal of the line.
 pub(crate) fn script(alloc: Global, line: &str, times: usize) -> Option<Script> {
-    let Event {
-        principal,
-        host,
-        request,
-    } = event_of(alloc, line)?;
+    let event = event_of(alloc, line)?;
     let mut script = Script {
-        principal,
-        host,
+        principal: event.principal.copy(alloc).ok()?,
+        host: event.host.copy(alloc).ok()?,
         requests: Vec::new(alloc),
     };
-    let put = put_times(alloc, &mut script.requests, &request, times);
-    drop(request);
+    let put = put_times(alloc, &mut script.requests, &event.request, times);
+    drop(event);
     if put.is_none() {
         drop(script);
         return None;

@@ -4,4 +4,4 @@ use Rattle.kob_policy_text.proofs.at_hand.names_named.Given as goal
 
 abbrev pub invariant-loop-binding : goal.invariant-loop-binding
 invariant-loop-binding l =
-    l.made.items ≡ fold (with_name l.resource) [] (take l.binding-index l.bindings)
+    l.made ≡ fold (with_name l.resource) [] (take l.binding-index l.bindings)

@@ -1,4 +1,4 @@
-use Rattle.kob_scene_play.proofs.Words.{IsServiceTick, rules, service_goes_on, service_tick_text, sym, ◌∙◌}
+use Rattle.kob_scene_play.proofs.Words.{IsServiceTick, rules, service_goes_on, service_line, sym, ◌∙◌}
 use Rattle.kob_scene_play.proofs.Running.{last_tick, one_tick_more}
 use Rattle.kob_lines.specs.declared.lossy.Loss.TheVariants as losses
 use Rattle.kob_scene_play.proofs.service_steps.run.Goals as goal
@@ -6,7 +6,7 @@ use Rattle.kob_scene_play.proofs.service_steps.run.Goals as goal
 pub returns-then-not-branch : goal.returns-then-not-branch
 returns-then-not-branch c =
     let ticked = c.in_ok-tick.ensures in
-    last_tick (IsServiceTick losses.None) service_tick_text service_goes_on c.args.service.now c.loop.service
+    last_tick (IsServiceTick losses.None) service_line service_goes_on c.args.service.now c.loop.service
     c.tick.new.service c.args.recorded.now c.loop.recorded c.tick.new.recorded c.args.out.now.told c.loop.out.told
     c.tick.new.out.told c.args.out.now.text.items c.loop.out.text.items c.tick.new.out.text.items c.loop.counter
     c.loop.invariant ticked.0 ticked.2 (sym ticked.1 ∙ search rules)
@@ -14,7 +14,7 @@ returns-then-not-branch c =
 pub loop-preserved : goal.loop-preserved
 loop-preserved c =
     let ticked = c.in_ok-tick.ensures in
-    one_tick_more (IsServiceTick losses.None) service_tick_text service_goes_on c.args.service.now c.loop.service
+    one_tick_more (IsServiceTick losses.None) service_line service_goes_on c.args.service.now c.loop.service
     c.tick.new.service c.args.recorded.now c.loop.recorded c.tick.new.recorded c.args.out.now.told c.loop.out.told
     c.tick.new.out.told c.args.out.now.text.items c.loop.out.text.items c.tick.new.out.text.items c.loop.counter
     c.loop.invariant ticked.0 ticked.2 (sym ticked.1 ∙ search rules)

@@ -1,0 +1,203 @@
+//! A service's router as a document for Kafka Connect, and its table.
+
+ghost use Rattle.std.specs.Prelude.{◌≡◌, ◌++◌, OnOk, codes, flat_map};
+ghost use Rattle.kob.specs.Connect.{by_id_text, by_property, closing_text, config_text};
+ghost use Rattle.kob.specs.Connect.{connect_text, connector_of, connects_text, mysql_table_text};
+ghost use Rattle.kob.specs.Connect.{mysql_text, opening_text, placement_key_text};
+ghost use Rattle.kob.specs.Connect.{postgresql_table_text, postgresql_text, property_unless};
+ghost use Rattle.kob.specs.Connect.{replacement_key_text, route_properties, table_of};
+ghost use Rattle.kob.specs.Connect.{transform_text};
+ghost use Rattle.kob_scene_play.specs.Json.{json_string};
+
+use kob_names::Text;
+use kob_router::{RouteBy, RouteSettings};
+use kob_scene_play::push_json_string;
+use kob_scene_text::Service;
+use std::alloc::AllocError;
+
+/// A database whose outbox table a connector reads.
+#[derive(Clone, Copy, Debug, PartialEq, Eq)]
+pub enum Database {
+    Postgresql,
+    Mysql,
+}
+
+/// Adds a document for each service, as Kafka Connect's REST interface takes it: `POST /connectors`.
+/// What a user has to fill in stands in angle brackets. A property that has Debezium's default is
+/// left out. The error is out of memory.
+pub fn push_connects(
+    out: &mut Vec<u8>,
+    database: Database,
+    services: &[Service],
+) -> Result<(), AllocError>
+{
+    for service in services {
+        push_connect(out, database, service)?;
+    }
+    Ok(())
+}
+
+#[tactic(auto, using(kob_words::proofs::Appending::appending))]
+fn push_connect(out: &mut Vec<u8>, database: Database, service: &Service) -> Result<(), AllocError>
+{
+    out.extend_from_slice(opening_text().as_bytes())?;
+    push_json_string(out, service.name.as_str().as_bytes())?;
+    out.extend_from_slice(config_text().as_bytes())?;
+    out.extend_from_slice(connector_of(database).as_bytes())?;
+    push_json_string(out, service.name.as_str().as_bytes())?;
+    out.extend_from_slice(transform_text().as_bytes())?;
+    push_route(out, &service.settings)?;
+    out.extend_from_slice(closing_text().as_bytes())
+}
+
+fn connector_of(database: Database) -> &'static str
+    ensures { result.now ≡ connector_of database }
+{
+    match database {
+        Database::Postgresql => postgresql_text(),
+        Database::Mysql => mysql_text(),
+    }
+}
+
+/// The properties of a route that are not Debezium's defaults.
+#[tactic(auto, using(kob_words::proofs::Appending::appending))]
+fn push_route(out: &mut Vec<u8>, settings: &RouteSettings) -> Result<(), AllocError>
+{
+    push_by(out, settings.by)?;
+    let default = b"outbox.event.${routedByValue}";
+    push_unless(out, default, replacement_key_text(), &settings.replacement)?;
+    push_unless(out, b"", placement_key_text(), &settings.placement)
+}
+
+fn push_by(out: &mut Vec<u8>, by: RouteBy) -> Result<(), AllocError>
+    ensures { OnOk result (out.new.items ≡ out.old.items ++ by_property by) }
+{
+    match by {
+        RouteBy::AggregateType => Ok(()),
+        RouteBy::AggregateId => out.extend_from_slice(by_id_text().as_bytes()),
+    }
+}
+
+fn push_unless(
+    out: &mut Vec<u8>,
+    default: &[u8],
+    name: &str,
+    value: &Text,
+) -> Result<(), AllocError>
+    ensures { OnOk result (out.new.items
+        ≡ out.old.items ++ property_unless default.now name.now value.now) }
+{
+    if value.as_str().as_bytes() == default {
+        Ok(())
+    } else {
+        push_property(out, name, value)
+    }
+}
+
+#[tactic(auto, using(kob_words::proofs::Appending::appending))]
+fn push_property(out: &mut Vec<u8>, name: &str, value: &Text) -> Result<(), AllocError>
+    ensures { OnOk result (out.new.items
+        ≡ out.old.items ++ (name.now ++ json_string value.now ++ codes ",\n")) }
+{
+    out.extend_from_slice(name.as_bytes())?;
+    push_json_string(out, value.as_str().as_bytes())?;
+    out.extend_from_slice(b",\n")
+}
+
+/// The statement that creates the outbox table which the properties expect.
+pub fn table_of(database: Database) -> &'static str
+    ensures { result.now ≡ table_of database }
+{
+    match database {
+        Database::Postgresql => postgresql_table_text(),
+        Database::Mysql => mysql_table_text(),
+    }
+}
+
+/// A connector: its name, and what it is configured by.
+#[tactic(auto, unfolding(crate::specs::Connect::opening_text))]
+fn opening_text() -> &'static str
+    ensures { result.now ≡ opening_text }
+{
+    "{\n  \"name\": "
+}
+
+/// Between the name and the properties.
+#[tactic(auto, unfolding(crate::specs::Connect::config_text))]
+fn config_text() -> &'static str
+    ensures { result.now ≡ config_text }
+{
+    ",\n  \"config\": {\n"
+}
+
+/// Debezium's connector for PostgreSQL.
+#[tactic(auto, unfolding(crate::specs::Connect::postgresql_text))]
+fn postgresql_text() -> &'static str
+    ensures { result.now ≡ postgresql_text }
+{
+    "    \"connector.class\": \"io.debezium.connector.postgresql.PostgresConnector\",\n    \"plugin.name\": \"pgoutput\",\n    \"database.hostname\": \"<DATABASE_HOST>\",\n    \"database.user\": \"<DATABASE_USER>\",\n    \"database.password\": \"<DATABASE_PASSWORD>\",\n    \"database.dbname\": \"<DATABASE_NAME>\",\n    \"table.include.list\": \"public.outbox\",\n    \"topic.prefix\": "
+}
+
+/// Debezium's connector for MySQL.
+#[tactic(auto, unfolding(crate::specs::Connect::mysql_text))]
+fn mysql_text() -> &'static str
+    ensures { result.now ≡ mysql_text }
+{
+    "    \"connector.class\": \"io.debezium.connector.mysql.MySqlConnector\",\n    \"database.hostname\": \"<DATABASE_HOST>\",\n    \"database.user\": \"<DATABASE_USER>\",\n    \"database.password\": \"<DATABASE_PASSWORD>\",\n    \"database.server.id\": \"<A_NUMBER_THAT_NO_OTHER_REPLICA_HAS>\",\n    \"schema.history.internal.kafka.bootstrap.servers\": \"<BOOTSTRAP_SERVERS>\",\n    \"schema.history.internal.kafka.topic\": \"<SCHEMA_HISTORY_TOPIC>\",\n    \"table.include.list\": \"<DATABASE_NAME>.outbox\",\n    \"topic.prefix\": "
+}
+
+/// The outbox event router.
+#[tactic(auto, unfolding(crate::specs::Connect::transform_text))]
+fn transform_text() -> &'static str
+    ensures { result.now ≡ transform_text }
+{
+    ",\n    \"transforms\": \"outbox\",\n    \"transforms.outbox.type\": \"io.debezium.transforms.outbox.EventRouter\",\n"
+}
+
+/// The column that names the topic, if it is not Debezium's default.
+#[tactic(auto, unfolding(crate::specs::Connect::by_id_text))]
+fn by_id_text() -> &'static str
+    ensures { result.now ≡ by_id_text }
+{
+    "    \"transforms.outbox.route.by.field\": \"aggregateid\",\n"
+}
+
+/// The name of a property.
+#[tactic(auto, unfolding(crate::specs::Connect::replacement_key_text))]
+fn replacement_key_text() -> &'static str
+    ensures { result.now ≡ replacement_key_text }
+{
+    "    \"transforms.outbox.route.topic.replacement\": "
+}
+
+/// The name of a property.
+#[tactic(auto, unfolding(crate::specs::Connect::placement_key_text))]
+fn placement_key_text() -> &'static str
+    ensures { result.now ≡ placement_key_text }
+{
+    "    \"transforms.outbox.table.fields.additional.placement\": "
+}
+
+/// Keys and values as they are.
+#[tactic(auto, unfolding(crate::specs::Connect::closing_text))]
+fn closing_text() -> &'static str
+    ensures { result.now ≡ closing_text }
+{
+    "    \"key.converter\": \"org.apache.kafka.connect.storage.StringConverter\",\n    \"value.converter\": \"org.apache.kafka.connect.storage.StringConverter\"\n  }\n}\n"
+}
+
+/// The table for PostgreSQL.
+#[tactic(auto, unfolding(crate::specs::Connect::postgresql_table_text))]
+fn postgresql_table_text() -> &'static str
+    ensures { result.now ≡ postgresql_table_text }
+{
+    "CREATE TABLE outbox (\n  id uuid PRIMARY KEY,\n  aggregatetype varchar(255) NOT NULL,\n  aggregateid varchar(255) NOT NULL,\n  type varchar(255) NOT NULL,\n  payload text NOT NULL\n);\n"
+}
+
+/// The table for MySQL.
+#[tactic(auto, unfolding(crate::specs::Connect::mysql_table_text))]
+fn mysql_table_text() -> &'static str
+    ensures { result.now ≡ mysql_table_text }
+{
+    "CREATE TABLE outbox (\n  id char(36) PRIMARY KEY,\n  aggregatetype varchar(255) NOT NULL,\n  aggregateid varchar(255) NOT NULL,\n  type varchar(255) NOT NULL,\n  payload longtext NOT NULL\n);\n"
+}

@@ -1,0 +1,233 @@
+//! Why an event is lost to a consumer.
+
+ghost use Rattle.std.specs.Prelude.{◌≡◌, ◌<◌, ◌++◌, IfOk, OnOk, Some, length, map, slice_get};
+ghost use Rattle.kob_delivery_check.specs.Logs.{is_on};
+ghost use Rattle.std.specs.List.{position};
+ghost use Rattle.std.specs.Option.{option_copied};
+ghost use Rattle.kob_delivery_check.specs.Causes.{assigned_to, cause_at, cause_by, cause_in, cause_of};
+ghost use Rattle.kob_delivery_check.specs.Causes.{cause_to, loss_at, loss_by, losses_by};
+
+use crate::fate::Fate;
+use crate::journaled::log_until;
+use crate::obstacle::{obstacle_of, obstacles};
+use crate::partition_log::is_on;
+use crate::sent::{offset_of, sent_at};
+use kob_inbox::Subscription;
+use kob_names::Text;
+use kob_outbox::OutboxEvent;
+use kob_rights::Request;
+use kob_router::Place;
+use kob_shared::{Entry, Journal};
+use std::alloc::{AllocError, Global};
+
+/// Why no tick of a consumer takes an event in, by the journal of its broker. Entries are named by
+/// their places in the journal, from 0.
+#[derive(Clone, Copy, Debug)]
+pub enum Cause {
+    /// No entry of the journal sent it to where its record would be.
+    Unknown,
+    /// This entry sent it to a partition that the consumer does not read.
+    Unread {
+        sent: usize,
+    },
+    /// Its record is or was in this partition of the assignment at this offset. The entry `by`
+    /// deleted the topic, deleted the record, or committed an offset past it for the group.
+    OutOfReach {
+        assigned: usize,
+        offset: u64,
+        by: Option<usize>,
+    },
+}
+
+/// A lost event, by its place among the events that the service recorded, from 0, and its cause.
+#[derive(Clone, Copy, Debug)]
+pub struct Loss {
+    pub event: usize,
+    pub cause: Cause,
+}
+
+/// The events that are lost to a consumer, each with its cause. `fates` has where each event is, in
+/// the order of the events. The error is out of memory.
+pub fn losses_of(
+    alloc: Global,
+    reader: &Subscription,
+    journal: &Journal,
+    events: &[&OutboxEvent],
+    fates: &[Fate],
+) -> Result<Vec<Loss>, AllocError>
+    ensures { IfOk result (λ losses. losses.items ≡ losses_by reader.now journal.now
+        (map (λ event. event.now) events.now) fates.now) }
+{
+    let mut losses = Vec::new(alloc);
+    for place in 0..fates.len() {
+        push_loss(
+            alloc,
+            &mut losses,
+            reader,
+            journal,
+            events,
+            place,
+            fates[place],
+        )?;
+    }
+    Ok(losses)
+}
+
+fn push_loss(
+    alloc: Global,
+    losses: &mut Vec<Loss>,
+    reader: &Subscription,
+    journal: &Journal,
+    events: &[&OutboxEvent],
+    place: usize,
+    fate: Fate,
+) -> Result<(), AllocError>
+    ensures { OnOk result (losses.new.items ≡ losses.old.items
+        ++ loss_at reader.now journal.now (map (λ event. event.now) events.now) (place, fate)) }
+{
+    if fate.is_lost() {
+        push_lost(
+            alloc,
+            losses,
+            reader,
+            journal,
+            place,
+            event_at(events, place),
+        )
+    } else {
+        Ok(())
+    }
+}
+
+fn push_lost(
+    alloc: Global,
+    losses: &mut Vec<Loss>,
+    reader: &Subscription,
+    journal: &Journal,
+    place: usize,
+    event: Option<&OutboxEvent>,
+) -> Result<(), AllocError>
+    ensures { OnOk result (losses.new.items ≡ losses.old.items
+        ++ loss_by reader.now journal.now place (option_copied event.entry)) }
+{
+    let Some(event) = event else {
+        return Ok(());
+    };
+    let cause = cause_of(alloc, reader, journal, event.id.as_u128())?;
+    losses.push(Loss {
+        event: place,
+        cause,
+    })?;
+    Ok(())
+}
+
+/// The event at a place.
+pub(crate) fn event_at<'e>(events: &[&'e OutboxEvent], place: usize) -> Option<&'e OutboxEvent>
+    ensures { option_copied result ≡ slice_get (map (λ event. event.now) events.now) place }
+{
+    match events.get(place) {
+        Some(event) => Some(*event),
+        None => None,
+    }
+}
+
+/// Why an event that is lost to a consumer is lost. The error is out of memory.
+fn cause_of(
+    alloc: Global,
+    reader: &Subscription,
+    journal: &Journal,
+    event: u128,
+) -> Result<Cause, AllocError>
+    ensures { IfOk result (λ cause. cause ≡ cause_of reader.now journal.now event) }
+{
+    match sent_at(journal, event) {
+        None => Ok(Cause::Unknown),
+        Some(sent) => cause_by(alloc, reader, journal, event, sent, journal.get(sent)),
+    }
+}
+
+fn cause_by(
+    alloc: Global,
+    reader: &Subscription,
+    journal: &Journal,
+    event: u128,
+    sent: usize,
+    entry: Option<&Entry>,
+) -> Result<Cause, AllocError>
+    requires { sent < length journal.now }
+    ensures { IfOk result (λ cause. cause
+        ≡ cause_by reader.now journal.now event sent (option_copied entry.entry)) }
+{
+    let Some(entry) = entry else {
+        return Ok(Cause::Unknown);
+    };
+    match assigned_to(reader.assignment.as_slice(), &entry.event.request) {
+        None => Ok(Cause::Unread { sent }),
+        Some(assigned) => cause_in(alloc, reader, journal, event, sent, assigned),
+    }
+}
+
+/// The partition that a PRODUCE names, by its place in the assignment.
+fn assigned_to(assignment: &[Place], request: &Request) -> Option<usize>
+    ensures { result ≡ assigned_to assignment.now request.now }
+{
+    match request {
+        Request::Produce(asked) => place_of(assignment, &asked.topic, asked.partition),
+        _ => None,
+    }
+}
+
+fn place_of(assignment: &[Place], topic: &Text, partition: u64) -> Option<usize>
+    ensures { result ≡ position (λ place. is_on place topic.now partition) assignment.now }
+{
+    assignment
+        .iter()
+        .position(|place| is_on(place, topic, partition))
+}
+
+fn cause_in(
+    alloc: Global,
+    reader: &Subscription,
+    journal: &Journal,
+    event: u128,
+    sent: usize,
+    assigned: usize,
+) -> Result<Cause, AllocError>
+    requires { sent < length journal.now }
+    ensures { IfOk result (λ cause. cause ≡ cause_in reader.now journal.now event sent assigned
+        (slice_get reader.now.assignment assigned)) }
+{
+    let Some(place) = reader.assignment.as_slice().get(assigned) else {
+        return Ok(Cause::Unknown);
+    };
+    if sent >= journal.len() {
+        unreachable!()
+    }
+    let log = log_until(alloc, &reader.group, place, journal, sent + 1)?;
+    match offset_of(event, log.events()) {
+        None => Ok(Cause::Unknown),
+        Some(offset) => out_of_reach(alloc, reader, journal, sent, assigned, place, offset),
+    }
+}
+
+fn out_of_reach(
+    alloc: Global,
+    reader: &Subscription,
+    journal: &Journal,
+    sent: usize,
+    assigned: usize,
+    place: &Place,
+    offset: usize,
+) -> Result<Cause, AllocError>
+    ensures { IfOk result (λ cause. cause
+        ≡ cause_at reader.now place.now journal.now sent assigned (Some offset)) }
+{
+    let offset = offset as u64;
+    let found = obstacles(alloc, &reader.group, place, offset, journal)?;
+    let by = obstacle_of(sent, &found);
+    Ok(Cause::OutOfReach {
+        assigned,
+        offset,
+        by,
+    })
+}

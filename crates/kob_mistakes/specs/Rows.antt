@@ -1,0 +1,31 @@
+-- Which word of a question does not fit.
+use Rattle.kob_mistakes.specs.declared.rows.Fit.{Fit}
+use Rattle.kob_mistakes.specs.declared.rows.Fit.TheVariants as fit
+use Rattle.kob_script.specs.Words.{Word, named_host, named_principal}
+use Rattle.kob_words.specs.Words.{operation_named, resource_named}
+use Rattle.std.specs.Option.{is_some}
+use Rattle.std.specs.Prelude.{ℕ, ◌+◌, ◌==◌, ◌||◌, Bool, true, List, [], ◌∷◌, codes, if◌then◌else◌, bytes_eq}
+use Rattle.std.specs.List.{list_any}
+use Rattle.std.specs.Result.{is_ok}
+
+-- lists write DESCRIBE_CONFIGS for DescribeConfigs
+abbrev pub is_listed : List ℕ → Bool
+is_listed name = list_any (λ byte. byte == 95) name
+
+-- a word may stand at such a place
+abbrev pub fits : Fit → Word → Bool
+fits fit.Any word = true
+fits fit.Principal word = is_ok (named_principal word)
+fits fit.Host word = is_ok (named_host word)
+fits fit.Operation word = is_some (operation_named word.decoded) || is_listed word.decoded
+fits fit.Resource word = is_some (resource_named word.decoded) || is_listed word.decoded
+fits fit.Answer word = bytes_eq word.decoded (codes "yes") || bytes_eq word.decoded (codes "no")
+fits fit.May word = bytes_eq word.decoded (codes "may")
+fits fit.How word =
+    bytes_eq word.decoded (codes "idempotent") || bytes_eq word.decoded (codes "transactional")
+
+-- the place of the first word that does not fit; if each fits, that of the word too many or too few
+abbrev pub misfit : List Fit → List Word → ℕ
+misfit [] words = 0
+misfit (one ∷ row) [] = 0
+misfit (one ∷ row) (word ∷ words) = if fits one word then misfit row words + 1 else 0

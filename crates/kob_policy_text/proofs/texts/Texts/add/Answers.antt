@@ -1,0 +1,20 @@
+use Rattle.std.proofs.Common.{List, [], ap, sym, ℕ, ◌++◌, ◌∙◌, ◌∷◌, ◌≡◌}
+use Rattle.kob_prefix_tree.specs.Held.{PrefixMap, added}
+use Rattle.kob_prefix_tree.specs.declared.kind.PatternKind.TheVariants.{Literal}
+use Rattle.kob_policy_text.proofs.Knowing.{put_held}
+use Rattle.kob_policy_text.specs.AtHand.{is_held, is_known}
+use Rattle.kob_policy_text.proofs.texts.Texts.add.Goals as goal
+
+pub invariant_of-self-2 : goal.invariant_of-self-2
+invariant_of-self-2 c =
+    let made : List (List ℕ) = c.self.inside.made.items in
+    let keys : PrefixMap = c.self.inside.keys in
+    let key : List ℕ = c.args.text.now in
+    let items : c.push_reserved.new.self.items ≡ made ++ key ∷ [] =
+    c.push_reserved.ensures.items ∙ (λ i. c.in_ok-reserve.ensures.items i ++ c.in_ok-copy.ensures.value i ∷ []) in
+    let tree : c.add.new.self ≡ added keys key Literal 0 =
+    c.in_ok-add.ensures.added ∙ ap (λ (k : List ℕ). added keys k Literal 0) c.as_bytes.ensures.value in
+    λ text.
+    ap (λ (xs : List (List ℕ)). is_known xs text) items
+    ∙ put_held made keys key c.self.invariant text
+    ∙ ap (λ (t : PrefixMap). is_held t text) (sym tree)

@@ -1,0 +1,155 @@
+//! What is granted to a principal.
+
+ghost use Rattle.std.specs.Prelude.{◌≡◌, ◌++◌, OnOk, flat_map};
+ghost use Rattle.kob_authorizer.specs.Decide.{is_super};
+ghost use Rattle.kob_policy_text.specs.Holdings.{behind_comma, from_host, holding_line, holding_text};
+ghost use Rattle.kob_policy_text.specs.Holdings.{holdings_text, is_nothing, is_repeated, joined};
+ghost use Rattle.kob_policy_text.specs.Holdings.{open_text, operations_text};
+
+use crate::changes::{push_names, push_party};
+use crate::judge::Judge;
+use crate::who::names_all;
+use kob_names::{Host, Operation, Principal};
+use kob_policy_review::{Holding, rights};
+use kob_words::{operation_name, resource_name};
+use std::alloc::{AllocError, Global};
+
+#[tactic(auto, using(kob_words::proofs::Appending::appending))]
+fn push_behind_comma(out: &mut Vec<u8>, operation: Operation) -> Result<(), AllocError>
+    ensures { OnOk result (out.new.items ≡ out.old.items ++ behind_comma operation) }
+{
+    out.extend_from_slice(b",")?;
+    out.extend_from_slice(operation_name(operation).as_bytes())
+}
+
+fn push_others(out: &mut Vec<u8>, operations: &[Operation]) -> Result<(), AllocError>
+    ensures { OnOk result
+        (out.new.items ≡ out.old.items ++ flat_map behind_comma operations.now) }
+{
+    for operation in operations {
+        push_behind_comma(out, *operation)?;
+    }
+    Ok(())
+}
+
+#[tactic(auto, using(kob_words::proofs::Appending::appending))]
+fn push_joined(out: &mut Vec<u8>, operations: &[Operation]) -> Result<(), AllocError>
+    ensures { OnOk result (out.new.items ≡ out.old.items ++ joined operations.now) }
+{
+    match operations {
+        [] => Ok(()),
+        [first, others @ ..] => {
+            out.extend_from_slice(operation_name(*first).as_bytes())?;
+            push_others(out, others)
+        }
+    }
+}
+
+fn push_operations(out: &mut Vec<u8>, operations: &[Operation]) -> Result<(), AllocError>
+    ensures { OnOk result (out.new.items ≡ out.old.items ++ operations_text operations.now) }
+{
+    if operations.len() == 10 {
+        out.extend_from_slice(b"All")
+    } else {
+        push_joined(out, operations)
+    }
+}
+
+#[tactic(auto, using(kob_words::proofs::Appending::appending))]
+fn push_from(out: &mut Vec<u8>, host: &Option<Host>, one: &Holding) -> Result<(), AllocError>
+    ensures { OnOk result (out.new.items ≡ out.old.items ++ from_host host.now one.now) }
+{
+    match host {
+        Some(_) => Ok(()),
+        None => {
+            push_party(out, b"* (others)", &one.host)?;
+            out.extend_from_slice(b" ")
+        }
+    }
+}
+
+#[tactic(auto, using(kob_words::proofs::Appending::appending), unfolding(crate::specs::Holdings::holding_line))]
+fn push_line(out: &mut Vec<u8>, host: &Option<Host>, one: &Holding) -> Result<(), AllocError>
+    ensures { OnOk result (out.new.items ≡ out.old.items ++ holding_line host.now one.now) }
+{
+    out.extend_from_slice(b"  ")?;
+    push_from(out, host, one)?;
+    push_operations(out, one.operations.as_slice())?;
+    out.extend_from_slice(b" ")?;
+    out.extend_from_slice(resource_name(one.target.resource).as_bytes())?;
+    out.extend_from_slice(b" ")?;
+    push_names(out, &one.target.names)?;
+    out.extend_from_slice(b"\n")
+}
+
+fn is_repeated(host: &Option<Host>, one: &Holding) -> bool
+    ensures { result ≡ is_repeated host.now one.now }
+{
+    match host {
+        Some(_) => false,
+        None => names_all("*", &one.host),
+    }
+}
+
+fn is_nothing(operations: &[Operation]) -> bool
+    ensures { result ≡ is_nothing operations.now }
+{
+    operations.is_empty()
+}
+
+fn push_holding(out: &mut Vec<u8>, host: &Option<Host>, one: &Holding) -> Result<(), AllocError>
+    ensures { OnOk result (out.new.items ≡ out.old.items ++ holding_text host.now one.now) }
+{
+    if is_nothing(one.operations.as_slice()) || is_repeated(host, one) {
+        return Ok(());
+    }
+    push_line(out, host, one)
+}
+
+#[tactic(auto, using(kob_words::proofs::Appending::appending))]
+fn push_each(out: &mut Vec<u8>, host: &Option<Host>, found: &[Holding]) -> Result<(), AllocError>
+    ensures { OnOk result
+        (out.new.items ≡ out.old.items ++ flat_map (holding_text host.now) found.now) }
+{
+    for one in found {
+        push_holding(out, host, one)?;
+    }
+    Ok(())
+}
+
+fn is_super(supers: &[Principal], principal: &Principal) -> bool
+    ensures { result ≡ is_super supers.now principal.now }
+{
+    supers.iter().any(|user| user == principal)
+}
+
+fn open_text(everyone: bool) -> &'static str
+    ensures { result.now ≡ open_text everyone }
+{
+    if everyone {
+        "  All on names that no pattern takes\n"
+    } else {
+        ""
+    }
+}
+
+/// Prints what is granted to a principal, from one host or from each that counts: a line for each
+/// class of names, unless it is a super user.
+#[tactic(auto, using(kob_words::proofs::Appending::appending))]
+pub fn push_holdings(
+    alloc: Global,
+    out: &mut Vec<u8>,
+    judge: &Judge,
+    principal: &Principal,
+    host: &Option<Host>,
+) -> Result<(), AllocError>
+    ensures { OnOk result
+        (out.new.items ≡ out.old.items ++ holdings_text judge.now principal.now host.now) }
+{
+    if is_super(judge.policy().supers(), principal) {
+        return out.extend_from_slice(b"  All on every name, as a super user\n");
+    }
+    let found = rights(alloc, judge.authorizer(), principal, host)?;
+    push_each(out, host, found.as_slice())?;
+    out.extend_from_slice(open_text(judge.policy().everyone()).as_bytes())
+}

@@ -1,0 +1,97 @@
+//! Who may do something on the names that begin with a prefix.
+
+ghost use Rattle.std.specs.Prelude.{◌≡◌, ◌++◌, OnOk, flat_map};
+ghost use Rattle.kob_policy_text.specs.Reaches.{asks_as_others, by_share, reach_from, reach_line};
+ghost use Rattle.kob_policy_text.specs.Reaches.{reach_text, reach_who, reaches_text};
+
+use crate::at_hand::each_once;
+use crate::changes::push_party;
+use crate::judge::Judge;
+use crate::question::Right;
+use crate::who::{names_all, push_supers};
+use kob_policy_review::{Reach, Share, who_below};
+use std::alloc::{AllocError, Global};
+
+#[tactic(auto, using(kob_words::proofs::Appending::appending))]
+fn push_who(out: &mut Vec<u8>, one: &Reach) -> Result<(), AllocError>
+    ensures { OnOk result (out.new.items ≡ out.old.items ++ reach_who one.now) }
+{
+    push_party(out, b"User:* (others)", &one.principal)?;
+    out.extend_from_slice(b" ")
+}
+
+#[tactic(auto, using(kob_words::proofs::Appending::appending))]
+fn push_from(out: &mut Vec<u8>, on: &[u8], one: &Reach) -> Result<(), AllocError>
+    ensures { OnOk result (out.new.items ≡ out.old.items ++ reach_from on.now one.now) }
+{
+    push_party(out, b"* (others)", &one.host)?;
+    out.extend_from_slice(on)
+}
+
+#[tactic(auto, using(kob_words::proofs::Appending::appending))]
+fn push_line(out: &mut Vec<u8>, on: &[u8], one: &Reach) -> Result<(), AllocError>
+    ensures { OnOk result (out.new.items ≡ out.old.items ++ reach_line on.now one.now) }
+{
+    out.extend_from_slice(b"  ")?;
+    push_who(out, one)?;
+    push_from(out, on, one)
+}
+
+fn push_by_share(out: &mut Vec<u8>, one: &Reach) -> Result<(), AllocError>
+    ensures { OnOk result (out.new.items ≡ out.old.items ++ by_share one.now.share one.now) }
+{
+    match one.share {
+        Share::Nothing => Ok(()),
+        Share::Part => push_line(out, b" some\n", one),
+        Share::Everything => push_line(out, b" all\n", one),
+    }
+}
+
+fn asks_as_others(one: &Reach) -> bool
+    ensures { result ≡ asks_as_others one.now }
+{
+    names_all("User:*", &one.principal) || names_all("*", &one.host)
+}
+
+#[tactic(auto, unfolding(crate::specs::Reaches::reach_text))]
+fn push_reach(out: &mut Vec<u8>, one: &Reach) -> Result<(), AllocError>
+    ensures { OnOk result (out.new.items ≡ out.old.items ++ reach_text one.now) }
+{
+    if asks_as_others(one) {
+        return Ok(());
+    }
+    push_by_share(out, one)
+}
+
+#[tactic(auto, using(kob_words::proofs::Appending::appending))]
+fn push_each(out: &mut Vec<u8>, found: &[Reach]) -> Result<(), AllocError>
+    ensures { OnOk result (out.new.items ≡ out.old.items ++ flat_map reach_text found.now) }
+{
+    for one in found {
+        push_reach(out, one)?;
+    }
+    Ok(())
+}
+
+/// Prints super users, and then each principal and host that may do this on all names, or on some,
+/// that begin with the name of the right.
+#[tactic(auto, using(kob_words::proofs::Appending::appending))]
+pub fn push_reaches(
+    alloc: Global,
+    out: &mut Vec<u8>,
+    judge: &Judge,
+    right: &Right,
+) -> Result<(), AllocError>
+    ensures { OnOk result (out.new.items ≡ out.old.items ++ reaches_text judge.now right.now) }
+{
+    let found = who_below(
+        alloc,
+        judge.authorizer(),
+        right.operation,
+        right.resource,
+        &right.name,
+    )?;
+    let supers = each_once(alloc, judge.policy().supers())?;
+    push_supers(out, supers.as_slice())?;
+    push_each(out, found.as_slice())
+}

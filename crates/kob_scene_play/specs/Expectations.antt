@@ -1,0 +1,57 @@
+-- Whether the events of a service are where they are expected to be.
+use Rattle.std.specs.List.{list_all, position}
+use Rattle.std.specs.Prelude.{◌≡◌, ◌==◌, ◌||◌, ℕ, Bool, true, false, not, List, ◌++◌, Option, None, Some, codes, is_none, slice_get}
+use Rattle.std.specs.Fmt.{decimal}
+use Rattle.kob_delivery_check.specs.Fates.{is_delivered, is_lost}
+use Rattle.kob_delivery_check.specs.Logs.{number_of}
+use Rattle.kob_delivery_check.specs.declared.fate.Fate.{Fate}
+use Rattle.kob_outbox.specs.declared.event.OutboxEvent.{OutboxEvent}
+use Rattle.kob_router.specs.Line.{one_more}
+use Rattle.kob_scene_play.specs.Checks.{AreFates}
+use Rattle.kob_scene_play.specs.Stages.{IsMisplaced}
+use Rattle.kob_scene_play.specs.Steps.{Consumer, Service}
+use Rattle.kob_scene_play.specs.declared.stage.PlayedConsumer.{PlayedConsumer}
+use Rattle.kob_scene_play.specs.declared.stage.PlayedService.{PlayedService}
+use Rattle.kob_scene_play.specs.declared.stage.Stage.{Stage}
+use Rattle.kob_scene_text.specs.declared.scene.Expected.{Expected}
+use Rattle.kob_scene_text.specs.declared.scene.Expected.TheVariants as expectations
+use Rattle.kob_shared.specs.declared.journal.Entry.{Entry}
+
+abbrev pub is_lost_fate : Option Fate → Bool
+is_lost_fate (Some fate) = is_lost fate
+is_lost_fate None = false
+
+abbrev pub is_lost_at : List Fate → Option ℕ → Bool
+is_lost_at fates (Some place) = is_lost_fate (slice_get fates place)
+is_lost_at fates None = false
+
+-- the event with this id is one of these, and its fate is that it is lost
+abbrev pub is_lost_event : List ℕ → List OutboxEvent → List Fate → Bool
+is_lost_event id events fates =
+    is_lost_at fates (position (λ event. number_of event.id == number_of id) events)
+
+-- whether it is as expected
+abbrev pub IsMet : Expected → Service → Consumer → List Entry → Bool → Type 0
+IsMet expectations.Delivered service consumer journal is_met =
+    (fates : List Fate) × AreFates service consumer journal fates
+    × (is_met ≡ list_all is_delivered fates)
+IsMet (expectations.Lost id) service consumer journal is_met =
+    (fates : List Fate) × AreFates service consumer journal fates
+    × (is_met ≡ is_lost_event id service.recorded fates)
+IsMet expectations.Order service consumer journal is_met =
+    (misplaced : Option ℕ) × IsMisplaced service.recorded consumer.inbox misplaced
+    × (is_met ≡ is_none misplaced)
+
+abbrev pub expected_text : Bool → List ℕ
+expected_text true = codes " as expected\n"
+expected_text false = codes " not as expected\n"
+
+-- the answer about the service and the consumer at these places; what is not as expected is noted
+abbrev pub IsExpected : ℕ → ℕ → Expected → Stage → Bool → ℕ → List ℕ → Type 0
+IsExpected service consumer what stage is_unmet told text =
+    (sender : PlayedService) × (taker : PlayedConsumer) × (is_met : Bool)
+    × (slice_get stage.services.items service ≡ Some sender)
+    × (slice_get stage.consumers.items consumer ≡ Some taker)
+    × IsMet what sender.service taker.consumer stage.recorded.journal is_met
+    × (is_unmet ≡ (stage.is_unmet || not is_met))
+    × (text ≡ decimal (one_more told) ++ expected_text is_met)

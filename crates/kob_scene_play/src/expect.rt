@@ -1,0 +1,162 @@
+//! Whether the events of a service are where they are expected to be.
+
+ghost use Rattle.std.specs.Prelude.{◌≡◌, ◌++◌, ◌==◌, ◌||◌, IfOk, OnOk, is_none, map, not, slice_get};
+ghost use Rattle.std.specs.Fmt.{decimal};
+ghost use Rattle.std.specs.List.{list_all, position};
+ghost use Rattle.std.specs.Option.{option_copied};
+ghost use Rattle.kob_delivery_check.specs.Fates.{is_delivered};
+ghost use Rattle.kob_delivery_check.specs.Logs.{number_of};
+ghost use Rattle.kob_router.specs.Line.{one_more};
+ghost use Rattle.kob_scene_play.specs.Checks.{AreFates};
+ghost use Rattle.kob_scene_play.specs.Expectations.{IsExpected, IsMet, expected_text, is_lost_at};
+ghost use Rattle.kob_scene_play.specs.Expectations.{is_lost_event, is_lost_fate};
+ghost use Rattle.kob_scene_play.specs.Steps.{Tells};
+
+use crate::check::fates_at;
+use crate::consumer_worker::ConsumerWorker;
+use crate::fault::PlayFault;
+use crate::law::misplaced_row;
+use crate::output::Output;
+use crate::service_worker::ServiceWorker;
+use crate::stage::Stage;
+use kob_delivery_check::Fate;
+use kob_outbox::OutboxEvent;
+use kob_scene_text::Expected;
+use kob_shared::Journal;
+use kob_words::push_number;
+use std::alloc::{AllocError, Global};
+use uuid::Uuid;
+
+/// Prints whether the events of the service are where they are expected to be, and notes it if they
+/// are not.
+pub(crate) fn show_expected(
+    alloc: Global,
+    stage: &mut Stage<'_>,
+    service: usize,
+    consumer: usize,
+    what: Expected,
+    out: &mut Output,
+) -> Result<(), PlayFault>
+    ensures recorded { stage.new.recorded ≡ stage.old.recorded }
+    ensures services { stage.new.services.items ≡ stage.old.services.items }
+    ensures consumers { stage.new.consumers.items ≡ stage.old.consumers.items }
+    ensures done { OnOk result (Tells
+        (IsExpected service consumer what stage.old stage.new.is_unmet out.old.told)
+        out.old.text.items out.new.text.items) }
+    ensures told { OnOk result (out.new.told ≡ one_more out.old.told) }
+{
+    let Some(sender) = stage.services.get_mut(service) else {
+        return Err(PlayFault::NoWorker);
+    };
+    let Some(taker) = stage.consumers.get_mut(consumer) else {
+        return Err(PlayFault::NoWorker);
+    };
+    let journal = stage.recorded.journal();
+    let is_met = is_met(
+        alloc,
+        what,
+        journal,
+        &mut sender.service,
+        &mut taker.consumer,
+    )?;
+    print(out, is_met)?;
+    stage.is_unmet = stage.is_unmet || !is_met;
+    Ok(())
+}
+
+/// Whether the events of a service are where they are expected to be.
+fn is_met(
+    alloc: Global,
+    what: Expected,
+    journal: &Journal,
+    sender: &mut ServiceWorker<'_>,
+    taker: &mut ConsumerWorker,
+) -> Result<bool, PlayFault>
+    ensures sender { sender.new ≡ sender.old }
+    ensures taker { taker.new ≡ taker.old }
+    ensures met { IfOk result (IsMet what sender.old taker.old journal.now) }
+{
+    match what {
+        Expected::Delivered => {
+            let fates = fates_at(alloc, journal, sender, taker)?;
+            Ok(are_delivered(&fates))
+        }
+        Expected::Lost(id) => {
+            let fates = fates_at(alloc, journal, sender, taker)?;
+            Ok(is_lost_event(id, sender.recorded(), &fates))
+        }
+        Expected::Order => {
+            let misplaced = misplaced_row(alloc, sender, taker)?;
+            Ok(misplaced.is_none())
+        }
+    }
+}
+
+fn are_delivered(fates: &[Fate]) -> bool
+    ensures { result ≡ list_all is_delivered fates.now }
+{
+    fates.iter().all(|fate| fate.is_delivered())
+}
+
+/// Whether the event with this id is lost.
+fn is_lost_event(id: Uuid, events: &[&OutboxEvent], fates: &[Fate]) -> bool
+    ensures { result ≡ is_lost_event id (map (λ event. event.now) events.now) fates.now }
+{
+    match place_of(id, events) {
+        Some(place) => is_lost_fate(fates.get(place)),
+        None => false,
+    }
+}
+
+fn place_of(id: Uuid, events: &[&OutboxEvent]) -> Option<usize>
+    ensures { result ≡ position (λ event. number_of event.id == number_of id)
+        (map (λ event. event.now) events.now) }
+{
+    place_in(id, events)
+}
+
+fn place_in(id: Uuid, events: &[&OutboxEvent]) -> Option<usize>
+    ensures { result ≡ position (λ event. number_of event.now.id == number_of id) events.now }
+{
+    let id = id.as_u128();
+    events.iter().position(|event| event.id.as_u128() == id)
+}
+
+fn is_lost_fate(fate: Option<&Fate>) -> bool
+    ensures { result ≡ is_lost_fate (option_copied fate.entry) }
+{
+    match fate {
+        Some(fate) => fate.is_lost(),
+        None => false,
+    }
+}
+
+fn print(out: &mut Output, is_met: bool) -> Result<(), AllocError>
+    ensures printed { OnOk result (out.new.text.items ≡ out.old.text.items
+        ++ (decimal (one_more out.old.told) ++ expected_text is_met)) }
+    ensures told { OnOk result (out.new.told ≡ one_more out.old.told) }
+{
+    let number = out.number();
+    push_expected(&mut out.text, number, is_met)?;
+    out.tell();
+    Ok(())
+}
+
+#[tactic(auto, using(kob_words::proofs::Appending::appending))]
+fn push_expected(out: &mut Vec<u8>, number: u64, is_met: bool) -> Result<(), AllocError>
+    ensures { OnOk result (out.new.items
+        ≡ out.old.items ++ (decimal number ++ expected_text is_met)) }
+{
+    push_number(out, number)?;
+    push_answer(out, is_met)
+}
+
+fn push_answer(out: &mut Vec<u8>, is_met: bool) -> Result<(), AllocError>
+    ensures { OnOk result (out.new.items ≡ out.old.items ++ expected_text is_met) }
+{
+    if is_met {
+        out.extend_from_slice(b" as expected\n")
+    } else {
+        out.extend_from_slice(b" not as expected\n")
+    }
+}

@@ -1,0 +1,267 @@
+-- Which word of a line has the fault that its scene has.
+use Rattle.std.specs.Prelude.{◌≡◌, ℕ, nat_eq, Bool, true, false, is_none, ◌&&◌, ◌||◌, List, [], ◌∷◌, Option, Some, None, codes, map, if◌then◌else◌}
+use Rattle.std.specs.List.{list_any, position}
+use Rattle.std.specs.Option.{option_map}
+use Rattle.std.specs.Result.{result_err}
+use Rattle.std.specs.Str.{bytes_eq}
+use Rattle.kob_router.specs.declared.settings.RouteBy.TheVariants.{AggregateType}
+use Rattle.kob_script.specs.Places.{fault_place as script_fault_place}
+use Rattle.kob_script.specs.Script.{is_super, line_words}
+use Rattle.kob_script.specs.Words.{Word, named_host, named_principal, number_of, rank, text_of}
+use Rattle.kob_script.specs.declared.fault.FaultKind.{FaultKind}
+use Rattle.kob_scene_text.specs.Reading.{◌>>>◌, as_scripts, bad_line}
+use Rattle.kob_scene_text.specs.Scenes.{is_request}
+use Rattle.kob_scene_text.specs.Steps.{head_of, id_of}
+use Rattle.kob_scene_text.specs.Workers.{by_named, is_name, partitions_of, place_of, route_of}
+use Rattle.kob_scene_text.specs.declared.fault.SceneFaultKind.{SceneFaultKind}
+use Rattle.kob_scene_text.specs.declared.fault.SceneFaultKind.TheVariants.{Script, UnknownWorker, BadWorkerName, NameTaken, BadPartitions, BadRoute, BadId}
+use Rattle.kob_scene_text.specs.declared.forms.Keyword.{Keyword}
+use Rattle.kob_scene_text.specs.declared.forms.Keyword.TheVariants as keyword
+use Rattle.kob_scene_text.specs.declared.forms.Part.{Part}
+use Rattle.kob_scene_text.specs.declared.forms.Part.TheVariants.{One, After, OrEnd, Each}
+use Rattle.kob_scene_text.specs.declared.forms.Slot.{Slot}
+use Rattle.kob_scene_text.specs.declared.forms.Slot.TheVariants as slot
+use Rattle.kob_scene_text.specs.declared.line.Head.{Head}
+use Rattle.kob_scene_text.specs.declared.line.Head.TheVariants.{Setting, Service, Consumer, Journal, Law, Check, Expect, Of, Unknown, Request}
+use Rattle.kob_scene_text.specs.declared.name.Worker.{Worker}
+use Rattle.kob_scene_text.specs.declared.name.Worker.TheVariants as workers
+
+abbrev pub same_kind : SceneFaultKind → SceneFaultKind → Bool
+same_kind (Script one) (Script other) = nat_eq (rank one) (rank other)
+same_kind UnknownWorker UnknownWorker = true
+same_kind BadWorkerName BadWorkerName = true
+same_kind NameTaken NameTaken = true
+same_kind BadPartitions BadPartitions = true
+same_kind BadRoute BadRoute = true
+same_kind BadId BadId = true
+same_kind _ _ = false
+
+-- a fault is of this kind
+abbrev pub is_of : SceneFaultKind → Option SceneFaultKind → Bool
+is_of kind None = false
+is_of kind (Some fault) = same_kind fault kind
+
+-- Names that lines before declare.
+
+-- words declare a worker of this name by a keyword
+abbrev pub are_of : List ℕ → List ℕ → List Word → Bool
+are_of first name (one ∷ other ∷ words) =
+    bytes_eq one.decoded first && bytes_eq other.decoded name
+are_of first name _ = false
+
+abbrev pub is_declared : List ℕ → List (List ℕ) → List ℕ → Bool
+is_declared first lines name = list_any (λ line. are_of first name (line_words line)) lines
+
+-- the kind of the worker of a name, whose place does not matter here
+abbrev pub worker_in : List (List ℕ) → List ℕ → Option Worker
+worker_in lines name =
+    if is_declared (codes "service") lines name then Some (workers.Service 0)
+    else (if is_declared (codes "consumer") lines name then Some (workers.Consumer 0) else None)
+
+-- The forms of lines behind their first words.
+
+abbrev pub keyword_text : Keyword → List ℕ
+keyword_text keyword.Partitions = codes "partitions"
+keyword_text keyword.By = codes "by"
+keyword_text keyword.Replacement = codes "replacement"
+keyword_text keyword.Placement = codes "placement"
+keyword_text keyword.Group = codes "group"
+keyword_text keyword.Max = codes "max"
+keyword_text keyword.Reads = codes "reads"
+keyword_text keyword.Delivered = codes "delivered"
+keyword_text keyword.All = codes "all"
+keyword_text keyword.Lost = codes "lost"
+keyword_text keyword.Order = codes "order"
+
+abbrev pub setting_form : Word → List Part
+setting_form first = if is_super first then One slot.Principal ∷ [] else One slot.Switch ∷ []
+
+abbrev pub route_words : List Part
+route_words =
+    After keyword.By slot.Column ∷ After keyword.Replacement slot.Replacement
+    ∷ After keyword.Placement slot.Placement ∷ []
+
+-- behind the name of a service
+abbrev pub service_words : List Part
+service_words =
+    One slot.Principal ∷ One slot.Host ∷ One (slot.Keyword keyword.Partitions)
+    ∷ One slot.Partitions ∷ route_words
+
+abbrev pub service_form : List Part
+service_form = One slot.NewName ∷ service_words
+
+-- behind the name of a consumer
+abbrev pub consumer_words : List Part
+consumer_words =
+    One slot.Principal ∷ One slot.Host ∷ One (slot.Keyword keyword.Group)
+    ∷ One slot.Text ∷ One (slot.Keyword keyword.Max) ∷ One slot.Number
+    ∷ OrEnd ∷ One (slot.Keyword keyword.Reads) ∷ Each slot.Partition ∷ []
+
+abbrev pub consumer_form : List Part
+consumer_form = One slot.NewName ∷ consumer_words
+
+-- of law and of check
+abbrev pub pair_form : List Part
+pair_form = One slot.ServiceName ∷ One slot.ConsumerName ∷ []
+
+-- of expect, by the word behind the two names
+abbrev pub expect_form_by : List ℕ → List Part
+expect_form_by what =
+    if bytes_eq what (codes "lost")
+    then One slot.ServiceName ∷ One slot.ConsumerName ∷ One (slot.Keyword keyword.Lost)
+    ∷ One slot.Id ∷ []
+    else (if bytes_eq what (codes "delivered")
+    then One slot.ServiceName ∷ One slot.ConsumerName ∷ One (slot.Keyword keyword.Delivered)
+    ∷ One (slot.Keyword keyword.All) ∷ []
+    else One slot.ServiceName ∷ One slot.ConsumerName ∷ One (slot.Keyword keyword.Order) ∷ [])
+
+abbrev pub expect_form : List Word → List Part
+expect_form (service ∷ consumer ∷ what ∷ words) = expect_form_by what.decoded
+expect_form words = expect_form_by (codes "order")
+
+abbrev pub record_form : List Part
+record_form =
+    One slot.Id ∷ One slot.Text ∷ One slot.Text ∷ One slot.Text ∷ One slot.Text
+    ∷ One slot.Text ∷ One slot.Text ∷ One slot.Text ∷ []
+
+abbrev pub tick_form : List Part
+tick_form = OrEnd ∷ One slot.Loss ∷ []
+
+-- a step of one word
+abbrev pub bare_form : Bool → Option (List Part)
+bare_form true = Some []
+bare_form false = None
+
+abbrev pub service_step_form : List ℕ → Option (List Part)
+service_step_form name =
+    if bytes_eq name (codes "record") then Some record_form
+    else (if bytes_eq name (codes "tick") then Some tick_form
+    else (if bytes_eq name (codes "business") then Some (One slot.Text ∷ One slot.Text ∷ [])
+    else bare_form (bytes_eq name (codes "run") || bytes_eq name (codes "restart")
+    || bytes_eq name (codes "sweep") || bytes_eq name (codes "outbox"))))
+
+abbrev pub consumer_step_form : List ℕ → Option (List Part)
+consumer_step_form name =
+    if bytes_eq name (codes "tick") then Some tick_form
+    else bare_form (bytes_eq name (codes "run") || bytes_eq name (codes "restart")
+    || bytes_eq name (codes "inbox"))
+
+-- the words behind a step's name, if the worker has such a step
+abbrev pub step_form : Worker → List ℕ → Option (List Part)
+step_form (workers.Service place) name = service_step_form name
+step_form (workers.Consumer place) name = consumer_step_form name
+
+-- The faults of words.
+
+abbrev pub fault_unless : Bool → SceneFaultKind → Option SceneFaultKind
+fault_unless true kind = None
+fault_unless false kind = Some kind
+
+-- what scripts say of a word
+abbrev pub script_fault : Option FaultKind → Option SceneFaultKind
+script_fault fault = option_map Script fault
+
+-- a name that is declared now, behind these lines
+abbrev pub name_fault : List (List ℕ) → List ℕ → Option SceneFaultKind
+name_fault lines name =
+    if is_name name then fault_unless (is_none (worker_in lines name)) NameTaken
+    else Some BadWorkerName
+
+-- a route with this replacement, and one with this placement
+abbrev pub replacement_fault : Word → Option SceneFaultKind
+replacement_fault word = result_err (as_scripts (text_of word) >>> λ text.
+    route_of (record { by = AggregateType; replacement = text; placement = [] }))
+
+abbrev pub placement_fault : Word → Option SceneFaultKind
+placement_fault word = result_err (as_scripts (text_of word) >>> λ text. route_of (record {
+  by = AggregateType;
+  replacement = codes "outbox.event.${routedByValue}";
+  placement = text;
+}))
+
+-- the fault that a word has in a slot, behind these lines
+abbrev pub slot_fault : List (List ℕ) → Slot → Word → Option SceneFaultKind
+slot_fault lines slot.NewName word = name_fault lines word.decoded
+slot_fault lines slot.ServiceName word =
+    fault_unless (is_declared (codes "service") lines word.decoded) UnknownWorker
+slot_fault lines slot.ConsumerName word =
+    fault_unless (is_declared (codes "consumer") lines word.decoded) UnknownWorker
+slot_fault lines slot.Text word = script_fault (result_err (text_of word))
+slot_fault lines slot.Principal word = script_fault (result_err (named_principal word))
+slot_fault lines slot.Host word = script_fault (result_err (named_host word))
+slot_fault lines slot.Number word = script_fault (result_err (number_of word))
+slot_fault lines slot.Column word = script_fault (result_err (by_named word))
+slot_fault lines slot.Partition word = script_fault (result_err (place_of word))
+slot_fault lines slot.Partitions word = result_err (partitions_of word)
+slot_fault lines slot.Id word = result_err (id_of word)
+slot_fault lines slot.Replacement word = replacement_fault word
+slot_fault lines slot.Placement word = placement_fault word
+slot_fault lines slot.Switch word =
+    fault_unless (bytes_eq word.decoded (codes "on") || bytes_eq word.decoded (codes "off"))
+    bad_line
+slot_fault lines slot.Loss word =
+    fault_unless (bytes_eq word.decoded (codes "lose-request")
+    || bytes_eq word.decoded (codes "lose-reply")) bad_line
+slot_fault lines (slot.Keyword which) word =
+    fault_unless (bytes_eq word.decoded (keyword_text which)) bad_line
+
+-- A word has a fault of this kind.
+abbrev pub HasFault : SceneFaultKind → List (Option SceneFaultKind) → Type 0
+HasFault kind faults = list_any (is_of kind) faults ≡ true
+
+-- the faults of words in their order, by a form; a word too few or too many is one of the line
+abbrev pub faults_in : List (List ℕ) → List Part → List Word → List (Option SceneFaultKind)
+faults_in lines [] [] = []
+faults_in lines [] (word ∷ words) = Some bad_line ∷ []
+faults_in lines (One at ∷ parts) [] = Some bad_line ∷ []
+faults_in lines (One at ∷ parts) (word ∷ words) =
+    slot_fault lines at word ∷ faults_in lines parts words
+faults_in lines (After which at ∷ parts) [] = faults_in lines parts []
+faults_in lines (After which at ∷ parts) (first ∷ []) =
+    if bytes_eq first.decoded (keyword_text which) then None ∷ Some bad_line ∷ []
+    else faults_in lines parts (first ∷ [])
+faults_in lines (After which at ∷ parts) (first ∷ word ∷ words) =
+    if bytes_eq first.decoded (keyword_text which)
+    then None ∷ slot_fault lines at word ∷ faults_in lines parts words
+    else faults_in lines parts (first ∷ word ∷ words)
+faults_in lines (OrEnd ∷ parts) [] = []
+faults_in lines (OrEnd ∷ parts) (word ∷ words) = faults_in lines parts (word ∷ words)
+faults_in lines (Each at ∷ parts) words = map (slot_fault lines at) words
+
+-- the same from a step's name on; an unknown name is itself the fault
+abbrev pub step_faults : Option (List Part) → List Word → List (Option SceneFaultKind)
+step_faults None words = Some bad_line ∷ []
+step_faults (Some parts) words = None ∷ faults_in [] parts words
+
+abbrev pub worker_faults : Worker → List Word → List (Option SceneFaultKind)
+worker_faults worker [] = Some bad_line ∷ []
+worker_faults worker (name ∷ words) = step_faults (step_form worker name.decoded) words
+
+-- the faults of the words of a line that begins so, behind these lines
+abbrev pub word_faults : List (List ℕ) → Head → Word → List Word → List (Option SceneFaultKind)
+word_faults lines Setting first rest = None ∷ faults_in lines (setting_form first) rest
+word_faults lines Service first rest = None ∷ faults_in lines service_form rest
+word_faults lines Consumer first rest = None ∷ faults_in lines consumer_form rest
+word_faults lines Journal first rest = None ∷ faults_in lines [] rest
+word_faults lines Law first rest = None ∷ faults_in lines pair_form rest
+word_faults lines Check first rest = None ∷ faults_in lines pair_form rest
+word_faults lines Expect first rest = None ∷ faults_in lines (expect_form rest) rest
+word_faults lines (Of worker) first rest = None ∷ worker_faults worker rest
+word_faults lines Unknown first rest = Some UnknownWorker ∷ []
+word_faults lines Request first rest = []
+
+-- scripts say which word of a request it is
+abbrev pub request_place : SceneFaultKind → List Word → Option ℕ
+request_place (Script kind) words = script_fault_place kind words
+request_place kind words = None
+
+abbrev pub place_by : List (List ℕ) → Head → SceneFaultKind → Word → List Word → Option ℕ
+place_by lines head kind first rest =
+    if is_request head then request_place kind (first ∷ rest)
+    else position (is_of kind) (word_faults lines head first rest)
+
+-- the place of the first word with a fault of this kind, from 0, in a line behind these lines
+abbrev pub fault_place : List (List ℕ) → SceneFaultKind → List Word → Option ℕ
+fault_place lines kind [] = None
+fault_place lines kind (first ∷ rest) =
+    place_by lines (head_of (worker_in lines first.decoded) first rest) kind first rest

@@ -1,0 +1,247 @@
+//! The forms of lines: what each word behind the first one writes.
+
+ghost use Rattle.std.specs.Prelude.{◌≡◌};
+ghost use Rattle.std.specs.Option.{option_map};
+ghost use Rattle.kob_scene_text.specs.Places.{bare_form, consumer_form, consumer_step_form};
+ghost use Rattle.kob_scene_text.specs.Places.{expect_form, expect_form_by};
+ghost use Rattle.kob_scene_text.specs.Places.{keyword_text, pair_form, record_form, service_form};
+ghost use Rattle.kob_scene_text.specs.Places.{service_step_form, setting_form, step_form, tick_form};
+
+use crate::name::Worker;
+use kob_script::{Word, is_super};
+
+/// What a word writes.
+#[derive(Clone, Copy, Debug, PartialEq, Eq)]
+pub(crate) enum Slot {
+    /// The name of a worker that is declared now.
+    NewName,
+    /// The name of a service that a line before declares.
+    ServiceName,
+    /// The name of a consumer that a line before declares.
+    ConsumerName,
+    /// A text in UTF-8.
+    Text,
+    Principal,
+    Host,
+    /// Decimal digits of a number of 64 bits.
+    Number,
+    /// From 1 to 1,000 partitions.
+    Partitions,
+    /// The column that rows are routed by.
+    Column,
+    Replacement,
+    Placement,
+    /// `TOPIC:PARTITION`
+    Partition,
+    /// A UUID.
+    Id,
+    /// `on` or `off`.
+    Switch,
+    /// `lose-request` or `lose-reply`.
+    Loss,
+    Keyword(Keyword),
+}
+
+/// A word that stands between others.
+#[derive(Clone, Copy, Debug, PartialEq, Eq)]
+pub(crate) enum Keyword {
+    Partitions,
+    By,
+    Replacement,
+    Placement,
+    Group,
+    Max,
+    Reads,
+    Delivered,
+    All,
+    Lost,
+    Order,
+}
+
+/// The words at a place of a form.
+#[derive(Clone, Copy, Debug, PartialEq, Eq)]
+pub(crate) enum Part {
+    One(Slot),
+    /// A keyword and the word behind it, or neither.
+    After(Keyword, Slot),
+    /// The line may end here.
+    OrEnd,
+    /// All words that are left.
+    Each(Slot),
+}
+
+pub(crate) fn keyword_text(keyword: Keyword) -> &'static str
+    ensures { result.now ≡ keyword_text keyword }
+{
+    match keyword {
+        Keyword::Partitions => "partitions",
+        Keyword::By => "by",
+        Keyword::Replacement => "replacement",
+        Keyword::Placement => "placement",
+        Keyword::Group => "group",
+        Keyword::Max => "max",
+        Keyword::Reads => "reads",
+        Keyword::Delivered => "delivered",
+        Keyword::All => "all",
+        Keyword::Lost => "lost",
+        Keyword::Order => "order",
+    }
+}
+
+/// The words behind `super`, or behind `everyone`.
+pub(crate) fn setting_form(first: &Word<'_>) -> &'static [Part]
+    ensures { result.now ≡ setting_form first.now }
+{
+    if is_super(first) {
+        &[Part::One(Slot::Principal)]
+    } else {
+        &[Part::One(Slot::Switch)]
+    }
+}
+
+/// The words behind `service`.
+pub(crate) fn service_form() -> &'static [Part]
+    ensures { result.now ≡ service_form }
+{
+    &[
+        Part::One(Slot::NewName),
+        Part::One(Slot::Principal),
+        Part::One(Slot::Host),
+        Part::One(Slot::Keyword(Keyword::Partitions)),
+        Part::One(Slot::Partitions),
+        Part::After(Keyword::By, Slot::Column),
+        Part::After(Keyword::Replacement, Slot::Replacement),
+        Part::After(Keyword::Placement, Slot::Placement),
+    ]
+}
+
+/// The words behind `consumer`.
+pub(crate) fn consumer_form() -> &'static [Part]
+    ensures { result.now ≡ consumer_form }
+{
+    &[
+        Part::One(Slot::NewName),
+        Part::One(Slot::Principal),
+        Part::One(Slot::Host),
+        Part::One(Slot::Keyword(Keyword::Group)),
+        Part::One(Slot::Text),
+        Part::One(Slot::Keyword(Keyword::Max)),
+        Part::One(Slot::Number),
+        Part::OrEnd,
+        Part::One(Slot::Keyword(Keyword::Reads)),
+        Part::Each(Slot::Partition),
+    ]
+}
+
+/// The words behind `law` and `check`.
+pub(crate) fn pair_form() -> &'static [Part]
+    ensures { result.now ≡ pair_form }
+{
+    &[Part::One(Slot::ServiceName), Part::One(Slot::ConsumerName)]
+}
+
+/// The words behind `expect`, of which the third says which others there are.
+pub(crate) fn expect_form(words: &[Word<'_>]) -> &'static [Part]
+    ensures { result.now ≡ expect_form words.now }
+{
+    match words {
+        [_, _, what, ..] => expect_form_by(what.decoded()),
+        _ => expect_form_by(b"order"),
+    }
+}
+
+fn expect_form_by(what: &[u8]) -> &'static [Part]
+    ensures { result.now ≡ expect_form_by what.now }
+{
+    if what == b"lost".as_slice() {
+        &[
+            Part::One(Slot::ServiceName),
+            Part::One(Slot::ConsumerName),
+            Part::One(Slot::Keyword(Keyword::Lost)),
+            Part::One(Slot::Id),
+        ]
+    } else if what == b"delivered".as_slice() {
+        &[
+            Part::One(Slot::ServiceName),
+            Part::One(Slot::ConsumerName),
+            Part::One(Slot::Keyword(Keyword::Delivered)),
+            Part::One(Slot::Keyword(Keyword::All)),
+        ]
+    } else {
+        &[
+            Part::One(Slot::ServiceName),
+            Part::One(Slot::ConsumerName),
+            Part::One(Slot::Keyword(Keyword::Order)),
+        ]
+    }
+}
+
+fn record_form() -> &'static [Part]
+    ensures { result.now ≡ record_form }
+{
+    &[
+        Part::One(Slot::Id),
+        Part::One(Slot::Text),
+        Part::One(Slot::Text),
+        Part::One(Slot::Text),
+        Part::One(Slot::Text),
+        Part::One(Slot::Text),
+        Part::One(Slot::Text),
+        Part::One(Slot::Text),
+    ]
+}
+
+fn tick_form() -> &'static [Part]
+    ensures { result.now ≡ tick_form }
+{
+    &[Part::OrEnd, Part::One(Slot::Loss)]
+}
+
+fn bare_form(is_step: bool) -> Option<&'static [Part]>
+    ensures { option_map (λ parts. parts.now) result ≡ bare_form is_step }
+{
+    if is_step { Some(&[]) } else { None }
+}
+
+fn service_step_form(name: &[u8]) -> Option<&'static [Part]>
+    ensures { option_map (λ parts. parts.now) result ≡ service_step_form name.now }
+{
+    if name == b"record".as_slice() {
+        Some(record_form())
+    } else if name == b"tick".as_slice() {
+        Some(tick_form())
+    } else if name == b"business".as_slice() {
+        Some(&[Part::One(Slot::Text), Part::One(Slot::Text)])
+    } else {
+        bare_form(
+            name == b"run".as_slice()
+                || name == b"restart".as_slice()
+                || name == b"sweep".as_slice()
+                || name == b"outbox".as_slice(),
+        )
+    }
+}
+
+fn consumer_step_form(name: &[u8]) -> Option<&'static [Part]>
+    ensures { option_map (λ parts. parts.now) result ≡ consumer_step_form name.now }
+{
+    if name == b"tick".as_slice() {
+        Some(tick_form())
+    } else {
+        bare_form(
+            name == b"run".as_slice()
+                || name == b"restart".as_slice()
+                || name == b"inbox".as_slice(),
+        )
+    }
+}
+
+/// The words behind a step's name; None if the worker has no such step.
+pub(crate) fn step_form(worker: Worker, name: &[u8]) -> Option<&'static [Part]>
+    ensures { option_map (λ parts. parts.now) result ≡ step_form worker name.now }
+{
+    match worker {
+        Worker::Service(_) => service_step_form(name),
+        Worker::Consumer(_) => consumer_step_form(name),
+    }
+}

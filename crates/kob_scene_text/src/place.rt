@@ -1,0 +1,204 @@
+//! Which word of a line has the fault that its scene has.
+
+ghost use Rattle.std.specs.Prelude.{◌≡◌, ◌∷◌, IfOk, None, map, option_map};
+ghost use Rattle.kob_scene_text.specs.Places.{fault_place, faults_in, is_of, place_by};
+ghost use Rattle.kob_scene_text.specs.Places.{request_place, same_kind, step_faults, word_faults};
+ghost use Rattle.kob_scene_text.specs.Places.{worker_faults};
+ghost use Rattle.kob_scene_text.specs.Scenes.{is_request};
+ghost use Rattle.std.specs.List.{position};
+
+use crate::fault::SceneFaultKind;
+use crate::forms::{
+    Part, consumer_form, expect_form, pair_form, service_form, setting_form, step_form,
+};
+use crate::line::{Head, head_of};
+use crate::name::Worker;
+use crate::word_faults::{push_bad_line, push_faults};
+use crate::workers_before::worker_in;
+use kob_script::Word;
+use std::alloc::{AllocError, Global};
+
+/// The place of the first word of a line with a fault of this kind, from 0, for the remark on a
+/// fault. `before` are the lines before it. The place is the number of words if one is missing. None
+/// if no word has such a fault: an escape and a late setting are faults of the whole line, and what
+/// is wrong with options of `acl` is one of all of them.
+pub fn fault_place(
+    alloc: Global,
+    before: &[&[u8]],
+    words: &[Word<'_>],
+    kind: SceneFaultKind,
+) -> Result<Option<usize>, AllocError>
+    ensures { IfOk result (λ place.
+        place ≡ fault_place (map (λ line. line.now) before.now) kind words.now) }
+{
+    match words {
+        [] => Ok(None),
+        [first, rest @ ..] => {
+            let worker = worker_in(alloc, before, first.decoded())?;
+            place_by(
+                alloc,
+                before,
+                head_of(worker, first, rest),
+                kind,
+                first,
+                rest,
+                words,
+            )
+        }
+    }
+}
+
+fn place_by(
+    alloc: Global,
+    before: &[&[u8]],
+    head: Head,
+    kind: SceneFaultKind,
+    first: &Word<'_>,
+    rest: &[Word<'_>],
+    words: &[Word<'_>],
+) -> Result<Option<usize>, AllocError>
+    requires { words.now ≡ first.now ∷ rest.now }
+    ensures { IfOk result (λ place. place
+        ≡ place_by (map (λ line. line.now) before.now) head kind first.now rest.now) }
+{
+    if is_request(head) {
+        return request_place(alloc, words, kind);
+    }
+    let faults = word_faults(alloc, before, head, first, rest)?;
+    Ok(first_place(&faults, kind))
+}
+
+fn is_request(head: Head) -> bool
+    ensures { result ≡ is_request head }
+{
+    match head {
+        Head::Request => true,
+        Head::Setting
+        | Head::Service
+        | Head::Consumer
+        | Head::Journal
+        | Head::Law
+        | Head::Check
+        | Head::Expect
+        | Head::Of(_)
+        | Head::Unknown => false,
+    }
+}
+
+fn first_place(faults: &[Option<SceneFaultKind>], kind: SceneFaultKind) -> Option<usize>
+    ensures { result ≡ position (is_of kind) faults.now }
+{
+    faults.iter().position(|fault| is_of(kind, *fault))
+}
+
+fn request_place(
+    alloc: Global,
+    words: &[Word<'_>],
+    kind: SceneFaultKind,
+) -> Result<Option<usize>, AllocError>
+    ensures { IfOk result (λ place. place ≡ request_place kind words.now) }
+{
+    match kind {
+        SceneFaultKind::Script(kind) => kob_script::fault_place(alloc, words, kind),
+        _ => Ok(None),
+    }
+}
+
+fn is_of(kind: SceneFaultKind, fault: Option<SceneFaultKind>) -> bool
+    ensures { result ≡ is_of kind fault }
+{
+    match fault {
+        Some(fault) => same_kind(fault, kind),
+        None => false,
+    }
+}
+
+fn same_kind(one: SceneFaultKind, other: SceneFaultKind) -> bool
+    ensures { result ≡ same_kind one other }
+{
+    match (one, other) {
+        (SceneFaultKind::Script(one), SceneFaultKind::Script(other)) => one == other,
+        (SceneFaultKind::UnknownWorker, SceneFaultKind::UnknownWorker)
+        | (SceneFaultKind::BadWorkerName, SceneFaultKind::BadWorkerName)
+        | (SceneFaultKind::NameTaken, SceneFaultKind::NameTaken)
+        | (SceneFaultKind::BadPartitions, SceneFaultKind::BadPartitions)
+        | (SceneFaultKind::BadRoute, SceneFaultKind::BadRoute)
+        | (SceneFaultKind::BadId, SceneFaultKind::BadId) => true,
+        _ => false,
+    }
+}
+
+/// The faults of the words of a line that begins so, in their order.
+fn word_faults(
+    alloc: Global,
+    before: &[&[u8]],
+    head: Head,
+    first: &Word<'_>,
+    rest: &[Word<'_>],
+) -> Result<Vec<Option<SceneFaultKind>>, AllocError>
+    ensures { IfOk result (λ faults. faults.items
+        ≡ word_faults (map (λ line. line.now) before.now) head first.now rest.now) }
+{
+    match head {
+        Head::Setting => faults_by(alloc, before, setting_form(first), rest),
+        Head::Service => faults_by(alloc, before, service_form(), rest),
+        Head::Consumer => faults_by(alloc, before, consumer_form(), rest),
+        Head::Journal => faults_by(alloc, before, &[], rest),
+        Head::Law | Head::Check => faults_by(alloc, before, pair_form(), rest),
+        Head::Expect => faults_by(alloc, before, expect_form(rest), rest),
+        Head::Of(worker) => worker_faults(alloc, worker, rest),
+        Head::Unknown => Ok(Vec::from_array(alloc, [Some(SceneFaultKind::UnknownWorker)])?),
+        Head::Request => Ok(Vec::new(alloc)),
+    }
+}
+
+/// The faults of words by a form, behind a first word without one.
+fn faults_by(
+    alloc: Global,
+    before: &[&[u8]],
+    parts: &[Part],
+    words: &[Word<'_>],
+) -> Result<Vec<Option<SceneFaultKind>>, AllocError>
+    ensures { IfOk result (λ faults. faults.items
+        ≡ None ∷ faults_in (map (λ line. line.now) before.now) parts.now words.now) }
+{
+    let mut faults = Vec::from_array(alloc, [None])?;
+    push_faults(alloc, &mut faults, before, parts, words)?;
+    Ok(faults)
+}
+
+/// The faults of a worker's name, which has none, and of the words of its step.
+fn worker_faults(
+    alloc: Global,
+    worker: Worker,
+    words: &[Word<'_>],
+) -> Result<Vec<Option<SceneFaultKind>>, AllocError>
+    ensures { IfOk result (λ faults. faults.items ≡ None ∷ worker_faults worker words.now) }
+{
+    match words {
+        [] => step_faults(alloc, None, words),
+        [name, words @ ..] => step_faults(alloc, step_form(worker, name.decoded()), words),
+    }
+}
+
+fn step_faults(
+    alloc: Global,
+    parts: Option<&[Part]>,
+    words: &[Word<'_>],
+) -> Result<Vec<Option<SceneFaultKind>>, AllocError>
+    ensures { IfOk result (λ faults. faults.items
+        ≡ None ∷ step_faults (option_map (λ parts. parts.now) parts.entry) words.now) }
+{
+    match parts {
+        Some(parts) => {
+            let mut faults = Vec::from_array(alloc, [None, None])?;
+            push_faults(alloc, &mut faults, &[], parts, words)?;
+            Ok(faults)
+        }
+        None => {
+            let mut faults = Vec::from_array(alloc, [None])?;
+            push_bad_line(&mut faults)?;
+            Ok(faults)
+        }
+    }
+}

@@ -1,0 +1,62 @@
+//! Which workers the lines before declare.
+
+ghost use Rattle.std.specs.Prelude.{◌≡◌, IfOk, map};
+ghost use Rattle.kob_script.specs.Script.{line_words};
+ghost use Rattle.kob_scene_text.specs.Places.{are_of, is_declared, worker_in};
+
+use crate::name::Worker;
+use kob_script::{LineError, Word, words_of};
+use std::alloc::{AllocError, Global};
+
+/// The kind of the worker of a name, if one of these lines declares it. Its place is 0.
+pub(crate) fn worker_in(
+    alloc: Global,
+    before: &[&[u8]],
+    name: &[u8],
+) -> Result<Option<Worker>, AllocError>
+    ensures { IfOk result (λ worker.
+        worker ≡ worker_in (map (λ line. line.now) before.now) name.now) }
+{
+    if is_declared(alloc, b"service", before, name)? {
+        return Ok(Some(Worker::Service(0)));
+    }
+    let is_consumer = is_declared(alloc, b"consumer", before, name)?;
+    Ok(is_consumer.then_some(Worker::Consumer(0)))
+}
+
+/// Whether one of these lines declares a worker of this name by a keyword.
+pub(crate) fn is_declared(
+    alloc: Global,
+    keyword: &[u8],
+    before: &[&[u8]],
+    name: &[u8],
+) -> Result<bool, AllocError>
+    ensures { IfOk result (λ is.
+        is ≡ is_declared keyword.now (map (λ line. line.now) before.now) name.now) }
+{
+    for line in before {
+        if is_of(alloc, keyword, line, name)? {
+            return Ok(true);
+        }
+    }
+    Ok(false)
+}
+
+fn is_of(alloc: Global, keyword: &[u8], line: &[u8], name: &[u8]) -> Result<bool, AllocError>
+    ensures { IfOk result (λ is. is ≡ are_of keyword.now name.now (line_words line.now)) }
+{
+    match words_of(alloc, line) {
+        Ok(words) => Ok(are_of(keyword, name, &words)),
+        Err(LineError::Fault(_)) => Ok(false),
+        Err(LineError::Memory(refused)) => Err(refused),
+    }
+}
+
+fn are_of(keyword: &[u8], name: &[u8], words: &[Word<'_>]) -> bool
+    ensures { result ≡ are_of keyword.now name.now words.now }
+{
+    match words {
+        [one, other, ..] => one.decoded() == keyword && other.decoded() == name,
+        _ => false,
+    }
+}
