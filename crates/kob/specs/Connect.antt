@@ -1,5 +1,5 @@
 -- A service's router as a document for Kafka Connect, and its table.
-use Rattle.std.specs.Prelude.{ℕ, ◌==◌, Bool, List, [], ◌++◌, bytes_eq, codes, flat_map, if◌then◌else◌}
+use Rattle.std.specs.Prelude.{ℕ, List, [], ◌++◌, bytes_eq, codes, flat_map, if◌then◌else◌}
 use Rattle.kob.specs.Export.{export_text}
 use Rattle.kob.specs.declared.connect.Database.{Database}
 use Rattle.kob.specs.declared.options.ExportForm.{ExportForm}
@@ -61,6 +61,10 @@ abbrev pub by_property : RouteBy → List ℕ
 by_property AggregateType = []
 by_property AggregateId = by_id_text
 
+-- Debezium's default for the topic of a row
+unfoldable pub default_replacement : List ℕ
+default_replacement = codes "outbox.event.${routedByValue}"
+
 -- a property, unless it has Debezium's default
 abbrev pub property_unless : List ℕ → List ℕ → List ℕ → List ℕ
 property_unless default name value =
@@ -69,7 +73,7 @@ property_unless default name value =
 abbrev pub route_properties : RouteSettings → List ℕ
 route_properties settings =
     by_property settings.by
-    ++ property_unless (codes "outbox.event.${routedByValue}") replacement_key_text settings.replacement
+    ++ property_unless default_replacement replacement_key_text settings.replacement
     ++ property_unless [] placement_key_text settings.placement
 
 -- the document for a service, with its name as the connector's and as the prefix of its topics

@@ -2,7 +2,8 @@
 
 ghost use Rattle.std.specs.Prelude.{◌≡◌, ◌++◌, OnOk, codes, flat_map};
 ghost use Rattle.kob.specs.Connect.{by_id_text, by_property, closing_text, config_text};
-ghost use Rattle.kob.specs.Connect.{connect_text, connector_of, connects_text, mysql_table_text};
+ghost use Rattle.kob.specs.Connect.{connect_text, connector_of, connects_text, default_replacement};
+ghost use Rattle.kob.specs.Connect.{mysql_table_text};
 ghost use Rattle.kob.specs.Connect.{mysql_text, opening_text, placement_key_text};
 ghost use Rattle.kob.specs.Connect.{postgresql_table_text, postgresql_text, property_unless};
 ghost use Rattle.kob.specs.Connect.{replacement_key_text, route_properties, table_of};
@@ -30,6 +31,7 @@ pub fn push_connects(
     database: Database,
     services: &[Service],
 ) -> Result<(), AllocError>
+    ensures { OnOk result (out.new.items ≡ out.old.items ++ connects_text database services.now) }
 {
     for service in services {
         push_connect(out, database, service)?;
@@ -39,6 +41,7 @@ pub fn push_connects(
 
 #[tactic(auto, using(kob_words::proofs::Appending::appending))]
 fn push_connect(out: &mut Vec<u8>, database: Database, service: &Service) -> Result<(), AllocError>
+    ensures { OnOk result (out.new.items ≡ out.old.items ++ connect_text database service.now) }
 {
     out.extend_from_slice(opening_text().as_bytes())?;
     push_json_string(out, service.name.as_str().as_bytes())?;
@@ -62,11 +65,16 @@ fn connector_of(database: Database) -> &'static str
 /// The properties of a route that are not Debezium's defaults.
 #[tactic(auto, using(kob_words::proofs::Appending::appending))]
 fn push_route(out: &mut Vec<u8>, settings: &RouteSettings) -> Result<(), AllocError>
+    ensures { OnOk result (out.new.items ≡ out.old.items ++ route_properties settings.now) }
 {
     push_by(out, settings.by)?;
-    let default = b"outbox.event.${routedByValue}";
-    push_unless(out, default, replacement_key_text(), &settings.replacement)?;
-    push_unless(out, b"", placement_key_text(), &settings.placement)
+    push_unless(
+        out,
+        default_replacement(),
+        replacement_key_text(),
+        &settings.replacement,
+    )?;
+    push_unless(out, "", placement_key_text(), &settings.placement)
 }
 
 fn push_by(out: &mut Vec<u8>, by: RouteBy) -> Result<(), AllocError>
@@ -78,16 +86,11 @@ fn push_by(out: &mut Vec<u8>, by: RouteBy) -> Result<(), AllocError>
     }
 }
 
-fn push_unless(
-    out: &mut Vec<u8>,
-    default: &[u8],
-    name: &str,
-    value: &Text,
-) -> Result<(), AllocError>
+fn push_unless(out: &mut Vec<u8>, default: &str, name: &str, value: &Text) -> Result<(), AllocError>
     ensures { OnOk result (out.new.items
         ≡ out.old.items ++ property_unless default.now name.now value.now) }
 {
-    if value.as_str().as_bytes() == default {
+    if value.as_str() == default {
         Ok(())
     } else {
         push_property(out, name, value)
@@ -160,6 +163,14 @@ fn by_id_text() -> &'static str
     ensures { result.now ≡ by_id_text }
 {
     "    \"transforms.outbox.route.by.field\": \"aggregateid\",\n"
+}
+
+/// Debezium's default for the topic of a row.
+#[tactic(auto, unfolding(crate::specs::Connect::default_replacement))]
+fn default_replacement() -> &'static str
+    ensures { result.now ≡ default_replacement }
+{
+    "outbox.event.${routedByValue}"
 }
 
 /// The name of a property.

@@ -187,6 +187,7 @@ fn push_export(
     form: ExportForm,
     scene: &Scene,
 ) -> Result<(), OpenFault>
+    ensures { OnOk result (out.new.items ≡ out.old.items ++ export_by form scene.now) }
 {
     match form {
         ExportForm::Commands => export_scene(alloc, out, scene),
