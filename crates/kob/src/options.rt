@@ -54,21 +54,53 @@ fn command<'a>(alloc: Global) -> Result<Command<'a>, AllocError> {
         .override_help(HELP)
         .disable_help_subcommand(true);
     let made = made.arg(flag(alloc, "version").short('V'))?;
-    let played = files_command(alloc, "play", HELP_PLAY)?;
-    let played = played.arg(flag(alloc, "trace"))?;
-    let played = played.arg(flag(alloc, "json").conflicts_with("trace")?)?;
-    let made = made.subcommand(played)?;
-    let exported = files_command(alloc, "export", HELP_EXPORT)?;
-    let exported = exported.arg(database(alloc, "connect"))?;
-    let exported = exported.arg(database(alloc, "table").conflicts_with("connect")?)?;
-    let made = made.subcommand(exported)?;
-    let made = made.subcommand(policy_command(alloc)?)?;
+    let made = with_subcommand(made, play_command(alloc))?;
+    let made = with_subcommand(made, export_command(alloc))?;
+    let made = with_subcommand(made, policy_command(alloc))?;
+    with_subcommand(made, help_command(alloc))
+}
+
+/// A subcommand more, if it could be made.
+fn with_subcommand<'a>(
+    made: Command<'a>,
+    subcommand: Result<Command<'a>, AllocError>,
+) -> Result<Command<'a>, AllocError> {
+    match subcommand {
+        Ok(subcommand) => made.subcommand(subcommand),
+        Err(refused) => {
+            drop(made);
+            Err(refused)
+        }
+    }
+}
+
+/// An argument more, if it could be made.
+pub fn with_arg<'a>(
+    made: Command<'a>,
+    arg: Result<Arg<'a>, AllocError>,
+) -> Result<Command<'a>, AllocError> {
+    match arg {
+        Ok(arg) => made.arg(arg),
+        Err(refused) => {
+            drop(made);
+            Err(refused)
+        }
+    }
+}
+
+fn play_command<'a>(alloc: Global) -> Result<Command<'a>, AllocError> {
+    let made = files_command(alloc, "play", HELP_PLAY)?.arg(flag(alloc, "trace"))?;
+    with_arg(made, flag(alloc, "json").conflicts_with("trace"))
+}
+
+fn export_command<'a>(alloc: Global) -> Result<Command<'a>, AllocError> {
+    let made = files_command(alloc, "export", HELP_EXPORT)?.arg(database(alloc, "connect"))?;
+    with_arg(made, database(alloc, "table").conflicts_with("connect"))
+}
+
+fn help_command<'a>(alloc: Global) -> Result<Command<'a>, AllocError> {
     let subject = Arg::new(alloc, "SUBJECT").action(ArgAction::Set);
-    made.subcommand(
-        Command::new(alloc, "help")
-            .override_help(HELP)
-            .arg(subject)?,
-    )
+    Command::new(alloc, "help").override_help(HELP).arg(subject)
 }
 
 fn flag<'a>(alloc: Global, name: &'a str) -> Arg<'a> {

@@ -1,7 +1,7 @@
 //! The options of `kob policy`, read by `clap`.
 
 use crate::help::HELP_POLICY;
-use crate::options::values_of;
+use crate::options::{values_of, with_arg};
 use clap::{Arg, ArgAction, ArgMatches, Command, Error};
 use std::alloc::{AllocError, Global};
 
@@ -28,30 +28,37 @@ pub fn command<'a>(alloc: Global) -> Result<Command<'a>, AllocError> {
     for name in ["policy", "questions", "topics"] {
         made = made.arg(files(alloc, name))?;
     }
-    made = made.arg(files(alloc, "before").requires_arg("after")?)?;
-    made = made.arg(files(alloc, "after").requires_arg("before")?)?;
-    made = made.arg(
-        Arg::new(alloc, "kafka")
-            .long("kafka")
-            .value_name("VERSION")
-            .action(ArgAction::Append),
-    )?;
+    made = with_arg(made, files(alloc, "before").requires_arg("after"))?;
+    made = with_arg(made, files(alloc, "after").requires_arg("before"))?;
+    made = made.arg(releases(alloc))?;
     made = made.arg(flag(alloc, "skip"))?;
-    made = made.arg(
-        flag(alloc, "commands")
-            .requires_arg("before")?
-            .conflicts_with("questions")?
-            .conflicts_with("topics")?,
-    )?;
-    made.arg(
-        Arg::new(alloc, "QUESTION")
-            .num_args(0..)
-            .action(ArgAction::Append),
-    )
+    made = with_arg(made, commands(alloc))?;
+    made.arg(questions(alloc))
 }
 
 fn flag<'a>(alloc: Global, name: &'a str) -> Arg<'a> {
     Arg::new(alloc, name).long(name).action(ArgAction::SetTrue)
+}
+
+fn commands<'a>(alloc: Global) -> Result<Arg<'a>, AllocError> {
+    flag(alloc, "commands")
+        .requires_arg("before")?
+        .conflicts_with("questions")?
+        .conflicts_with("topics")
+}
+
+fn releases<'a>(alloc: Global) -> Arg<'a> {
+    Arg::new(alloc, "kafka")
+        .long("kafka")
+        .value_name("VERSION")
+        .action(ArgAction::Append)
+}
+
+/// The questions among the other words, and the files of lists.
+fn questions<'a>(alloc: Global) -> Arg<'a> {
+    Arg::new(alloc, "QUESTION")
+        .num_args(0..)
+        .action(ArgAction::Append)
 }
 
 /// An option that is given any number of times, each with the name of a file.
