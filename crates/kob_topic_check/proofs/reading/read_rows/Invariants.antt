@@ -1,0 +1,11 @@
+use Rattle.std.proofs.Common.{length, ◌+◌, ◌≡◌, ◌≤◌}
+use Rattle.kob_topic_check.specs.Lists.{items_from, lines_in, row_of}
+use Rattle.kob_topic_check.proofs.Listed.{behind_items}
+use Rattle.kob_topic_check.proofs.reading.read_rows.Given as goal
+
+abbrev pub invariant-loop-line : goal.invariant-loop-line
+invariant-loop-line l = record {
+  few : l.number + length l.line-iterator ≤ length l.fn.text;
+  rest : behind_items l.rows.items (items_from row_of (l.number + 1) l.line-iterator)
+      ≡ items_from row_of 1 (lines_in l.fn.text);
+}
