@@ -9,11 +9,12 @@ usage: kob play [OPTION]... [FILE]...  plays scenes and scripts; - or none: stan
                                        prints the final state of scenes for Kafka and Debezium
        kob policy [OPTION]... [QUESTION]...
                                        answers questions about access rules
-       kob help [SUBJECT]              prints a page: play, export, policy or scene
+       kob topic ROWS RECORDS          compares the records of a topic with the rows of an outbox
+       kob help [SUBJECT]              prints a page: play, export, policy, topic or scene
        kob --version                   prints the version, the commit, and whether it is proved
 
 Status: 0 all was done, 1 a fault, or something could not be read or written, 2 out of memory,
-3 an answer is not the one that was expected.
+3 an answer is not the one that was expected, or something is wrong with a topic.
 ";
 
 /// The page on `kob play`.
@@ -97,6 +98,24 @@ Status: 0 all read, 1 a fault, 2 out of memory, 3 an answer changes or is not as
 expected. docs/POLICY.md has an example.
 ";
 
+/// The page on `kob topic`.
+pub static HELP_TOPIC: &str = "\
+Compares the records of a topic with the rows of an outbox: prints how many there are, and a line for
+each event that is missing, doubled, unknown, out of order or in another partition.
+
+usage: kob topic ROWS RECORDS
+
+  ROWS              rows in the order in which they were recorded, one on a line: ID,KEY, or with a
+                    tab between; ID is the event's UUID, KEY the key of its record
+  RECORDS           records, one on a line, as kafka-console-consumer prints them with
+                    print.partition, print.offset and print.headers: Partition:PARTITION,
+                    Offset:OFFSET and headers with id:ID, tabs between
+  -h, --help        prints this page
+
+- is standard input. Status: 0 nothing is wrong, 1 a fault, or a read or a write failed, 2 out of
+memory, 3 something is wrong.
+";
+
 /// The page on the language of scenes and scripts.
 pub static HELP_SCENE: &str = "\
 A scene has settings first, and then requests, declarations and steps, one on a line. % and two
@@ -129,6 +148,7 @@ pub fn help_on(subject: &str) -> Option<&'static str> {
         "play" => Some(HELP_PLAY),
         "export" => Some(HELP_EXPORT),
         "policy" => Some(HELP_POLICY),
+        "topic" => Some(HELP_TOPIC),
         "scene" => Some(HELP_SCENE),
         _ => None,
     }

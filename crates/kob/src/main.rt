@@ -1,4 +1,5 @@
-//! Plays scenes and scripts, exports what they end with, and answers questions about access rules.
+//! Plays scenes and scripts, exports what they end with, answers questions about access rules, and
+//! compares a topic with an outbox.
 #![tactic(auto)]
 
 mod commands;
@@ -17,6 +18,7 @@ mod running;
 mod source;
 mod stages;
 mod standing;
+mod topic;
 mod version;
 mod watched;
 

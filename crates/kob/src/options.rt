@@ -1,7 +1,7 @@
 //! The words of the command line, read by `clap`.
 
 use crate::connect::Database;
-use crate::help::{HELP, HELP_EXPORT, HELP_PLAY};
+use crate::help::{HELP, HELP_EXPORT, HELP_PLAY, HELP_TOPIC};
 use crate::policy_options::command as policy_command;
 use clap::{Arg, ArgAction, ArgMatches, Command, Error};
 use kob_scene_play::Form;
@@ -17,6 +17,8 @@ pub enum Task {
     Export(ExportForm, Vec<String>),
     /// Answers questions about lists of bindings, by the words after `policy`.
     Policy,
+    /// Compares the rows of an outbox with the records of a topic, in two files.
+    Topic(Vec<String>),
     /// Prints a page of help, the general one without a subject.
     Help(Option<String>),
     Version,
@@ -57,6 +59,7 @@ fn command<'a>(alloc: Global) -> Result<Command<'a>, AllocError> {
     let made = with_subcommand(made, play_command(alloc))?;
     let made = with_subcommand(made, export_command(alloc))?;
     let made = with_subcommand(made, policy_command(alloc))?;
+    let made = with_subcommand(made, files_command(alloc, "topic", HELP_TOPIC))?;
     with_subcommand(made, help_command(alloc))
 }
 
@@ -136,6 +139,7 @@ fn task_in(alloc: Global, matches: &ArgMatches<'_>) -> Result<Task, AllocError> 
             Ok(Task::Export(export_form_in(used), values_of(alloc, used, "FILE")?))
         }
         Some(("policy", _)) => Ok(Task::Policy),
+        Some(("topic", used)) => Ok(Task::Topic(values_of(alloc, used, "FILE")?)),
         Some((_, used)) => match used.get_str("SUBJECT") {
             Some(subject) => Ok(Task::Help(Some(String::from_str(alloc, subject)?))),
             None => Ok(Task::Help(None)),

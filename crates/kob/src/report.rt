@@ -80,6 +80,18 @@ pub fn other_settings(rt: &impl Eprint) {
     );
 }
 
+/// Other than two lists for a topic.
+pub fn no_lists(rt: &impl Eprint) -> Ending {
+    let _ = eprintln!(rt; "kob: topic: two files are expected: kob topic ROWS RECORDS");
+    Ending::Failed
+}
+
+/// A line of a list that is not of the list's form.
+pub fn unlike(rt: &impl Eprint, name: &str, line: u64, form: &str) -> Ending {
+    let _ = eprintln!(rt; "kob: {name}: line {line}: expected {form}");
+    Ending::Failed
+}
+
 /// More bindings than can be in force.
 pub fn too_many(rt: &impl Eprint) -> Ending {
     let _ = eprintln!(rt; "kob: more than 100,000 different bindings");

@@ -9,6 +9,7 @@ use crate::options::{Task, task_of};
 use crate::play::{Work, do_files};
 use crate::policy::answer;
 use crate::report;
+use crate::topic::compare;
 use crate::version::VERSION;
 use clap::Error;
 use clap::error::ErrorKind;
@@ -58,6 +59,7 @@ fn run_words<R: AllocGlobal + Clock + Files + Input + Print + Eprint>(
         }
         Ok(Task::Export(form, files)) => do_files(rt, Work::Export(form), &files),
         Ok(Task::Policy) => answer(rt, words.get(2..).unwrap_or(&[]), terminals.error),
+        Ok(Task::Topic(files)) => compare(rt, &files),
         Ok(Task::Help(subject)) => help(rt, subject.as_ref()),
         Ok(Task::Version) => show(rt, VERSION),
         Err(refused) => say(rt, &refused),

@@ -4,7 +4,7 @@ use Rattle.std.specs.Fmt.{decimal}
 use Rattle.std.specs.Int.{from_be_bytes, w128}
 use Rattle.std.specs.List.{find, list_any}
 use Rattle.std.specs.Option.{is_some, option_and_then, option_map}
-use Rattle.std.specs.Prelude.{ℕ, ◌==◌, ◌&&◌, Bool, true, false, List, [], ◌∷◌, ◌++◌, Option, None, Some, codes, if◌then◌else◌, nat_lt}
+use Rattle.std.specs.Prelude.{ℕ, ◌==◌, ◌&&◌, Bool, true, false, List, [], ◌∷◌, ◌++◌, Option, None, Some, codes, if◌then◌else◌, length, nat_lt}
 use Rattle.std.specs.Str.{bytes_eq}
 use Rattle.uuid.specs.Text.{hyphenated_text, lower}
 use Rattle.kob_words.specs.Words.{bytes_text}
@@ -93,6 +93,11 @@ records_text rows before [] = []
 records_text rows before (one ∷ records) =
     event_text one (has_row (number_of one.id) rows) (find (is_of (number_of one.id)) before)
     ++ records_text rows (one ∷ before) records
+
+-- rows ROWS records RECORDS
+abbrev pub counts_text : List Row → List Record → List ℕ
+counts_text rows records =
+    codes "rows " ++ decimal (length rows) ++ codes " records " ++ decimal (length records) ++ codes "\n"
 
 -- a line for each missing, misplaced, doubled and unknown event
 abbrev pub findings_text : List Row → List Record → List ℕ

@@ -9,7 +9,7 @@ mod reading;
 mod record;
 mod row;
 
-pub use findings::print_findings;
+pub use findings::{print_counts, print_findings};
 pub use reading::{ReadError, read_records, read_rows};
 pub use record::Record;
 pub use row::Row;

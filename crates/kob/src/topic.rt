@@ -1,0 +1,133 @@
+//! A topic of a cluster, compared with the rows of an outbox.
+
+ghost use Rattle.std.specs.Prelude.{◌≡◌, ◌++◌, IfOk, OnOk};
+ghost use Rattle.kob.specs.Ending.{ending_of_changes};
+ghost use Rattle.kob_topic_check.specs.Findings.{counts_text, findings_text};
+
+use crate::ending::Ending;
+use crate::input::{Kind, text_of};
+use crate::report;
+use kob_topic_check::{
+    ReadError, Record, Row, print_counts, print_findings, read_records, read_rows,
+};
+use std::alloc::{AllocError, Global};
+use std::io::{self, Write};
+use std::rt::Files;
+
+/// Compares the rows of an outbox with the records of a topic, a file each: prints how many there
+/// are, and a line for each event that is missing, doubled, unknown, out of order or apart.
+pub fn compare<R: AllocGlobal + Files + Input + Print + Eprint>(
+    rt: &R,
+    files: &[String],
+) -> Ending {
+    let [rows, records] = files else {
+        return report::no_lists(rt);
+    };
+    match compared(rt, rows.as_str(), records.as_str()) {
+        Ok(ending) | Err(ending) => ending,
+    }
+}
+
+fn compared<R: AllocGlobal + Files + Input + Print + Eprint>(
+    rt: &R,
+    rows: &str,
+    records: &str,
+) -> Result<Ending, Ending> {
+    let rows = rows_of(rt, rows)?;
+    let printed = print_with(rt, &rows, records);
+    drop(rows);
+    printed
+}
+
+fn rows_of<R: AllocGlobal + Files + Input + Eprint>(
+    rt: &R,
+    name: &str,
+) -> Result<Vec<Row>, Ending> {
+    let text = list_of(rt, name)?;
+    match read_rows(rt.alloc(), &text) {
+        Ok(rows) => Ok(rows),
+        Err(error) => Err(fault_of(rt, name, error, "ID,KEY")),
+    }
+}
+
+fn records_of<R: AllocGlobal + Files + Input + Eprint>(
+    rt: &R,
+    name: &str,
+) -> Result<Vec<Record>, Ending> {
+    let text = list_of(rt, name)?;
+    match read_records(rt.alloc(), &text) {
+        Ok(records) => Ok(records),
+        Err(error) => {
+            let form = "Partition:PARTITION, Offset:OFFSET and headers with id:ID, tabs between";
+            Err(fault_of(rt, name, error, form))
+        }
+    }
+}
+
+fn list_of<R: AllocGlobal + Files + Input + Eprint>(rt: &R, name: &str) -> Result<Vec<u8>, Ending> {
+    match text_of(rt, Kind::List, name) {
+        Ok(text) => Ok(text),
+        Err(fault) => Err(report::unread(rt, name, &fault)),
+    }
+}
+
+fn fault_of(rt: &impl Eprint, name: &str, error: ReadError, form: &str) -> Ending {
+    match error {
+        ReadError::Memory(_) => report::out_of_memory(rt, name),
+        ReadError::Line(line) => report::unlike(rt, name, line, form),
+    }
+}
+
+fn print_with<R: AllocGlobal + Files + Input + Print + Eprint>(
+    rt: &R,
+    rows: &[Row],
+    records: &str,
+) -> Result<Ending, Ending> {
+    let name = records;
+    let records = records_of(rt, name)?;
+    let mut out = Vec::new(rt.alloc());
+    let ending = match push_report(rt.alloc(), &mut out, rows, &records) {
+        Ok(ending) => ending,
+        Err(_) => return Err(report::out_of_memory(rt, name)),
+    };
+    match io::writer(rt).write_all(&out) {
+        Ok(()) => Ok(ending),
+        Err(error) => Err(report::refused(rt, "standard output", &error)),
+    }
+}
+
+/// The numbers of rows and of records, and what is wrong with the topic.
+fn push_report(
+    alloc: Global,
+    out: &mut Vec<u8>,
+    rows: &[Row],
+    records: &[Record],
+) -> Result<Ending, AllocError>
+    ensures printed { OnOk result (out.new.items ≡ (out.old.items
+        ++ counts_text rows.now records.now) ++ findings_text rows.now records.now) }
+    ensures ending { IfOk result (λ ending. ending
+        ≡ ending_of_changes (findings_text rows.now records.now)) }
+{
+    print_counts(out, rows, records)?;
+    push_findings(alloc, out, rows, records)
+}
+
+fn push_findings(
+    alloc: Global,
+    out: &mut Vec<u8>,
+    rows: &[Row],
+    records: &[Record],
+) -> Result<Ending, AllocError>
+    ensures printed { OnOk result (out.new.items
+        ≡ out.old.items ++ findings_text rows.now records.now) }
+    ensures ending { IfOk result (λ ending. ending
+        ≡ ending_of_changes (findings_text rows.now records.now)) }
+{
+    let kept = out.len();
+    print_findings(alloc, out, rows, records)?;
+    if out.len() == kept {
+        Ok(Ending::Whole)
+    } else {
+        Ok(Ending::Differs)
+    }
+}
