@@ -76,21 +76,23 @@ idle_in policy accesses =
     idle_lines policy (is_decider policy accesses) 0 (serials_of policy)
 
 -- the lines that record no access
-abbrev pub skipped_lines : Log → ℕ
+unfoldable pub skipped_lines : Log → ℕ
 skipped_lines log = log.lines - length log.accesses - length log.others
 
-unfoldable pub counts_text : Policy → Log → List ℕ
-counts_text policy log =
-    count_line (codes "accesses") (length log.accesses)
-    ++ count_line (codes "decided-otherwise") (length (filter (is_otherwise policy) log.accesses))
-    ++ count_line (codes "left-out") (length log.others)
-    ++ count_line (codes "skipped-lines") (skipped_lines log)
+unfoldable pub judged_text : Policy → List Entry → List ℕ
+judged_text policy accesses =
+    count_line (codes "accesses") (length accesses)
+    ++ count_line (codes "decided-otherwise") (length (filter (is_otherwise policy) accesses))
+
+unfoldable pub unjudged_text : ℕ → ℕ → List ℕ
+unjudged_text others skipped =
+    count_line (codes "left-out") others ++ count_line (codes "skipped-lines") skipped
 
 -- counts, then each access that is decided otherwise, then each binding that decides none
 abbrev pub accesses_text : Policy → Log → List ℕ
 accesses_text policy log =
-    counts_text policy log ++ flat_map (otherwise_text policy) log.accesses
-    ++ idle_in policy log.accesses
+    judged_text policy log.accesses ++ unjudged_text (length log.others) (skipped_lines log)
+    ++ flat_map (otherwise_text policy) log.accesses ++ idle_in policy log.accesses
 
 -- the answer about the text of a log
 abbrev pub log_text : Policy → List ℕ → List ℕ

@@ -126,7 +126,7 @@ entry_at number recorded = record { line = number; recorded = recorded }
 
 abbrev pub with_access : ℕ → Log → Result (Option Recorded) FaultKind → Log
 with_access number log (Ok (Some recorded)) = record log
-  { accesses = log.accesses ++ entry_at number recorded ∷ []; lines = number }
+    { accesses = log.accesses ++ entry_at number recorded ∷ []; lines = number }
 with_access number log (Ok None) = record log { others = log.others ++ number ∷ []; lines = number }
 with_access number log (Err kind) = record log { lines = number }
 

@@ -4,12 +4,11 @@ ghost use Rattle.std.specs.Prelude.{◌≡◌, ◌++◌, ◌||◌, ℕ, IfOk, On
 ghost use Rattle.std.specs.HashSet.{contains};
 ghost use Rattle.std.specs.List.{list_any};
 ghost use Rattle.kob_authorizer.specs.Decide as authorizer;
-ghost use Rattle.kob_policy_text.specs.LogAnswers.{accesses_text, asked_in, counts_text, decides};
-ghost use Rattle.kob_policy_text.specs.LogAnswers.{differs, idle_in, idle_line, idle_lines};
-ghost use Rattle.kob_policy_text.specs.LogAnswers.{is_decider};
-ghost use Rattle.kob_policy_text.specs.LogAnswers.{is_otherwise, log_text, otherwise_line};
-ghost use Rattle.kob_policy_text.specs.LogAnswers.{otherwise_text, place_text, skipped_lines};
-ghost use Rattle.kob_policy_text.specs.LogAnswers.{verdict_on, was_text};
+ghost use Rattle.kob_policy_text.specs.LogAnswers.{accesses_text, asked_in, decides, differs};
+ghost use Rattle.kob_policy_text.specs.LogAnswers.{idle_in, idle_line, idle_lines, is_decider};
+ghost use Rattle.kob_policy_text.specs.LogAnswers.{is_otherwise, judged_text, log_text};
+ghost use Rattle.kob_policy_text.specs.LogAnswers.{otherwise_line, otherwise_text, place_text};
+ghost use Rattle.kob_policy_text.specs.LogAnswers.{skipped_lines, unjudged_text, verdict_on, was_text};
 ghost use Rattle.kob_policy_text.specs.LogLines.{log_of};
 ghost use Rattle.kob_policy_text.specs.Policy.{serials_of};
 
@@ -41,7 +40,10 @@ fn verdict_on(judge: &Judge, entry: &Entry) -> Verdict
 fn is_otherwise(judge: &Judge, entry: &Entry) -> bool
     ensures { result ≡ is_otherwise judge.now entry.now }
 {
-    is_other_answer(entry.recorded.allowed, verdict_on(judge, entry).is_granted())
+    is_other_answer(
+        entry.recorded.allowed,
+        verdict_on(judge, entry).is_granted(),
+    )
 }
 
 fn was_text(allowed: bool) -> &'static str
@@ -132,11 +134,7 @@ fn push_idle(
     }
 }
 
-fn push_idle_lines(
-    out: &mut Vec<u8>,
-    judge: &Judge,
-    set: &HashSet<u64>,
-) -> Result<(), AllocError>
+fn push_idle_lines(out: &mut Vec<u8>, judge: &Judge, set: &HashSet<u64>) -> Result<(), AllocError>
     ensures { OnOk result (out.new.items ≡ out.old.items
         ++ idle_lines judge.now (contains nat_eq set.now) 0 (serials_of judge.now)) }
 {
@@ -168,26 +166,29 @@ fn otherwise_count(judge: &Judge, accesses: &[Entry]) -> usize
         .count()
 }
 
-fn skipped_lines(log: &Log) -> u64
+#[tactic(auto, unfolding(crate::specs::LogAnswers::skipped_lines))]
+fn skipped_lines(log: &Log) -> usize
     ensures { result ≡ skipped_lines log.now }
 {
-    log.lines
-        .saturating_sub(log.accesses.len() as u64)
-        .saturating_sub(log.others.len() as u64)
+    (log.lines as usize)
+        .saturating_sub(log.accesses.len())
+        .saturating_sub(log.others.len())
 }
 
-#[tactic(auto, using(kob_words::proofs::Appending::appending), unfolding(crate::specs::LogAnswers::counts_text))]
-fn push_counts(out: &mut Vec<u8>, judge: &Judge, log: &Log) -> Result<(), AllocError>
-    ensures { OnOk result (out.new.items ≡ out.old.items ++ counts_text judge.now log.now) }
+#[tactic(auto, using(kob_words::proofs::Appending::appending), unfolding(crate::specs::LogAnswers::judged_text))]
+fn push_judged(out: &mut Vec<u8>, judge: &Judge, accesses: &[Entry]) -> Result<(), AllocError>
+    ensures { OnOk result (out.new.items ≡ out.old.items ++ judged_text judge.now accesses.now) }
 {
-    push_count(out, "accesses", log.accesses.len())?;
-    push_count(
-        out,
-        "decided-otherwise",
-        otherwise_count(judge, &log.accesses),
-    )?;
-    push_count(out, "left-out", log.others.len())?;
-    push_count(out, "skipped-lines", skipped_lines(log) as usize)
+    push_count(out, "accesses", accesses.len())?;
+    push_count(out, "decided-otherwise", otherwise_count(judge, accesses))
+}
+
+#[tactic(auto, using(kob_words::proofs::Appending::appending), unfolding(crate::specs::LogAnswers::unjudged_text))]
+fn push_unjudged(out: &mut Vec<u8>, others: usize, skipped: usize) -> Result<(), AllocError>
+    ensures { OnOk result (out.new.items ≡ out.old.items ++ unjudged_text others skipped) }
+{
+    push_count(out, "left-out", others)?;
+    push_count(out, "skipped-lines", skipped)
 }
 
 #[tactic(auto, using(kob_words::proofs::Appending::appending))]
@@ -199,7 +200,8 @@ fn push_accesses(
 ) -> Result<(), AllocError>
     ensures { OnOk result (out.new.items ≡ out.old.items ++ accesses_text judge.now log.now) }
 {
-    push_counts(out, judge, log)?;
+    push_judged(out, judge, &log.accesses)?;
+    push_unjudged(out, log.others.len(), skipped_lines(log))?;
     push_otherwise(out, judge, &log.accesses)?;
     push_idle_in(alloc, out, judge, &log.accesses)
 }
