@@ -29,7 +29,8 @@ pub fn push_connects(
     out: &mut Vec<u8>,
     database: Database,
     services: &[Service],
-) -> Result<(), AllocError> {
+) -> Result<(), AllocError>
+{
     for service in services {
         push_connect(out, database, service)?;
     }
@@ -37,11 +38,8 @@ pub fn push_connects(
 }
 
 #[tactic(auto, using(kob_words::proofs::Appending::appending))]
-fn push_connect(
-    out: &mut Vec<u8>,
-    database: Database,
-    service: &Service,
-) -> Result<(), AllocError> {
+fn push_connect(out: &mut Vec<u8>, database: Database, service: &Service) -> Result<(), AllocError>
+{
     out.extend_from_slice(opening_text().as_bytes())?;
     push_json_string(out, service.name.as_str().as_bytes())?;
     out.extend_from_slice(config_text().as_bytes())?;
@@ -63,7 +61,8 @@ fn connector_of(database: Database) -> &'static str
 
 /// The properties of a route that are not Debezium's defaults.
 #[tactic(auto, using(kob_words::proofs::Appending::appending))]
-fn push_route(out: &mut Vec<u8>, settings: &RouteSettings) -> Result<(), AllocError> {
+fn push_route(out: &mut Vec<u8>, settings: &RouteSettings) -> Result<(), AllocError>
+{
     push_by(out, settings.by)?;
     let default = b"outbox.event.${routedByValue}";
     push_unless(out, default, replacement_key_text(), &settings.replacement)?;

@@ -186,7 +186,8 @@ fn push_export(
     out: &mut Vec<u8>,
     form: ExportForm,
     scene: &Scene,
-) -> Result<(), OpenFault> {
+) -> Result<(), OpenFault>
+{
     match form {
         ExportForm::Commands => export_scene(alloc, out, scene),
         ExportForm::Connect(database) => {
