@@ -15,6 +15,7 @@ complete -c kob -n '__fish_seen_subcommand_from policy' -l questions -r -d 'ques
 complete -c kob -n '__fish_seen_subcommand_from policy' -l topics -r -d 'names of topics'
 complete -c kob -n '__fish_seen_subcommand_from policy' -l before -r -d 'the bindings before'
 complete -c kob -n '__fish_seen_subcommand_from policy' -l after -r -d 'the bindings after'
+complete -c kob -n '__fish_seen_subcommand_from policy' -l log -r -d 'accesses that a broker recorded'
 complete -c kob -n '__fish_seen_subcommand_from policy' -l kafka -r -d 'the release of the brokers'
 complete -c kob -n '__fish_seen_subcommand_from policy' -l commands -d 'prints the lines of kafka-acls that lead to --after'
 complete -c kob -n '__fish_seen_subcommand_from policy' -l skip -d 'continues after what is left out'

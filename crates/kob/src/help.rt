@@ -63,6 +63,7 @@ usage: kob policy [FILE]... [--skip] [QUESTION]...
   --topics FILE     names of topics, one on a line; repeated
   --before FILE     prints what changes from these bindings ..
   --after FILE      .. to these; questions are answered by these; --policy counts for both
+  --log FILE        as the question log FILE; repeated
   --commands        prints the lines of kafka-acls that lead from --before to --after, and nothing
                     else: no right that both grant is missing on the way
   --kafka VERSION   the release of the brokers, as 2.7; the newest if none is given
@@ -93,9 +94,11 @@ Questions, each one word of the command line or one line:
   unused                                bindings that no answer needs, and why
   removable                             bindings that may be deleted together
   shadowed                              allows that a deny always beats
+  log FILE                              accesses of a broker's kafka-authorizer.log that are now
+                                        decided otherwise, and bindings that decide none of them
 
 Status: 0 all read, 1 a fault, 2 out of memory, 3 an answer changes or is not as
-expected. docs/POLICY.md has an example.
+expected, or an access of a log is decided otherwise. docs/POLICY.md has an example.
 ";
 
 /// The page on `kob topic`.

@@ -8,6 +8,7 @@ mod ending;
 mod export;
 mod help;
 mod input;
+mod logs;
 mod options;
 mod play;
 mod policy;

@@ -3,6 +3,7 @@
 
 use crate::ending::Ending;
 use crate::input::{Kind, text_of};
+use crate::logs::answer_logs;
 use crate::policy_answers::{lead, push_answers, push_review};
 use crate::policy_options::{Options, parts_of};
 use crate::report;
@@ -142,7 +143,7 @@ fn push_questions<R: AllocGlobal + Files + Input + Eprint>(
         let read = read_questions(alloc, questions, text);
         unless_fault(rt, out, &questions_in(word.as_str(), text), read)?;
     }
-    if options.before.is_empty() && questions.asked().is_empty() {
+    if options.before.is_empty() && options.logs.is_empty() && questions.asked().is_empty() {
         let read = read_questions(alloc, questions, b"summary");
         unless_fault(rt, out, &questions_in("summary", b"summary"), read)?;
     }
@@ -155,7 +156,7 @@ fn list_of<R: AllocGlobal + Files + Input + Eprint>(rt: &R, file: &str) -> Resul
         Ok(text) => Ok(text),
         Err(fault) => {
             let ending = report::unread(rt, file, &fault);
-            if begins_question(file.as_bytes()) {
+            if begins_question(file.as_bytes()) || file == "log" {
                 report::unquoted(rt, file);
             }
             Err(Stop(ending))
@@ -277,21 +278,23 @@ fn answer_by_one<R: AllocGlobal + Clock + Files + Input + Eprint>(
     questions: &Questions,
 ) -> Result<Ending, Stop> {
     let judge = listed(rt, stages, out, options)?;
-    let answered = answer_about(rt, stages, out, questions, &judge);
+    let answered = answer_about(rt, stages, out, options, questions, &judge);
     drop(judge);
     Ok(answered?)
 }
 
-fn answer_about<R: AllocGlobal + Clock + Eprint>(
+fn answer_about<R: AllocGlobal + Clock + Files + Input + Eprint>(
     rt: &R,
     stages: Stages,
     out: &mut Vec<u8>,
+    options: &Options,
     questions: &Questions,
     judge: &Judge,
 ) -> Result<Ending, AllocError> {
     let bindings = judge.policy().bindings().len();
     stages.answer(rt, questions.asked().len(), bindings);
-    push_answers(rt.alloc(), out, judge, questions)
+    let ending = push_answers(rt.alloc(), out, judge, questions)?;
+    Ok(ending.worse(answer_logs(rt, out, options, questions, judge)?))
 }
 
 /// The list of the options, in force; without one, standard input.
@@ -356,11 +359,25 @@ fn review_from<R: AllocGlobal + Clock + Files + Input + Eprint>(
     let after = judge_of(rt, stages, out, options, &[&options.policy, &options.after])?;
     let bindings = after.policy().bindings().len();
     stages.compare(rt, before.policy().bindings().len(), bindings);
-    let reviewed = if options.commands {
-        lead(rt, out, questions, before, &after)
-    } else {
-        push_review(rt.alloc(), out, questions, before, &after)
-    };
+    let reviewed = compare(rt, out, options, questions, before, &after);
     drop(after);
     Ok(reviewed?)
+}
+
+fn compare<R: AllocGlobal + Files + Input + Eprint>(
+    rt: &R,
+    out: &mut Vec<u8>,
+    options: &Options,
+    questions: &Questions,
+    before: &Judge,
+    after: &Judge,
+) -> Result<Ending, AllocError> {
+    if !options.commands {
+        let ending = push_review(rt.alloc(), out, questions, before, after)?;
+        Ok(ending.worse(answer_logs(rt, out, options, questions, after)?))
+    } else if options.logs.is_empty() {
+        lead(rt, out, questions, before, after)
+    } else {
+        Ok(report::asked_beside_commands(rt))
+    }
 }

@@ -1,14 +1,17 @@
 //! What is printed about lists that are in force.
 
-ghost use Rattle.std.specs.Prelude.{◌≡◌, ◌++◌, IfOk, OnOk};
+ghost use Rattle.std.specs.Prelude.{◌≡◌, ◌++◌, IfOk, OnOk, codes};
+ghost use Rattle.std.specs.Fmt.{decimal};
 ghost use Rattle.kob.specs.Ending.{ending_of_answers, ending_of_changes};
 ghost use Rattle.kob_policy_text.specs.Access.{any_fails};
+ghost use Rattle.kob_policy_text.specs.LogAnswers.{differs, log_text};
 ghost use Rattle.kob_policy_text.specs.Review.{answers_text, changes_text};
 
 use crate::commands::push_commands;
 use crate::ending::Ending;
 use crate::report;
-use kob_policy_text::{Judge, Questions, any_fails, print_answers, print_changes};
+use kob_policy_text::{Judge, Questions, any_fails, print_answers, print_changes, print_log};
+use kob_words::push_number;
 use std::alloc::{AllocError, Global};
 
 /// The answers, which end with `Differs` if one of them is not as expected.
@@ -25,6 +28,41 @@ pub(crate) fn push_answers(
 {
     print_answers(alloc, out, judge, questions.topics(), questions.asked())?;
     if any_fails(judge, questions.asked()) {
+        Ok(Ending::Differs)
+    } else {
+        Ok(Ending::Whole)
+    }
+}
+
+#[tactic(auto, using(kob_words::proofs::Appending::appending))]
+fn push_log_line(out: &mut Vec<u8>, number: u64, file: &str) -> Result<(), AllocError>
+    ensures { OnOk result (out.new.items
+        ≡ out.old.items ++ (decimal number ++ codes " log " ++ file.now ++ codes "\n")) }
+{
+    push_number(out, number)?;
+    out.extend_from_slice(b" log ")?;
+    out.extend_from_slice(file.as_bytes())?;
+    out.extend_from_slice(b"\n")
+}
+
+/// The answer about the text of a broker's log, which ends with `Differs` if an access is decided
+/// otherwise than is recorded.
+#[tactic(auto, using(kob_words::proofs::Appending::appending))]
+pub(crate) fn push_log(
+    alloc: Global,
+    out: &mut Vec<u8>,
+    judge: &Judge,
+    number: u64,
+    file: &str,
+    text: &[u8],
+) -> Result<Ending, AllocError>
+    ensures printed { OnOk result (out.new.items ≡ out.old.items
+        ++ (decimal number ++ codes " log " ++ file.now ++ codes "\n") ++ log_text judge.now text.now) }
+    ensures ending { IfOk result (λ ending. ending
+        ≡ ending_of_answers (differs judge.now text.now)) }
+{
+    push_log_line(out, number, file)?;
+    if print_log(alloc, out, judge, text)? {
         Ok(Ending::Differs)
     } else {
         Ok(Ending::Whole)

@@ -13,6 +13,8 @@ pub struct Options {
     pub topics: Vec<String>,
     pub before: Vec<String>,
     pub after: Vec<String>,
+    /// The logs of brokers, also those of the questions `log FILE`.
+    pub logs: Vec<String>,
     /// The questions among the other words.
     pub words: Vec<String>,
     /// The releases of the brokers, of which the last counts.
@@ -25,7 +27,7 @@ pub struct Options {
 /// The options of `policy`.
 pub fn command<'a>(alloc: Global) -> Result<Command<'a>, AllocError> {
     let mut made = Command::new(alloc, "policy").override_help(HELP_POLICY);
-    for name in ["policy", "questions", "topics"] {
+    for name in ["policy", "questions", "topics", "log"] {
         made = made.arg(files(alloc, name))?;
     }
     made = with_arg(made, files(alloc, "before").requires_arg("after"))?;
@@ -95,13 +97,16 @@ fn options_in(alloc: Global, matches: &ArgMatches<'_>) -> Result<Options, AllocE
         topics: values_of(alloc, matches, "topics")?,
         before: values_of(alloc, matches, "before")?,
         after: values_of(alloc, matches, "after")?,
+        logs: values_of(alloc, matches, "log")?,
         kafka: values_of(alloc, matches, "kafka")?,
         words: Vec::new(alloc),
         skip: matches.get_flag("skip"),
         commands: matches.get_flag("commands"),
     };
     for word in values_of(alloc, matches, "QUESTION")? {
-        if is_question(word.as_str()) {
+        if let Some(file) = word.as_str().strip_prefix("log ") {
+            options.logs.push(String::from_str(alloc, file)?)?;
+        } else if is_question(word.as_str()) {
             options.words.push(word)?;
         } else {
             options.policy.push(word)?;

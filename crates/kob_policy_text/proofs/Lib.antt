@@ -9,5 +9,6 @@ pub mod Making
 pub mod Moving
 pub mod Numbering
 pub mod Passing
+pub mod Recording
 pub mod Stages
 pub mod Taken

@@ -8,6 +8,8 @@ pub mod Holdings
 pub mod Joined
 pub mod Lines
 pub mod Listing
+pub mod LogAnswers
+pub mod LogLines
 pub mod Objects
 pub mod Options
 pub mod Outcomes

@@ -58,7 +58,8 @@ pub fn is_allowed(judge: &Judge, access: &Access) -> bool
     are_met(judge, &access.asker, &rights)
 }
 
-fn is_other_answer(expected: bool, allowed: bool) -> bool
+/// Whether the answer is not the one that is expected.
+pub fn is_other_answer(expected: bool, allowed: bool) -> bool
     ensures { result ≡ is_other_answer expected allowed }
 {
     expected != allowed

@@ -19,6 +19,9 @@ mod judge;
 mod laws;
 mod lines;
 mod listing;
+mod log_answer;
+mod log_line;
+mod log_reading;
 mod objects;
 mod options;
 mod origin;
@@ -58,6 +61,7 @@ pub use encoding::plain_text;
 pub use item::LeftOut;
 pub use judge::Judge;
 pub use laws::idempotence_is_kafkas;
+pub use log_answer::print_log;
 pub use origin::{Omission, Origin};
 pub use policy::Policy;
 pub use question::{

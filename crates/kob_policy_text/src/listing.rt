@@ -83,7 +83,8 @@ fn is_other_resource(word: &[u8]) -> bool
         || word.eq_ignore_ascii_case(b"USER")
 }
 
-fn listed_operation(word: &[u8]) -> Option<Option<Operation>>
+/// The operation, or none for one that is left out.
+pub fn listed_operation(word: &[u8]) -> Option<Option<Operation>>
     ensures { result ≡ listed_operation word.now }
 {
     if word.eq_ignore_ascii_case(b"CLUSTER_ACTION") {
@@ -104,7 +105,8 @@ fn listed_operation(word: &[u8]) -> Option<Option<Operation>>
     }
 }
 
-fn listed_resource(word: &[u8]) -> Option<Option<ResourceKind>>
+/// The kind of resource, or none for one that is left out.
+pub fn listed_resource(word: &[u8]) -> Option<Option<ResourceKind>>
     ensures { result ≡ listed_resource word.now }
 {
     if word.eq_ignore_ascii_case(b"TRANSACTIONAL_ID") {

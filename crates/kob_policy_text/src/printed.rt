@@ -55,8 +55,9 @@ fn push_verdict(out: &mut Vec<u8>, verdict: Verdict) -> Result<(), AllocError>
     }
 }
 
+/// Yes or no, and the verdict.
 #[tactic(auto, using(kob_words::proofs::Appending::appending))]
-fn push_answer(out: &mut Vec<u8>, verdict: Verdict) -> Result<(), AllocError>
+pub fn push_answer(out: &mut Vec<u8>, verdict: Verdict) -> Result<(), AllocError>
     ensures { OnOk result (out.new.items ≡ out.old.items ++ answer_text verdict) }
 {
     push_yes_or_no(out, verdict.is_granted())?;

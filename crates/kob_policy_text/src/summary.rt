@@ -12,8 +12,9 @@ use kob_policy_review::{Unneeded, shadowed, unused};
 use kob_words::push_number;
 use std::alloc::{AllocError, Global};
 
+/// A count behind what is counted, on a line of its own.
 #[tactic(auto, using(kob_words::proofs::Appending::appending), unfolding(crate::specs::Summary::count_line))]
-fn push_count(out: &mut Vec<u8>, what: &str, count: usize) -> Result<(), AllocError>
+pub fn push_count(out: &mut Vec<u8>, what: &str, count: usize) -> Result<(), AllocError>
     ensures { OnOk result (out.new.items ≡ out.old.items ++ count_line what.now count) }
 {
     out.extend_from_slice(b"  ")?;

@@ -1,0 +1,195 @@
+//! A line of a broker's log that records an access.
+
+ghost use Rattle.std.specs.Prelude.{◌≡◌, codes, option_map};
+ghost use Rattle.kob_policy_text.specs.Listing.{first_parts};
+ghost use Rattle.kob_policy_text.specs.LogLines.{access_of, access_words, allowed_by, asker_in};
+ghost use Rattle.kob_policy_text.specs.LogLines.{name_in, one_name, recorded_by, recorded_of};
+ghost use Rattle.kob_policy_text.specs.LogLines.{resource_alone, right_by, right_in, up_to};
+ghost use Rattle.kob_script.specs.Words.{Gives, GivesSeen};
+
+use crate::listing::{known, listed_operation, listed_resource};
+use crate::pieces::{around_first, around_last, first_parts, last_parts};
+use crate::question::{Asker, Right};
+use crate::users::{OTHER_PRINCIPAL, text_in, user_in};
+use kob_names::{Operation, ResourceKind, Text};
+use kob_script::{FaultKind, LineError, host_of};
+use std::alloc::Global;
+use std::marker::Model;
+
+/// An access, and whether the broker allowed it.
+#[derive(Drop)]
+pub struct Recorded {
+    pub asker: Asker,
+    pub right: Right,
+    pub allowed: bool,
+}
+
+/// The parts of a line that records an access, as they are there.
+#[derive(Drop)]
+pub struct AccessWords<'a> {
+    pub principal: &'a [u8],
+    pub outcome: &'a [u8],
+    pub operation: &'a [u8],
+    pub host: &'a [u8],
+    pub resource: &'a [u8],
+}
+
+impl<'a> Model for AccessWords<'a> {
+    ghost use Rattle.kob_policy_text.specs.LogLines as seen;
+
+    ghost Value = { seen.AccessWords };
+
+    ghost view = { λ words. record {
+      principal = words.principal.now;
+      outcome = words.outcome.now;
+      operation = words.operation.now;
+      host = words.host.now;
+      resource = words.resource.now;
+    } };
+}
+
+/// `Principal = PRINCIPAL is OUTCOME operation = OPERATION from host = HOST on resource = RESOURCE`
+#[tactic(auto, unfolding(crate::specs::LogLines::access_words))]
+fn access_words(line: &[u8]) -> Result<AccessWords<'_>, LineError>
+    ensures { Gives result (access_words line.entry.now) }
+{
+    let (_, access) = around_first(line, b"Principal = ")?;
+    let (front, behind) = around_first(access, b"peration = ")?;
+    let (principal, outcome) = around_last(front, b" is ")?;
+    let (operation, rest) = around_first(behind, b" from host = ")?;
+    let (host, resource) = around_first(rest, b" on resource = ")?;
+    Ok(AccessWords {
+        principal,
+        outcome,
+        operation,
+        host,
+        resource,
+    })
+}
+
+/// Whether the access was allowed, with the first letter of the word behind.
+fn allowed_by(outcome: &[u8]) -> Result<bool, LineError>
+    ensures { Gives result (allowed_by outcome.now) }
+{
+    if outcome == b"Allowed o".as_slice() || outcome == b"Allowed O".as_slice() {
+        Ok(true)
+    } else if outcome == b"Denied o".as_slice() || outcome == b"Denied O".as_slice() {
+        Ok(false)
+    } else {
+        Err(LineError::Fault(FaultKind::BadLine))
+    }
+}
+
+/// The part before the last mark, or all.
+fn up_to<'a>(mark: &[u8], text: &'a [u8]) -> &'a [u8]
+    ensures { result.now ≡ up_to mark.now text.entry.now }
+{
+    match last_parts(text, mark) {
+        Some((front, _)) => front,
+        None => text,
+    }
+}
+
+/// Without the request and the name of the logger.
+fn resource_alone(text: &[u8]) -> &[u8]
+    ensures { result.now ≡ resource_alone text.entry.now }
+{
+    up_to(
+        b" (kafka.authorizer.logger)",
+        up_to(b" for request = ", text),
+    )
+}
+
+/// The name of one resource, if the text has one.
+fn one_name(text: &[u8]) -> Option<&[u8]>
+    ensures { option_map (λ name. name.now) result
+        ≡ one_name text.entry.now (first_parts text.entry.now (codes ":")) }
+{
+    match first_parts(text, b":") {
+        Some((pattern, name)) if pattern == b"LITERAL".as_slice() => Some(name),
+        Some((pattern, _)) if pattern == b"UNKNOWN".as_slice() => None,
+        _ => Some(text),
+    }
+}
+
+fn name_in(alloc: Global, name: Option<&[u8]>) -> Result<Option<Text>, LineError>
+    ensures { Gives result (name_in (option_map (λ name. name.now) name.entry)) }
+{
+    match name {
+        None => Ok(None),
+        Some(bytes) => {
+            let text = text_in(bytes)?;
+            Ok(Some(Text::copied(alloc, text)?))
+        }
+    }
+}
+
+fn right_by(
+    operation: Option<Operation>,
+    resource: Option<ResourceKind>,
+    name: Option<Text>,
+) -> Option<Right>
+    ensures { result ≡ right_by operation resource name }
+{
+    match (operation, resource, name) {
+        (Some(operation), Some(resource), Some(name)) => Some(Right {
+            operation,
+            resource,
+            name,
+        }),
+        _ => None,
+    }
+}
+
+#[tactic(auto, unfolding(crate::specs::LogLines::right_in))]
+fn right_in(alloc: Global, operation: &[u8], resource: &[u8]) -> Result<Option<Right>, LineError>
+    ensures { Gives result (right_in operation.now resource.now) }
+{
+    let (kind, rest) = around_first(resource_alone(resource), b":")?;
+    let operation = known(listed_operation(operation))?;
+    let kind = known(listed_resource(kind))?;
+    let name = name_in(alloc, one_name(rest))?;
+    Ok(right_by(operation, kind, name))
+}
+
+#[tactic(auto, unfolding(crate::specs::LogLines::asker_in))]
+fn asker_in(alloc: Global, principal: &[u8], host: &[u8]) -> Result<Asker, LineError>
+    ensures { Gives result (asker_in principal.now host.now) }
+{
+    let principal = user_in(alloc, principal)?;
+    let text = text_in(host)?;
+    let host = host_of(alloc, text)?;
+    Ok(Asker { principal, host })
+}
+
+fn recorded_by(allowed: bool, asker: Asker, right: Option<Right>) -> Option<Recorded>
+    ensures { result ≡ recorded_by allowed asker right }
+{
+    match right {
+        Some(right) if asker.principal.as_str() != OTHER_PRINCIPAL => Some(Recorded {
+            asker,
+            right,
+            allowed,
+        }),
+        _ => None,
+    }
+}
+
+#[tactic(auto, unfolding(crate::specs::LogLines::recorded_of))]
+fn recorded_of(alloc: Global, words: &AccessWords<'_>) -> Result<Option<Recorded>, LineError>
+    ensures { Gives result (recorded_of words.now) }
+{
+    let allowed = allowed_by(words.outcome)?;
+    let asker = asker_in(alloc, words.principal, words.host)?;
+    let right = right_in(alloc, words.operation, words.resource)?;
+    Ok(recorded_by(allowed, asker, right))
+}
+
+/// The access that a line records, or none if rules cannot bear on it. The fault is that the line
+/// records no access.
+pub fn access_of(alloc: Global, line: &[u8]) -> Result<Option<Recorded>, LineError>
+    ensures { Gives result (access_of line.now) }
+{
+    let words = access_words(line)?;
+    recorded_of(alloc, &words)
+}
