@@ -2,7 +2,7 @@
 
 use crate::connect::Database;
 use crate::help::{HELP, HELP_EXPORT, HELP_PLAY};
-use crate::policy_options::command as policy_command;
+use crate::policy_options::{command as policy_command, with};
 use clap::{Arg, ArgAction, ArgMatches, Command, Error};
 use kob_scene_play::Form;
 use std::alloc::{AllocError, Global};
@@ -54,21 +54,41 @@ fn command<'a>(alloc: Global) -> Result<Command<'a>, AllocError> {
         .override_help(HELP)
         .disable_help_subcommand(true);
     let made = made.arg(flag(alloc, "version").short('V'))?;
+    let made = with_command(made, play_command(alloc))?;
+    let made = with_command(made, export_command(alloc))?;
+    let made = with_command(made, policy_command(alloc))?;
+    with_command(made, help_command(alloc))
+}
+
+/// A command with one more command, which may be out of memory.
+fn with_command<'a>(
+    command: Command<'a>,
+    other: Result<Command<'a>, AllocError>,
+) -> Result<Command<'a>, AllocError> {
+    match other {
+        Ok(other) => command.subcommand(other),
+        Err(refused) => {
+            drop(command);
+            Err(refused)
+        }
+    }
+}
+
+fn play_command<'a>(alloc: Global) -> Result<Command<'a>, AllocError> {
     let played = files_command(alloc, "play", HELP_PLAY)?;
     let played = played.arg(flag(alloc, "trace"))?;
-    let played = played.arg(flag(alloc, "json").conflicts_with("trace")?)?;
-    let made = made.subcommand(played)?;
+    with(played, flag(alloc, "json").conflicts_with("trace"))
+}
+
+fn export_command<'a>(alloc: Global) -> Result<Command<'a>, AllocError> {
     let exported = files_command(alloc, "export", HELP_EXPORT)?;
     let exported = exported.arg(database(alloc, "connect"))?;
-    let exported = exported.arg(database(alloc, "table").conflicts_with("connect")?)?;
-    let made = made.subcommand(exported)?;
-    let made = made.subcommand(policy_command(alloc)?)?;
+    with(exported, database(alloc, "table").conflicts_with("connect"))
+}
+
+fn help_command<'a>(alloc: Global) -> Result<Command<'a>, AllocError> {
     let subject = Arg::new(alloc, "SUBJECT").action(ArgAction::Set);
-    made.subcommand(
-        Command::new(alloc, "help")
-            .override_help(HELP)
-            .arg(subject)?,
-    )
+    Command::new(alloc, "help").override_help(HELP).arg(subject)
 }
 
 fn flag<'a>(alloc: Global, name: &'a str) -> Arg<'a> {

@@ -28,8 +28,8 @@ pub fn command<'a>(alloc: Global) -> Result<Command<'a>, AllocError> {
     for name in ["policy", "questions", "topics"] {
         made = made.arg(files(alloc, name))?;
     }
-    made = made.arg(files(alloc, "before").requires_arg("after")?)?;
-    made = made.arg(files(alloc, "after").requires_arg("before")?)?;
+    made = with(made, files(alloc, "before").requires_arg("after"))?;
+    made = with(made, files(alloc, "after").requires_arg("before"))?;
     made = made.arg(
         Arg::new(alloc, "kafka")
             .long("kafka")
@@ -37,17 +37,33 @@ pub fn command<'a>(alloc: Global) -> Result<Command<'a>, AllocError> {
             .action(ArgAction::Append),
     )?;
     made = made.arg(flag(alloc, "skip"))?;
-    made = made.arg(
-        flag(alloc, "commands")
-            .requires_arg("before")?
-            .conflicts_with("questions")?
-            .conflicts_with("topics")?,
-    )?;
+    made = with(made, commands_flag(alloc))?;
     made.arg(
         Arg::new(alloc, "QUESTION")
             .num_args(0..)
             .action(ArgAction::Append),
     )
+}
+
+/// A command with one more option, which may be out of memory.
+pub fn with<'a>(
+    command: Command<'a>,
+    option: Result<Arg<'a>, AllocError>,
+) -> Result<Command<'a>, AllocError> {
+    match option {
+        Ok(option) => command.arg(option),
+        Err(refused) => {
+            drop(command);
+            Err(refused)
+        }
+    }
+}
+
+fn commands_flag<'a>(alloc: Global) -> Result<Arg<'a>, AllocError> {
+    flag(alloc, "commands")
+        .requires_arg("before")?
+        .conflicts_with("questions")?
+        .conflicts_with("topics")
 }
 
 fn flag<'a>(alloc: Global, name: &'a str) -> Arg<'a> {

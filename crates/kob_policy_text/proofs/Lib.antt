@@ -9,5 +9,6 @@ pub mod Making
 pub mod Moving
 pub mod Numbering
 pub mod Passing
+pub mod Placing
 pub mod Stages
 pub mod Taken
