@@ -78,9 +78,11 @@ module _ (rules : Contents) (resource : ResourceKind) (prefix : List ℕ) where
     own_there entry there =
         let is = (was_kept (is_on_one those) rules.entries entry (was_kept (is_for principal) close entry there).0).1 in
         let parts = and_parts (is_below resource prefix (first_of start entry)) (is_on (first_of start entry) entry)
-        (sym (near_is entry (in_rules entry there)) ∙ is) in
-        (in_below rules resource prefix (first_of start entry)
-        (first_named rules resource prefix entry (in_rules entry there)) parts.0, parts.1)
+        (sym (near_is entry (in_rules entry there)) ∙ is) in (
+          in_below rules resource prefix (first_of start entry)
+              (first_named rules resource prefix entry (in_rules entry there)) parts.0,
+          parts.1,
+        )
 
     abbrev denied : Target → Bool
     denied one = list_any (is_met_on one Deny host operation) asking

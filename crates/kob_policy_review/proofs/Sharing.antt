@@ -141,9 +141,11 @@ module _ (rules : Contents) (resource : ResourceKind) (prefix : List ℕ) where
   of_below : (one : Target) → Contains below one
       → (Contains (targets (as_entry resource prefix ∷ rules.entries)) one) × (is_below resource prefix one ≡ true)
   of_below one there =
-      let (in_all, is) = was_kept (is_below resource prefix) _ one there in
-      (only_named open_targets (as_entry resource prefix ∷ rules.entries) one
-      (subst (λ (ts : List Target). Contains ts one) (sym (with_prefix resource prefix rules.entries)) in_all), is)
+      let (in_all, is) = was_kept (is_below resource prefix) _ one there in (
+        only_named open_targets (as_entry resource prefix ∷ rules.entries) one
+            (subst (λ (ts : List Target). Contains ts one) (sym (with_prefix resource prefix rules.entries)) in_all),
+        is,
+      )
 
   pub in_below : (one : Target) → Contains (targets (as_entry resource prefix ∷ rules.entries)) one
       → is_below resource prefix one ≡ true → Contains below one
@@ -223,14 +225,13 @@ module _ (rules : Contents) (resource : ResourceKind) (prefix : List ℕ) where
       own_below : is_on first entry ≡ false → (is_below resource prefix (target_of entry) ≡ true)
           × (is_on (target_of entry) entry ≡ true)
       own_below apart =
-          let taken = takes_below kind_is name_is prefix one.names on_names starts (apart_is apart) in
-          (
+          let taken = takes_below kind_is name_is prefix one.names on_names starts (apart_is apart) in (
             ap (is_below resource prefix) own_is
-            ∙ and_from (same_resource resource resource) (starts_with nat_eq (text_of (names_by kind_is name_is)) prefix)
-            ((resource_decides resource resource).1 refl) taken.0,
+                ∙ and_from (same_resource resource resource) (starts_with nat_eq (text_of (names_by kind_is name_is)) prefix)
+                ((resource_decides resource resource).1 refl) taken.0,
             ap (λ (t : Target). is_on t entry) own_is
-            ∙ and_from (same_resource entry.1.resource resource) (matches_names entry.1.pattern (names_by kind_is name_is))
-            ((resource_decides entry.1.resource resource).1 entry_kind) taken.1,
+                ∙ and_from (same_resource entry.1.resource resource) (matches_names entry.1.pattern (names_by kind_is name_is))
+                ((resource_decides entry.1.resource resource).1 entry_kind) taken.1,
           )
 
       -- and what is on those that its pattern takes first

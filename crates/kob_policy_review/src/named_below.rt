@@ -74,11 +74,7 @@ fn on_each(
 }
 
 /// Of the names below a prefix that a binding is on, those that the fewest others are on.
-pub fn first_of(
-    alloc: Global,
-    first: &Target,
-    entry: &(u64, Binding),
-) -> Result<Target, AllocError>
+pub fn first_of(alloc: Global, first: &Target, entry: &(u64, Binding)) -> Result<Target, AllocError>
     ensures { IfOk result (λ made. made ≡ first_of first.now entry.now) }
 {
     if is_on(first, entry) {
@@ -183,7 +179,12 @@ impl NamesBelow {
         one_allows(alloc, &self.first, host, operation, asking)
     }
 
-    pub fn all_yes(&self, asking: &[(u64, Binding)], host: &Option<Text>, operation: Operation) -> bool
+    pub fn all_yes(
+        &self,
+        asking: &[(u64, Binding)],
+        host: &Option<Text>,
+        operation: Operation,
+    ) -> bool
         ensures { result ≡ all_yes self.now asking.now host.now operation }
     {
         !some_met(asking, host, operation)

@@ -74,7 +74,11 @@ impl Parties {
 
     /// Adds the principals that the bindings name.
     #[tactic(auto, using(std::proofs::lemmas::List::Sums::fold_more))]
-    fn add_principals(&mut self, alloc: Global, entries: &[(u64, Binding)]) -> Result<(), AllocError>
+    fn add_principals(
+        &mut self,
+        alloc: Global,
+        entries: &[(u64, Binding)],
+    ) -> Result<(), AllocError>
         ensures { OnOk result (self.new ≡ fold with_principal self.old entries.now) }
     {
         for entry in entries {

@@ -129,11 +129,7 @@ fn bearing(alloc: Global, beaten: bool, finder: &Finder<'_>) -> Result<Vec<u64>,
 }
 
 /// Those serials as a set.
-fn bearing_set(
-    alloc: Global,
-    beaten: bool,
-    finder: &Finder<'_>,
-) -> Result<HashSet<u64>, AllocError>
+fn bearing_set(alloc: Global, beaten: bool, finder: &Finder<'_>) -> Result<HashSet<u64>, AllocError>
     ensures { IfOk result (λ set. (serial : ℕ) → contains nat_eq set serial
         ≡ list_any (λ other. other == serial) (bearing beaten finder.now)) }
 {

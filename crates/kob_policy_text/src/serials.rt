@@ -58,11 +58,7 @@ impl Serials {
 }
 
 /// Gives a serial its place, unless it has one.
-fn add_place(
-    places: &mut HashMap<u64, usize>,
-    serial: u64,
-    place: usize,
-) -> Result<(), AllocError>
+fn add_place(places: &mut HashMap<u64, usize>, serial: u64, place: usize) -> Result<(), AllocError>
     ensures { OnOk result ((other : ℕ) → get nat_eq places.new other
         ≡ first_place (get nat_eq places.old other) (serial == other) place) }
 {
