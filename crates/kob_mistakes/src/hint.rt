@@ -25,16 +25,13 @@ static BEGINNINGS: [(&[u8], &str); 6] = [
     ),
 ];
 
-/// A hint on a list or on questions that no line of can be read, if they look like a common mistake.
+/// A hint on a list that can't be read as UTF-8, if it has a mark of UTF-16, which is read elsewhere.
 pub(crate) fn hint_on_bytes(text: &[u8]) -> Option<&'static str> {
-    let (_, hint) = BEGINNINGS.iter().find(|beginning| is_other_form(beginning.0)
-        && text.starts_with(beginning.0))?;
-    Some(hint)
-}
-
-/// Whether a text that begins so is in another form than UTF-8.
-fn is_other_form(beginning: &[u8]) -> bool {
-    !beginning.first().is_some_and(|byte| byte.is_ascii())
+    if text.starts_with(b"\xff\xfe") || text.starts_with(b"\xfe\xff") {
+        Some("the text is UTF-16 with an odd number of bytes, or with an unpaired surrogate")
+    } else {
+        None
+    }
 }
 
 /// A hint on a line of so many words with a fault, if it looks like a common mistake. `text` is the

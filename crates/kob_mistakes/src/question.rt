@@ -301,6 +301,8 @@ fn right_row(words: &[Word<'_>]) -> &'static [Fit] {
         &[Fit::Any, Fit::Any, Fit::Any]
     } else if words.len() < 4 {
         &[Fit::Operation, Fit::Resource, Fit::Any]
+    } else if words[2].decoded() == b"prefix".as_slice() {
+        &[Fit::Operation, Fit::ManyNamed, Fit::Any, Fit::Any]
     } else {
         &[Fit::Operation, Fit::Resource, Fit::Any, Fit::Host]
     }

@@ -3,8 +3,9 @@
 ghost use Rattle.std.specs.Prelude.{◌≡◌, ◌≤◌, IfOk, length};
 ghost use Rattle.std.specs.Result.{is_ok};
 ghost use Rattle.kob_script.specs.Words.{named_host, named_principal};
-ghost use Rattle.kob_mistakes.specs.Rows.{fits, is_listed, misfit};
+ghost use Rattle.kob_mistakes.specs.Rows.{fits, is_listed, is_many_named, misfit};
 
+use kob_names::ResourceKind;
 use kob_script::{LineError, Word, host_of, lent_text_of, principal_of};
 use kob_words::{operation_named, resource_named};
 use std::alloc::{AllocError, Global};
@@ -17,6 +18,8 @@ pub(crate) enum Fit {
     Host,
     Operation,
     Resource,
+    /// A kind of resource with many names: any but the cluster.
+    ManyNamed,
     /// `yes` or `no`.
     Answer,
     May,
@@ -58,6 +61,7 @@ fn fits(alloc: Global, fit: Fit, word: &Word<'_>) -> Result<bool, AllocError>
         Fit::Resource => {
             Ok(resource_named(word.decoded()).is_some() || is_listed(word.decoded()))
         }
+        Fit::ManyNamed => Ok(is_many_named(word.decoded())),
         Fit::Answer => {
             Ok(word.decoded() == b"yes".as_slice() || word.decoded() == b"no".as_slice())
         }
@@ -92,6 +96,15 @@ fn is_host(alloc: Global, word: &Word<'_>) -> Result<bool, AllocError>
         Ok(_) => Ok(true),
         Err(LineError::Fault(_)) => Ok(false),
         Err(LineError::Memory(refused)) => Err(refused),
+    }
+}
+
+fn is_many_named(name: &[u8]) -> bool
+    ensures { result ≡ is_many_named name.now }
+{
+    match resource_named(name) {
+        Some(resource) => resource != ResourceKind::Cluster,
+        None => is_listed(name),
     }
 }
 

@@ -206,7 +206,7 @@ by_pattern held_at Prefixed key name serial matched has =
     let along = along_has_prefixed held_at serial key (drop (length key) name) in grind (arith, nat_tests)
 
 -- a pattern that matches the names matches their text
-on_text : (kind : PatternKind) (key : List ℕ) (names : Names)
+pub on_text : (kind : PatternKind) (key : List ℕ) (names : Names)
     → matches_names (record { kind = kind; name = key }) names ≡ true → matches_by kind key (text_of names) ≡ true
 on_text kind key (Exactly name) matched = matched
 on_text Literal key (Below start) matched = grind (arith, nat_tests)

@@ -1,11 +1,13 @@
 pub mod Alone
 pub mod Answering
+pub mod Asking
 pub mod Changing
 pub mod Deciders
 pub mod Deciding
 pub mod Finding
 pub mod Going
 pub mod Granted
+pub mod Keys
 pub mod Listing
 pub mod Marks
 pub mod Naming
@@ -14,6 +16,8 @@ pub mod Places
 pub mod Reaching
 pub mod Removing
 pub mod Shadowing
+pub mod Shares
+pub mod Sharing
 pub mod Standing
 pub mod Texts
 pub mod Widening

@@ -28,7 +28,7 @@ use Rattle.kob_policy_review.specs.Classes.{covers_party, hosts_named, is_for, i
 use Rattle.kob_policy_review.specs.Difference.{class_of}
 use Rattle.kob_policy_review.specs.Finding.{text_of}
 use Rattle.kob_policy_review.specs.Needed.{is_super_party}
-use Rattle.kob_policy_review.specs.declared.below.Place.{Place}
+use Rattle.kob_policy_review.specs.declared.named_below.Place.{Place}
 use Rattle.kob_policy_review.specs.declared.below.Reach.{Reach}
 use Rattle.kob_policy_review.specs.declared.below.Share.{Share}
 use Rattle.kob_policy_review.specs.declared.class.Names.{Names}
@@ -38,7 +38,7 @@ use Rattle.kob_policy_review.specs.declared.class.Target.{Target}
 -- Every element passes.
 
 module _ {A : Type 0} (test : A → Bool) where
-  each_passes : (xs : List A) (x : A) → list_all test xs ≡ true → Contains xs x → test x ≡ true
+  pub each_passes : (xs : List A) (x : A) → list_all test xs ≡ true → Contains xs x → test x ≡ true
   each_passes [] x all there = absurd (omega (arith, there.1))
   each_passes (first ∷ rest) x all there =
       let parts = and_parts (test first) (list_all test rest) all in
@@ -47,7 +47,7 @@ module _ {A : Type 0} (test : A → Bool) where
         | inr later ↦ each_passes rest x parts.1 later
       ]
 
-  all_pass : (xs : List A) → ((x : A) → Contains xs x → test x ≡ true) → list_all test xs ≡ true
+  pub all_pass : (xs : List A) → ((x : A) → Contains xs x → test x ≡ true) → list_all test xs ≡ true
   all_pass [] each = refl
   all_pass (first ∷ rest) each =
       and_from _ _ (each first (at_head first rest))
@@ -77,7 +77,7 @@ hit_bools permission true true true where_from reach on near for_who at is among
 
 -- A prefix as an entry more: the names that begin with it are told apart.
 
-abbrev as_entry : ResourceKind → List ℕ → ℕ × Binding
+abbrev pub as_entry : ResourceKind → List ℕ → ℕ × Binding
 as_entry resource prefix = (
   0,
   record {
@@ -90,17 +90,17 @@ as_entry resource prefix = (
   },
 )
 
-with_prefix : (resource : ResourceKind) (prefix : List ℕ) (entries : List (ℕ × Binding))
+pub with_prefix : (resource : ResourceKind) (prefix : List ℕ) (entries : List (ℕ × Binding))
     → fold with_target_of open_targets (as_entry resource prefix ∷ entries)
     ≡ fold with_target_of (with_target open_targets (at_prefix resource prefix)) entries
 unfolding with_target_of
 with_prefix resource prefix entries = refl
 
 module _ (rules : Contents) (resource : ResourceKind) (prefix : List ℕ) where
-  abbrev more : List (ℕ × Binding)
+  abbrev pub more : List (ℕ × Binding)
   more = as_entry resource prefix ∷ rules.entries
 
-  abbrev below : List Target
+  abbrev pub below : List Target
   below = targets_below rules.entries resource prefix
 
   abbrev near : List (ℕ × Binding)
@@ -120,7 +120,7 @@ module _ (rules : Contents) (resource : ResourceKind) (prefix : List ℕ) where
             (λ _. longer)) ∙ starts)
       ]
 
-  target_below : (target : Target) → Contains (targets more) target → target.resource ≡ resource
+  pub target_below : (target : Target) → Contains (targets more) target → target.resource ≡ resource
       → starts_with nat_eq (text_of target.names) prefix ≡ true → Contains below target
   target_below target named of_kind starts =
       kept_by_filter (is_below resource prefix)

@@ -14,7 +14,7 @@ use Rattle.kob_policy_review.specs.Alike.{is_yes}
 use Rattle.kob_policy_review.specs.Classes.{covers_party, hosts_named, is_for, is_met, is_on, open_targets, principals_named, target_by, with_target, with_target_of}
 use Rattle.kob_policy_review.specs.Finding.{text_of}
 use Rattle.kob_policy_review.specs.Needed.{is_super_party}
-use Rattle.kob_policy_review.specs.declared.below.Place.{Place}
+use Rattle.kob_policy_review.specs.declared.named_below.Place.{Place}
 use Rattle.kob_policy_review.specs.declared.below.Reach.{Reach}
 use Rattle.kob_policy_review.specs.declared.below.Share.{Share}
 use Rattle.kob_policy_review.specs.declared.below.Share.TheVariants.{Nothing, Part, Everything}

@@ -9,5 +9,6 @@ pub mod Needed
 pub mod Redundancy
 pub mod Removal
 pub mod Shadows
+pub mod Sharing
 pub mod Sites
 pub mod Users

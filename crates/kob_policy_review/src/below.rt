@@ -1,18 +1,20 @@
 //! Who may do something on the names that begin with a prefix.
 
 ghost use Rattle.std.specs.Prelude.{◌≡◌, ◌++◌, IfOk, OnOk, filter, flat_map, map};
-ghost use Rattle.std.specs.List.{list_all, list_any};
-ghost use Rattle.kob_policy_review.specs.Below.{ListsReaches, at_prefix, is_below, is_met_on};
-ghost use Rattle.kob_policy_review.specs.Below.{is_on_one, place_on, reach_from, reaches_below};
-ghost use Rattle.kob_policy_review.specs.Below.{reaches_by, share_of, targets_below, yes_at};
-ghost use Rattle.kob_policy_review.specs.Classes.{is_on};
+ghost use Rattle.kob_authorizer.specs.Index.{AreRising};
+ghost use Rattle.kob_policy_review.specs.Below.{ListsReaches, near_below, reaches_below, share_of};
+ghost use Rattle.kob_policy_review.specs.Classes.{principals_named};
+ghost use Rattle.kob_policy_review.specs.Sharing.{is_near, reach_near, reaches_near};
 
-use crate::class::{Target, copied_target, is_met, is_on};
-use crate::matching::{asking, hosts_of, principals_of};
+use crate::askers::Askers;
+use crate::class::{Target, is_on};
+use crate::matching::{hosts_of, push_if};
+use crate::named_below::{NamesBelow, first_of, names_below};
 use crate::needed::is_super_party;
-use crate::targets::targets_below;
+use crate::parties::principals_of;
+use crate::targets::{at_prefix, is_below};
 use kob_authorizer::Authorizer;
-use kob_names::{Binding, Operation, Permission, PlainValue, Principal, ResourceKind, Text};
+use kob_names::{Binding, Operation, PlainValue, Principal, ResourceKind, Text};
 use std::alloc::{AllocError, Global};
 
 /// On which names something is granted.
@@ -35,75 +37,6 @@ pub struct Reach {
     pub share: Share,
 }
 
-/// Names, and whether they are open to everyone.
-#[derive(Drop)]
-pub struct Place {
-    target: Target,
-    opened: bool,
-}
-
-fn is_met_on(
-    target: &Target,
-    permission: Permission,
-    host: &Option<Text>,
-    operation: Operation,
-    entry: &(u64, Binding),
-) -> bool
-    ensures { result ≡ is_met_on target.now permission host.now operation entry.now }
-{
-    is_on(target, entry) && is_met(permission, host, operation, entry)
-}
-
-fn some_met_on(
-    target: &Target,
-    permission: Permission,
-    host: &Option<Text>,
-    operation: Operation,
-    asking: &[(u64, Binding)],
-) -> bool
-    ensures { result ≡ list_any (is_met_on target.now permission host.now operation) asking.now }
-{
-    asking.iter().any(|entry| is_met_on(target, permission, host, operation, entry))
-}
-
-fn yes_at(
-    asking: &[(u64, Binding)],
-    host: &Option<Text>,
-    operation: Operation,
-    place: &Place,
-) -> bool
-    ensures { result ≡ yes_at asking.now host.now operation place.now }
-{
-    !some_met_on(&place.target, Permission::Deny, host, operation, asking)
-        && (some_met_on(&place.target, Permission::Allow, host, operation, asking) || place.opened)
-}
-
-fn on_some(
-    asking: &[(u64, Binding)],
-    host: &Option<Text>,
-    operation: Operation,
-    places: &[Place],
-) -> bool
-    ensures { result ≡ list_any (yes_at asking.now host.now operation) places.now }
-{
-    places
-        .iter()
-        .any(|place| yes_at(asking, host, operation, place))
-}
-
-fn on_all(
-    asking: &[(u64, Binding)],
-    host: &Option<Text>,
-    operation: Operation,
-    places: &[Place],
-) -> bool
-    ensures { result ≡ list_all (yes_at asking.now host.now operation) places.now }
-{
-    places
-        .iter()
-        .all(|place| yes_at(asking, host, operation, place))
-}
-
 fn share_of(on_some: bool, on_all: bool) -> Share
     ensures { result ≡ share_of on_some on_all }
 {
@@ -114,20 +47,20 @@ fn share_of(on_some: bool, on_all: bool) -> Share
     }
 }
 
-#[tactic(auto, unfolding(crate::specs::Below::reach_from))]
-fn reach_from(
+#[tactic(auto, unfolding(crate::specs::Sharing::reach_near))]
+fn reach_near(
     alloc: Global,
-    places: &[Place],
+    names: &NamesBelow,
     asking: &[(u64, Binding)],
     operation: Operation,
     principal: &Option<Text>,
     host: &Option<Text>,
 ) -> Result<Reach, AllocError>
     ensures { IfOk result (λ made.
-        made ≡ reach_from places.now asking.now operation principal.now host.now) }
+        made ≡ reach_near names.now asking.now operation principal.now host.now) }
 {
-    let some = on_some(asking, host, operation, places);
-    let all = on_all(asking, host, operation, places);
+    let some = names.some_yes(alloc, asking, host, operation)?;
+    let all = names.all_yes(asking, host, operation);
     let principal = principal.copy(alloc)?;
     let host = host.copy(alloc)?;
     Ok(Reach {
@@ -140,43 +73,43 @@ fn reach_from(
 fn push_from(
     alloc: Global,
     out: &mut Vec<Reach>,
-    places: &[Place],
+    names: &NamesBelow,
     asking: &[(u64, Binding)],
     operation: Operation,
     principal: &Option<Text>,
     hosts: &[Option<Text>],
 ) -> Result<(), AllocError>
     ensures { OnOk result (out.new.items ≡ out.old.items
-        ++ map (reach_from places.now asking.now operation principal.now) hosts.now) }
+        ++ map (reach_near names.now asking.now operation principal.now) hosts.now) }
 {
     for host in hosts {
-        out.push(reach_from(alloc, places, asking, operation, principal, host)?)?;
+        out.push(reach_near(alloc, names, asking, operation, principal, host)?)?;
     }
     Ok(())
 }
 
-#[tactic(auto, unfolding(crate::specs::Below::reaches_by))]
+#[tactic(auto, unfolding(crate::specs::Sharing::reaches_near))]
 fn push_by(
     alloc: Global,
     out: &mut Vec<Reach>,
     supers: &[Principal],
-    places: &[Place],
-    near: &[(u64, Binding)],
+    names: &NamesBelow,
+    near: &Askers<'_>,
     operation: Operation,
     principal: &Option<Text>,
 ) -> Result<(), AllocError>
     ensures { OnOk result (out.new.items ≡ out.old.items
-        ++ reaches_by supers.now places.now near.now operation principal.now) }
+        ++ reaches_near supers.now names.now near.now operation principal.now) }
 {
     if is_super_party(supers, principal) {
         return Ok(());
     }
-    let asking = asking(alloc, near, principal)?;
+    let asking = near.asking(alloc, principal)?;
     let hosts = hosts_of(alloc, asking.as_slice())?;
     push_from(
         alloc,
         out,
-        places,
+        names,
         asking.as_slice(),
         operation,
         principal,
@@ -188,74 +121,110 @@ fn push_principals(
     alloc: Global,
     out: &mut Vec<Reach>,
     supers: &[Principal],
-    places: &[Place],
-    near: &[(u64, Binding)],
+    names: &NamesBelow,
+    near: &Askers<'_>,
     operation: Operation,
     principals: &[Option<Text>],
 ) -> Result<(), AllocError>
     ensures { OnOk result (out.new.items ≡ out.old.items
-        ++ flat_map (reaches_by supers.now places.now near.now operation) principals.now) }
+        ++ flat_map (reaches_near supers.now names.now near.now operation) principals.now) }
 {
     for principal in principals {
-        push_by(alloc, out, supers, places, near, operation, principal)?;
+        push_by(alloc, out, supers, names, near, operation, principal)?;
     }
     Ok(())
 }
 
-fn is_on_one(targets: &[Target], entry: &(u64, Binding)) -> bool
-    ensures { result ≡ is_on_one targets.now entry.now }
+fn is_near(
+    alloc: Global,
+    first: &Target,
+    resource: ResourceKind,
+    prefix: &Text,
+    entry: &(u64, Binding),
+) -> Result<bool, AllocError>
+    ensures { IfOk result (λ near. near ≡ is_near first.now resource prefix.now entry.now) }
 {
-    targets.iter().any(|target| is_on(target, entry))
+    let target = first_of(alloc, first, entry)?;
+    Ok(is_below(resource, prefix, &target) && is_on(&target, entry))
 }
 
-/// Copies of the bindings on one of the targets.
+/// Copies of the bindings that are on some of the names below the prefix.
 #[tactic(auto, using(std::proofs::lemmas::List::Elements::filter_more))]
-fn near_below(
+fn near_first(
     alloc: Global,
     entries: &[(u64, Binding)],
-    targets: &[Target],
+    first: &Target,
+    resource: ResourceKind,
+    prefix: &Text,
 ) -> Result<Vec<(u64, Binding)>, AllocError>
-    ensures { IfOk result (λ made. made.items ≡ filter (is_on_one targets.now) entries.now) }
+    ensures { IfOk result (λ made.
+        made.items ≡ filter (is_near first.now resource prefix.now) entries.now) }
 {
     let mut made = Vec::new(alloc);
     for entry in entries {
-        if is_on_one(targets, entry) {
-            made.push(entry.copy(alloc)?)?;
-        }
+        let wanted = is_near(alloc, first, resource, prefix, entry)?;
+        push_if(alloc, &mut made, entry, wanted)?;
     }
     Ok(made)
 }
 
-fn is_matched(entries: &[(u64, Binding)], target: &Target) -> bool
-    ensures { result ≡ list_any (is_on target.now) entries.now }
+fn reaches_among(
+    alloc: Global,
+    supers: &[Principal],
+    names: &NamesBelow,
+    near: &Askers<'_>,
+    operation: Operation,
+) -> Result<Vec<Reach>, AllocError>
+    ensures { IfOk result (λ found. found.items
+        ≡ flat_map (reaches_near supers.now names.now near.now operation)
+        (principals_named near.now)) }
 {
-    entries.iter().any(|entry| is_on(target, entry))
+    let principals = principals_of(alloc, near.entries())?;
+    let mut out = Vec::new(alloc);
+    push_principals(
+        alloc,
+        &mut out,
+        supers,
+        names,
+        near,
+        operation,
+        principals.as_slice(),
+    )?;
+    Ok(out)
 }
 
-fn place_on(alloc: Global, rules: &Authorizer, target: &Target) -> Result<Place, AllocError>
-    ensures { IfOk result (λ made. made ≡ place_on rules.now.contents target.now) }
-{
-    let opened = rules.everyone() && !is_matched(rules.entries(), target);
-    let target = copied_target(alloc, target)?;
-    Ok(Place { target, opened })
-}
-
-/// The targets, with whether each is open to everyone.
-fn places_on(
+/// Copies of the bindings that are on some of the names below the prefix, by rising serial.
+fn near_below(
     alloc: Global,
     rules: &Authorizer,
-    targets: &[Target],
-) -> Result<Vec<Place>, AllocError>
-    ensures { IfOk result (λ made. made.items ≡ map (place_on rules.now.contents) targets.now) }
+    resource: ResourceKind,
+    prefix: &Text,
+) -> Result<Vec<(u64, Binding)>, AllocError>
+    ensures near { IfOk result (λ made.
+        made.items ≡ near_below rules.now.contents resource prefix.now) }
+    ensures rising { IfOk result (λ made. AreRising made.items) }
 {
-    let mut made = Vec::new(alloc);
-    for target in targets {
-        made.push(place_on(alloc, rules, target)?)?;
-    }
-    Ok(made)
+    let first = at_prefix(alloc, resource, prefix)?;
+    near_first(alloc, rules.entries(), &first, resource, prefix)
 }
 
-#[tactic(auto, unfolding(crate::specs::Below::reaches_below))]
+fn reaches_by(
+    alloc: Global,
+    supers: &[Principal],
+    names: &NamesBelow,
+    near: &[(u64, Binding)],
+    operation: Operation,
+) -> Result<Vec<Reach>, AllocError>
+    requires { AreRising near.now }
+    ensures { IfOk result (λ found. found.items
+        ≡ flat_map (reaches_near supers.now names.now near.now operation)
+        (principals_named near.now)) }
+{
+    let askers = Askers::of(alloc, near)?;
+    reaches_among(alloc, supers, names, &askers, operation)
+}
+
+#[tactic(auto, using(crate::proofs::Shares::reaches_so))]
 fn reaches_below(
     alloc: Global,
     rules: &Authorizer,
@@ -266,21 +235,9 @@ fn reaches_below(
     ensures { IfOk result (λ found.
         found.items ≡ reaches_below rules.now.contents operation resource prefix.now) }
 {
-    let mut out = Vec::new(alloc);
-    let targets = targets_below(alloc, rules.entries(), resource, prefix)?;
-    let near = near_below(alloc, rules.entries(), targets.as_slice())?;
-    let places = places_on(alloc, rules, targets.as_slice())?;
-    let principals = principals_of(alloc, near.as_slice())?;
-    push_principals(
-        alloc,
-        &mut out,
-        rules.supers(),
-        places.as_slice(),
-        near.as_slice(),
-        operation,
-        principals.as_slice(),
-    )?;
-    Ok(out)
+    let near = near_below(alloc, rules, resource, prefix)?;
+    let names = names_below(alloc, rules, resource, prefix)?;
+    reaches_by(alloc, rules.supers(), &names, near.as_slice(), operation)
 }
 
 /// Who may do something on the names of a kind that begin with a prefix: on all of them, on some, or

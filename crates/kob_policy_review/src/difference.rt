@@ -299,6 +299,33 @@ fn push_all(
     Ok(())
 }
 
+fn changes_at(
+    alloc: Global,
+    before: &Finder<'_>,
+    after: &Finder<'_>,
+    targets: &[Target],
+) -> Result<Vec<Change>, AllocError>
+    ensures { IfOk result (λ made.
+        made.items ≡ flat_map (changes_on before.now after.now) targets.now) }
+{
+    let mut out = Vec::new(alloc);
+    push_all(alloc, &mut out, before, after, targets)?;
+    Ok(out)
+}
+
+fn changes_to_later(
+    alloc: Global,
+    before: &Finder<'_>,
+    after: &Authorizer,
+    targets: &[Target],
+) -> Result<Vec<Change>, AllocError>
+    ensures { IfOk result (λ made.
+        made.items ≡ flat_map (changes_on before.now after.now.contents) targets.now) }
+{
+    let later = Finder::of(alloc, after)?;
+    changes_at(alloc, before, &later, targets)
+}
+
 #[tactic(auto, unfolding(crate::specs::Difference::changes_of))]
 fn all_changes(
     alloc: Global,
@@ -308,12 +335,9 @@ fn all_changes(
     ensures { IfOk result (λ made.
         made.items ≡ changes_of before.now.contents after.now.contents) }
 {
-    let mut out = Vec::new(alloc);
     let targets = targets_in(alloc, before, after)?;
     let earlier = Finder::of(alloc, before)?;
-    let later = Finder::of(alloc, after)?;
-    push_all(alloc, &mut out, &earlier, &later, targets.as_slice())?;
-    Ok(out)
+    changes_to_later(alloc, &earlier, after, targets.as_slice())
 }
 
 /// What becomes of the answers from one set of rules to another, for principals that are super

@@ -120,7 +120,7 @@ fn walked(alloc: Global, names: &PrefixTree, text: &Text) -> Result<Vec<u64>, Al
 }
 
 /// The serials in order, each once.
-fn in_order(walked: Vec<u64>) -> Vec<u64>
+pub fn in_order(walked: Vec<u64>) -> Vec<u64>
     ensures rising { RiseFrom 0 result.items }
     ensures all { (serial : ℕ) → Contains walked.items serial → Contains result.items serial }
 {

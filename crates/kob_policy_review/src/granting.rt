@@ -1,12 +1,15 @@
 //! What is answered to each principal and host on some names.
 
 ghost use Rattle.std.specs.Prelude.{◌≡◌, ◌++◌, IfOk, OnOk, flat_map, map};
+ghost use Rattle.kob_policy_review.specs.Classes.{principals_named};
 ghost use Rattle.kob_policy_review.specs.Granting.{ListsAnswers, answer_at, answers_by, answers_on};
 ghost use Rattle.kob_policy_review.specs.Granting.{first_met, is_open_on, verdict_by};
 
+use crate::askers::Askers;
 use crate::class::{Target, is_met};
-use crate::matching::{asking, hosts_of, matching, principals_of};
+use crate::matching::{hosts_of, matching};
 use crate::needed::is_super_party;
+use crate::parties::principals_of;
 use kob_authorizer::Authorizer;
 use kob_names::{Binding, Operation, Permission, PlainValue, Principal, Text, Verdict};
 use std::alloc::{AllocError, Global};
@@ -93,7 +96,7 @@ fn push_by(
     out: &mut Vec<Answer>,
     supers: &[Principal],
     opened: bool,
-    matching: &[(u64, Binding)],
+    matching: &Askers<'_>,
     operation: Operation,
     principal: &Option<Text>,
 ) -> Result<(), AllocError>
@@ -103,7 +106,7 @@ fn push_by(
     if is_super_party(supers, principal) {
         return Ok(());
     }
-    let asking = asking(alloc, matching, principal)?;
+    let asking = matching.asking(alloc, principal)?;
     let hosts = hosts_of(alloc, asking.as_slice())?;
     push_from(
         alloc,
@@ -121,7 +124,7 @@ fn push_principals(
     out: &mut Vec<Answer>,
     supers: &[Principal],
     opened: bool,
-    matching: &[(u64, Binding)],
+    matching: &Askers<'_>,
     operation: Operation,
     principals: &[Option<Text>],
 ) -> Result<(), AllocError>
@@ -134,7 +137,32 @@ fn push_principals(
     Ok(())
 }
 
-#[tactic(auto, unfolding(crate::specs::Granting::answers_on))]
+fn answers_among(
+    alloc: Global,
+    supers: &[Principal],
+    opened: bool,
+    matching: &Askers<'_>,
+    operation: Operation,
+) -> Result<Vec<Answer>, AllocError>
+    ensures { IfOk result (λ found. found.items
+        ≡ flat_map (answers_by supers.now opened matching.now operation)
+        (principals_named matching.now)) }
+{
+    let principals = principals_of(alloc, matching.entries())?;
+    let mut out = Vec::new(alloc);
+    push_principals(
+        alloc,
+        &mut out,
+        supers,
+        opened,
+        matching,
+        operation,
+        principals.as_slice(),
+    )?;
+    Ok(out)
+}
+
+#[tactic(auto, unfolding(crate::specs::Granting::answers_on), using(crate::proofs::Asking::still_rising))]
 fn answers_on(
     alloc: Global,
     rules: &Authorizer,
@@ -144,20 +172,10 @@ fn answers_on(
     ensures { IfOk result (λ found.
         found.items ≡ answers_on rules.now.contents operation target.now) }
 {
-    let mut out = Vec::new(alloc);
     let matching = matching(alloc, rules.entries(), target)?;
     let opened = rules.everyone() && matching.is_empty();
-    let principals = principals_of(alloc, matching.as_slice())?;
-    push_principals(
-        alloc,
-        &mut out,
-        rules.supers(),
-        opened,
-        matching.as_slice(),
-        operation,
-        principals.as_slice(),
-    )?;
-    Ok(out)
+    let askers = Askers::of(alloc, matching.as_slice())?;
+    answers_among(alloc, rules.supers(), opened, &askers, operation)
 }
 
 /// What each principal and host is answered on a target, with the binding that decides: those that

@@ -1,6 +1,7 @@
 //! Answers about sets of access rules that hold for every principal, host, operation and name.
 #![tactic(auto)]
 
+mod askers;
 mod below;
 mod class;
 mod difference;
@@ -10,7 +11,9 @@ mod granting;
 mod holding;
 mod laws;
 mod matching;
+mod named_below;
 mod needed;
+mod parties;
 mod redundant;
 mod removal;
 mod shadows;

@@ -1,7 +1,7 @@
-//! The bindings, the principals and the hosts that count on some names.
+//! The bindings and the hosts that count on some names.
 
 ghost use Rattle.std.specs.Prelude.{◌≡◌, ◌++◌, ◌∷◌, [], IfOk, OnOk, filter, fold, if◌then◌else◌};
-ghost use Rattle.kob_policy_review.specs.Classes.{hosts_named, principals_named, with_host, with_principal};
+ghost use Rattle.kob_policy_review.specs.Classes.{hosts_named, with_host};
 ghost use Rattle.kob_policy_review.specs.Classes.{is_for, is_on, is_party, with_party};
 ghost use Rattle.std.specs.List.{list_any};
 
@@ -40,7 +40,7 @@ pub fn matching(
 }
 
 /// A copy of the entry is put last, if it is wanted.
-fn push_if(
+pub fn push_if(
     alloc: Global,
     made: &mut Vec<(u64, Binding)>,
     entry: &(u64, Binding),
@@ -96,17 +96,6 @@ fn add_party(alloc: Global, parties: &mut Vec<Option<Text>>, text: &str) -> Resu
     Ok(())
 }
 
-#[tactic(auto, unfolding(crate::specs::Classes::with_principal))]
-fn add_principal(
-    alloc: Global,
-    made: &mut Vec<Option<Text>>,
-    entry: &(u64, Binding),
-) -> Result<(), AllocError>
-    ensures { OnOk result (made.new.items ≡ with_principal made.old.items entry.now) }
-{
-    add_party(alloc, made, entry.1.parts().principal.as_str())
-}
-
 #[tactic(auto, unfolding(crate::specs::Classes::with_host))]
 fn add_host(
     alloc: Global,
@@ -116,34 +105,6 @@ fn add_host(
     ensures { OnOk result (made.new.items ≡ with_host made.old.items entry.now) }
 {
     add_party(alloc, made, entry.1.parts().host.as_str())
-}
-
-/// The principals that the bindings name, each once, after all others.
-pub fn principals_of(
-    alloc: Global,
-    entries: &[(u64, Binding)],
-) -> Result<Vec<Option<Text>>, AllocError>
-    ensures { IfOk result (λ made. made.items ≡ principals_named entries.now) }
-{
-    let mut made = Vec::new(alloc);
-    made.push(None)?;
-    add_principals(alloc, &mut made, entries)?;
-    Ok(made)
-}
-
-/// Adds the principals that the bindings name.
-#[tactic(auto, using(std::proofs::lemmas::List::Sums::fold_more))]
-pub fn add_principals(
-    alloc: Global,
-    made: &mut Vec<Option<Text>>,
-    entries: &[(u64, Binding)],
-) -> Result<(), AllocError>
-    ensures { OnOk result (made.new.items ≡ fold with_principal made.old.items entries.now) }
-{
-    for entry in entries {
-        add_principal(alloc, made, entry)?;
-    }
-    Ok(())
 }
 
 /// The hosts that the bindings name, each once, after all others.

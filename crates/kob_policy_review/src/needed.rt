@@ -9,7 +9,8 @@ ghost use Rattle.kob_policy_review.specs.Needed.{only_one, unless_allowed};
 
 use crate::class::{Target, is_met};
 use crate::finder::Finder;
-use crate::matching::{OPERATIONS, asking, hosts_of, principals_of};
+use crate::matching::{OPERATIONS, asking, hosts_of};
+use crate::parties::principals_of;
 use crate::targets::targets_of;
 use kob_authorizer::Authorizer;
 use kob_names::{Binding, Operation, Permission, Principal, Text};

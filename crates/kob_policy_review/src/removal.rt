@@ -7,8 +7,8 @@ ghost use Rattle.kob_policy_review.specs.Removal.{ListsRemovable, concerned, is_
 ghost use Rattle.kob_policy_review.specs.Removal.{with_removable};
 
 use crate::gone::Gone;
-use crate::matching::principals_of;
 use crate::needed::push_needed_by;
+use crate::parties::principals_of;
 use crate::sites::Sites;
 use kob_authorizer::Authorizer;
 use kob_names::{Binding, PlainValue, Text};

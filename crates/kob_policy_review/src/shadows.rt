@@ -1,6 +1,6 @@
 //! Allows that a deny always beats.
 
-ghost use Rattle.std.specs.Prelude.{◌≡◌, ◌++◌, IfOk, OnOk, filter, map, nat_eq};
+ghost use Rattle.std.specs.Prelude.{◌≡◌, ◌==◌, ◌++◌, ℕ, IfOk, OnOk, filter, map, nat_eq};
 ghost use Rattle.std.specs.HashSet.{contains};
 ghost use Rattle.std.specs.List.{list_any};
 ghost use Rattle.kob_names.specs.declared.kinds.Permission.TheVariants.{Deny};
@@ -11,8 +11,9 @@ ghost use Rattle.kob_policy_review.specs.Shadows.{shadowed_in};
 
 use crate::class::{Target, is_met};
 use crate::finder::Finder;
-use crate::matching::{OPERATIONS, asking, hosts_of, principals_of};
+use crate::matching::{OPERATIONS, asking, hosts_of};
 use crate::needed::{is_super_party, met};
+use crate::parties::principals_of;
 use crate::redundant::set_of;
 use crate::targets::targets_of;
 use kob_authorizer::Authorizer;
@@ -127,6 +128,15 @@ fn bearing(alloc: Global, beaten: bool, finder: &Finder<'_>) -> Result<Vec<u64>,
     Ok(out)
 }
 
+/// Those serials as a set.
+fn bearing_set(alloc: Global, beaten: bool, finder: &Finder<'_>) -> Result<HashSet<u64>, AllocError>
+    ensures { IfOk result (λ set. (serial : ℕ) → contains nat_eq set serial
+        ≡ list_any (λ other. other == serial) (bearing beaten finder.now)) }
+{
+    let serials = bearing(alloc, beaten, finder)?;
+    set_of(alloc, serials.as_slice())
+}
+
 fn is_between(some: &HashSet<u64>, others: &HashSet<u64>, entry: &(u64, Binding)) -> bool
     ensures { result ≡ is_between (contains nat_eq some.now) (contains nat_eq others.now) entry.now }
 {
@@ -165,9 +175,7 @@ pub fn shadowed(alloc: Global, rules: &Authorizer) -> Result<Vec<u64>, AllocErro
 {
     let entries = rules.entries();
     let finder = Finder::of(alloc, rules)?;
-    let bearing_at_all = bearing(alloc, false, &finder)?;
-    let some = set_of(alloc, bearing_at_all.as_slice())?;
-    let unbeaten = bearing(alloc, true, &finder)?;
-    let others = set_of(alloc, unbeaten.as_slice())?;
+    let some = bearing_set(alloc, false, &finder)?;
+    let others = bearing_set(alloc, true, &finder)?;
     between(alloc, entries, &some, &others)
 }

@@ -9,7 +9,8 @@ ghost use Rattle.kob_policy_review.specs.Difference.{principals_in, sides_on, so
 use crate::class::{Target, is_met};
 use crate::difference::Outcome;
 use crate::finder::Finder;
-use crate::matching::{add_hosts, add_principals, asking, hosts_of, principals_of};
+use crate::matching::{add_hosts, asking, hosts_of};
+use crate::parties::principals_of_both;
 use kob_names::{Binding, Operation, Permission, Text};
 use std::alloc::{AllocError, Global};
 use std::marker::Model;
@@ -57,7 +58,8 @@ pub fn sides_on(
     })
 }
 
-fn is_nothing(entries: &[(u64, Binding)]) -> bool
+/// Whether there is no entry.
+pub fn is_nothing(entries: &[(u64, Binding)]) -> bool
     ensures { result ≡ not (some_in entries.now) }
 {
     entries.is_empty()
@@ -93,9 +95,7 @@ impl Sides {
     pub fn principals(&self, alloc: Global) -> Result<Vec<Option<Text>>, AllocError>
         ensures { IfOk result (λ made. made.items ≡ principals_in self.now) }
     {
-        let mut made = principals_of(alloc, self.before.as_slice())?;
-        add_principals(alloc, &mut made, self.after.as_slice())?;
-        Ok(made)
+        principals_of_both(alloc, self.before.as_slice(), self.after.as_slice())
     }
 
     /// What becomes of the answer to one who is no super user.

@@ -107,15 +107,41 @@ impl Targets {
         Ok(())
     }
 
+    fn push_others(&mut self, alloc: Global, resource: ResourceKind) -> Result<(), AllocError>
+        ensures { OnOk result (self.new ≡ self.old ++ others_on resource ∷ []) }
+    {
+        let target = others_on(alloc, resource)?;
+        self.push(alloc, target)
+    }
+
+    fn push_cluster(&mut self, alloc: Global) -> Result<(), AllocError>
+        ensures { OnOk result (self.new ≡ self.old ++ the_cluster ∷ []) }
+    {
+        let target = the_cluster(alloc)?;
+        self.push(alloc, target)
+    }
+
+    #[tactic(auto, using(std::proofs::Common::append_assoc))]
+    fn push_open(&mut self, alloc: Global) -> Result<(), AllocError>
+        ensures { OnOk result (self.new ≡ self.old ++ open_targets) }
+    {
+        self.push_others(alloc, ResourceKind::Topic)?;
+        self.push_others(alloc, ResourceKind::Group)?;
+        self.push_cluster(alloc)?;
+        self.push_others(alloc, ResourceKind::TransactionalId)
+    }
+
     fn open(alloc: Global) -> Result<Targets, AllocError>
         ensures { IfOk result (λ made. made ≡ open_targets) }
     {
         let mut made = Targets::new(alloc);
-        made.push(alloc, others_on(alloc, ResourceKind::Topic)?)?;
-        made.push(alloc, others_on(alloc, ResourceKind::Group)?)?;
-        made.push(alloc, the_cluster(alloc)?)?;
-        made.push(alloc, others_on(alloc, ResourceKind::TransactionalId)?)?;
-        Ok(made)
+        match made.push_open(alloc) {
+            Ok(()) => Ok(made),
+            Err(refused) => {
+                drop(made);
+                Err(refused)
+            }
+        }
     }
 
     /// The names that a set of rules tells apart, each once.
@@ -123,8 +149,28 @@ impl Targets {
         ensures { IfOk result (λ made. made ≡ targets_named entries.now) }
     {
         let mut made = Targets::open(alloc)?;
-        made.add_all(alloc, entries)?;
-        Ok(made)
+        match made.add_all(alloc, entries) {
+            Ok(()) => Ok(made),
+            Err(refused) => {
+                drop(made);
+                Err(refused)
+            }
+        }
+    }
+
+    fn add_around(
+        &mut self,
+        alloc: Global,
+        entries: &[(u64, Binding)],
+        resource: ResourceKind,
+        prefix: &Text,
+    ) -> Result<(), AllocError>
+        ensures { OnOk result (self.new ≡ fold with_target_of
+            (with_target self.old (at_prefix resource prefix.now)) entries.now) }
+    {
+        let target = at_prefix(alloc, resource, prefix)?;
+        self.add(alloc, target)?;
+        self.add_all(alloc, entries)
     }
 
     /// The names that a set of rules and one more prefix tell apart, each once.
@@ -138,9 +184,13 @@ impl Targets {
             (with_target open_targets (at_prefix resource prefix.now)) entries.now) }
     {
         let mut made = Targets::open(alloc)?;
-        made.add(alloc, at_prefix(alloc, resource, prefix)?)?;
-        made.add_all(alloc, entries)?;
-        Ok(made)
+        match made.add_around(alloc, entries, resource, prefix) {
+            Ok(()) => Ok(made),
+            Err(refused) => {
+                drop(made);
+                Err(refused)
+            }
+        }
     }
 
     /// The targets. Does not allocate.
@@ -193,7 +243,7 @@ fn the_cluster(alloc: Global) -> Result<Target, AllocError>
 }
 
 /// The names that a binding's pattern takes first.
-fn target_of(alloc: Global, entry: &(u64, Binding)) -> Result<Target, AllocError>
+pub fn target_of(alloc: Global, entry: &(u64, Binding)) -> Result<Target, AllocError>
     ensures { IfOk result (λ made. made ≡ target_of entry.now) }
 {
     let binding = entry.1.parts();
@@ -233,7 +283,7 @@ pub fn targets_of(alloc: Global, entries: &[(u64, Binding)]) -> Result<Vec<Targe
 }
 
 /// The names that a prefixed pattern takes first.
-fn at_prefix(alloc: Global, resource: ResourceKind, prefix: &Text) -> Result<Target, AllocError>
+pub fn at_prefix(alloc: Global, resource: ResourceKind, prefix: &Text) -> Result<Target, AllocError>
     ensures { IfOk result (λ made. made ≡ at_prefix resource prefix.now) }
 {
     match resource {
@@ -245,7 +295,7 @@ fn at_prefix(alloc: Global, resource: ResourceKind, prefix: &Text) -> Result<Tar
     }
 }
 
-fn is_below(resource: ResourceKind, prefix: &Text, target: &Target) -> bool
+pub fn is_below(resource: ResourceKind, prefix: &Text, target: &Target) -> bool
     ensures { result ≡ is_below resource prefix.now target.now }
 {
     let text = text_of(&target.names).as_str().as_bytes();

@@ -9,6 +9,7 @@ pub mod Making
 pub mod Moving
 pub mod Numbering
 pub mod Passing
+pub mod Placing
 pub mod Recording
 pub mod Stages
 pub mod Taken

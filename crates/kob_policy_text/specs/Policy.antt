@@ -277,6 +277,11 @@ is_yes policy question = is_granted (may policy question)
 abbrev pub place_of : Policy → ℕ → Option ℕ
 place_of policy serial = position (λ other. other == serial) (serials_of policy)
 
+-- the place where a serial stands first, with one place more at which it stands or does not
+abbrev pub first_place : Option ℕ → Bool → ℕ → Option ℕ
+first_place (Some place) stands more = Some place
+first_place None stands more = if stands then Some more else None
+
 -- the serial that decides, if one does
 abbrev pub deciding : Verdict → Option ℕ
 deciding (verdict.DeniedBy serial) = Some serial

@@ -1,9 +1,9 @@
 //! What bindings name, each once.
 
-ghost use Rattle.std.specs.Prelude.{◌≡◌, [], IfOk, OnOk, codes};
+ghost use Rattle.std.specs.Prelude.{◌≡◌, [], IfOk, OnOk, codes, fold};
 ghost use Rattle.kob_policy_text.specs.AtHand.{each_once, hosts_named, is_one_topic};
 ghost use Rattle.kob_policy_text.specs.AtHand.{names_named, principals_at_hand, principals_named};
-ghost use Rattle.kob_policy_text.specs.AtHand.{topics_named, with_name, with_text, with_topic};
+ghost use Rattle.kob_policy_text.specs.AtHand.{topics_named, with_name, with_principal, with_text, with_topic};
 
 use crate::texts::Texts;
 use kob_names::{Binding, PatternKind, PlainValue, Principal, PrincipalFault, ResourceKind};
@@ -61,6 +61,35 @@ impl Users {
         Ok(())
     }
 
+    #[tactic(auto, using(std::proofs::lemmas::List::Sums::fold_more))]
+    fn add_all(&mut self, alloc: Global, users: &[Principal]) -> Result<(), AllocError>
+        ensures { OnOk result (self.new ≡ fold with_text self.old users.now) }
+    {
+        for user in users {
+            self.add(alloc, user)?;
+        }
+        Ok(())
+    }
+
+    #[tactic(auto, using(std::proofs::lemmas::List::Sums::fold_more))]
+    fn add_named(&mut self, alloc: Global, bindings: &[Binding]) -> Result<(), AllocError>
+        ensures { OnOk result (self.new ≡ fold with_principal self.old bindings.now) }
+    {
+        for binding in bindings {
+            self.add(alloc, &binding.parts().principal)?;
+        }
+        Ok(())
+    }
+
+    fn add_at_hand(&mut self, alloc: Global, bindings: &[Binding]) -> Result<(), AllocError>
+        ensures { OnOk result (self.new
+            ≡ fold with_principal (with_text self.old (codes "User:*")) bindings.now) }
+    {
+        let others = every_user(alloc)?;
+        self.add(alloc, &others)?;
+        self.add_named(alloc, bindings)
+    }
+
     fn into_vec(self) -> Vec<Principal>
         ensures { result.items ≡ self }
     {
@@ -69,29 +98,32 @@ impl Users {
 }
 
 /// The users in the order in which they first stand there.
-#[tactic(auto, using(std::proofs::lemmas::List::Sums::fold_more))]
 pub fn each_once(alloc: Global, users: &[Principal]) -> Result<Vec<Principal>, AllocError>
     ensures { IfOk result (λ made. made.items ≡ each_once users.now) }
 {
     let mut made = Users::new(alloc);
-    for user in users {
-        made.add(alloc, user)?;
+    match made.add_all(alloc, users) {
+        Ok(()) => Ok(made.into_vec()),
+        Err(refused) => {
+            drop(made);
+            Err(refused)
+        }
     }
-    Ok(made.into_vec())
 }
 
 /// `User:*`, which asks as all others do, and the principals that bindings name, in the order in
 /// which they are first named.
-#[tactic(auto, using(std::proofs::lemmas::List::Sums::fold_more))]
 pub fn principals_at_hand(alloc: Global, bindings: &[Binding]) -> Result<Vec<Principal>, AllocError>
     ensures { IfOk result (λ made. made.items ≡ principals_at_hand bindings.now) }
 {
     let mut principals = Users::new(alloc);
-    principals.add(alloc, &every_user(alloc)?)?;
-    for binding in bindings {
-        principals.add(alloc, &binding.parts().principal)?;
+    match principals.add_at_hand(alloc, bindings) {
+        Ok(()) => Ok(principals.into_vec()),
+        Err(refused) => {
+            drop(principals);
+            Err(refused)
+        }
     }
-    Ok(principals.into_vec())
 }
 
 /// The principals that bindings name.

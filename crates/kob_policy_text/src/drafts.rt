@@ -24,8 +24,16 @@ pub fn binding_of(alloc: Global, draft: &Draft) -> Result<Binding, LineError>
     }
 }
 
+/// A binding that covers nobody, on the pattern of what is left out. The fault is `BadName`.
+pub fn closing_binding(alloc: Global, draft: &Draft) -> Result<Binding, LineError>
+    ensures { Gives result (binding_of (closing_of draft.now)) }
+{
+    let closing = closing_of(alloc, draft)?;
+    binding_of(alloc, &closing)
+}
+
 /// A binding that covers nobody, on the pattern of another.
-pub fn closing_of(alloc: Global, draft: &Draft) -> Result<Draft, AllocError>
+fn closing_of(alloc: Global, draft: &Draft) -> Result<Draft, AllocError>
     ensures { IfOk result (λ made. made ≡ closing_of draft.now) }
 {
     let principal = nobody(alloc)?;

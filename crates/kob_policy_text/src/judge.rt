@@ -11,6 +11,7 @@ use crate::asked::Asked;
 use crate::at_hand::principals_named;
 use crate::patterns::Patterns;
 use crate::policy::Policy;
+use crate::serials::Serials;
 use crate::texts::Texts;
 use kob_authorizer::{Authorizer, CreateFault};
 use kob_names::{Items, Principal, Verdict};
@@ -22,7 +23,7 @@ use std::marker::Model;
 pub struct Judge {
     policy: Policy,
     authorizer: Authorizer,
-    serials: Vec<u64>,
+    serials: Serials,
     users: Texts,
     patterns: Patterns,
 }
@@ -39,7 +40,7 @@ impl Model for Judge {
     ghost view = { λ judge. judge.policy };
 
     ghost invariant = { λ judge. (judge.authorizer.contents ≡ contents_of judge.policy)
-        × ((judge.serials.items ≡ serials_of judge.policy)
+        × ((judge.serials ≡ serials_of judge.policy)
         × ((judge.users ≡ principals_named judge.policy.bindings)
         × (judge.patterns ≡ taken_of judge.policy))) };
 }
@@ -105,7 +106,7 @@ impl Judge {
     pub fn place_of(&self, serial: u64) -> Option<usize>
         ensures { result ≡ place_of self.now serial }
     {
-        self.serials.iter().position(|other| *other == serial)
+        self.serials.place_of(serial)
     }
 
     /// Whether a binding names the principal.
@@ -139,34 +140,56 @@ struct Named {
 }
 
 #[tactic(auto, unfolding(crate::specs::Taking::taken_of))]
+fn patterns_in(alloc: Global, policy: &Policy) -> Result<Patterns, AllocError>
+    ensures { IfOk result (λ made. made ≡ taken_of policy.now) }
+{
+    let mut patterns = Patterns::of(alloc, policy.bindings())?;
+    match patterns.add_all(alloc, policy.closings()) {
+        Ok(()) => Ok(patterns),
+        Err(refused) => {
+            drop(patterns);
+            Err(refused)
+        }
+    }
+}
+
 fn named_in(alloc: Global, policy: &Policy) -> Result<Named, AllocError>
     ensures { IfOk result (λ made. (made.users ≡ principals_named policy.now.bindings)
         × (made.patterns ≡ taken_of policy.now)) }
 {
     let users = principals_named(alloc, policy.bindings())?;
-    let mut patterns = Patterns::of(alloc, policy.bindings())?;
-    patterns.add_all(alloc, policy.closings())?;
-    Ok(Named { users, patterns })
+    match patterns_in(alloc, policy) {
+        Ok(patterns) => Ok(Named { users, patterns }),
+        Err(refused) => {
+            drop(users);
+            Err(refused)
+        }
+    }
 }
 
-fn parts_of(alloc: Global, policy: &Policy) -> Result<(Named, Authorizer, Vec<u64>), CreateFault>
+fn parts_of(alloc: Global, policy: &Policy) -> Result<(Named, Authorizer, Serials), CreateFault>
     ensures named { IfOk result (λ made. (made.0.users ≡ principals_named policy.now.bindings)
         × (made.0.patterns ≡ taken_of policy.now)) }
     ensures made { IfOk result (λ made. (made.1.contents ≡ contents_of policy.now)
-        × (made.2.items ≡ serials_of policy.now)) }
+        × (made.2 ≡ serials_of policy.now)) }
     ensures fault { IfErr result (λ fault. fault ≢ CreateFault.Memory alloc_error
         → open_fault policy.now ≡ Some fault) }
 {
     let named = named_in(alloc, policy)?;
-    let (authorizer, serials) = in_force(alloc, policy)?;
-    Ok((named, authorizer, serials))
+    match in_force(alloc, policy) {
+        Ok((authorizer, serials)) => Ok((named, authorizer, serials)),
+        Err(fault) => {
+            drop(named);
+            Err(fault)
+        }
+    }
 }
 
 /// The authorizer with the bindings of a policy, and their serials.
 #[tactic(auto, unfolding(crate::specs::Policy::contents_of, crate::specs::Policy::serials_of))]
-fn in_force(alloc: Global, policy: &Policy) -> Result<(Authorizer, Vec<u64>), CreateFault>
+fn in_force(alloc: Global, policy: &Policy) -> Result<(Authorizer, Serials), CreateFault>
     ensures made { IfOk result (λ made. (made.0.contents ≡ contents_of policy.now)
-        × (made.1.items ≡ serials_of policy.now)) }
+        × (made.1 ≡ serials_of policy.now)) }
     ensures fault { IfErr result (λ fault. fault ≢ CreateFault.Memory alloc_error
         → open_fault policy.now ≡ Some fault) }
 {
@@ -187,12 +210,12 @@ fn create_all(
     alloc: Global,
     authorizer: &mut Authorizer,
     policy: &Policy,
-) -> Result<Vec<u64>, CreateFault>
+) -> Result<Serials, CreateFault>
     requires entries { authorizer.old.contents.entries ≡ [] }
     requires next { authorizer.old.contents.next ≡ 1 }
     ensures entries { OnOk result (authorizer.new.contents.entries ≡ (closed policy.now).entries) }
     ensures next { OnOk result (authorizer.new.contents.next ≡ (closed policy.now).next) }
-    ensures serials { IfOk result (λ serials. serials.items ≡ (added policy.now).serials) }
+    ensures serials { IfOk result (λ serials. serials ≡ (added policy.now).serials) }
     ensures supers { authorizer.new.contents.supers ≡ authorizer.old.contents.supers }
     ensures everyone { authorizer.new.contents.everyone ≡ authorizer.old.contents.everyone }
     ensures fault { IfErr result (λ fault. fault ≢ CreateFault.Memory alloc_error
@@ -200,7 +223,7 @@ fn create_all(
 {
     let serials = authorizer.create(alloc, policy.bindings())?;
     authorizer.create(alloc, policy.closings())?;
-    Ok(serials)
+    Ok(Serials::of(alloc, serials)?)
 }
 
 /// The serial that decides, if one does.

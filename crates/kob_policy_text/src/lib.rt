@@ -39,6 +39,7 @@ mod release;
 mod removable;
 mod rights;
 mod rows;
+mod serials;
 mod shadowed;
 mod shell;
 mod summary;

@@ -52,8 +52,13 @@ impl Patterns {
         ensures { IfOk result (λ made. made ≡ patterns_of bindings.now) }
     {
         let mut made = Patterns::new();
-        made.add_all(alloc, bindings)?;
-        Ok(made)
+        match made.add_all(alloc, bindings) {
+            Ok(()) => Ok(made),
+            Err(refused) => {
+                drop(made);
+                Err(refused)
+            }
+        }
     }
 
     /// Adds the names of the patterns of bindings.

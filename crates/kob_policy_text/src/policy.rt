@@ -7,7 +7,7 @@ ghost use Rattle.kob_policy_text.specs.Policy.{with_draft, with_draft_left_out, 
 ghost use Rattle.kob_policy_text.specs.Policy.{with_heading, with_item, with_omission, with_row, with_skipped};
 ghost use Rattle.kob_script.specs.Words.{GivesSeen};
 
-use crate::drafts::{binding_of, closing_of, draft_under, has_bad_heading};
+use crate::drafts::{binding_of, closing_binding, draft_under, has_bad_heading};
 use crate::item::{Grant, Item, LeftOut, Target};
 use crate::lines::is_heading_line;
 use crate::origin::{Omission, Origin};
@@ -217,10 +217,14 @@ impl Policy {
     ) -> Result<(), LineError>
         ensures { GivesSeen (λ _. self.new) result (with_draft_left_out self.old origin.now what draft.now) }
     {
-        let closing = closing_of(alloc, draft)?;
-        let closing = binding_of(alloc, &closing)?;
-        self.add_omission(alloc, origin, what, draft.permission == Permission::Deny)?;
-        Ok(self.add_closing(what, closing)?)
+        let closing = closing_binding(alloc, draft)?;
+        match self.add_omission(alloc, origin, what, draft.permission == Permission::Deny) {
+            Ok(()) => Ok(self.add_closing(what, closing)?),
+            Err(refused) => {
+                drop(closing);
+                Err(LineError::Memory(refused))
+            }
+        }
     }
 
     fn add_draft(&mut self, alloc: Global, origin: &Origin, draft: &Draft) -> Result<(), LineError>

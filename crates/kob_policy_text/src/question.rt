@@ -151,10 +151,14 @@ impl Questions {
         ensures { GivesSeen (λ _. self.new) result
             (with_question line.now self.old first.now words.now) }
     {
-        let question = question_by(alloc, first, words)?;
         let text = Bytes::copied(alloc, trimmed(line))?;
-        self.asked.push(Query { text, question })?;
-        Ok(())
+        match question_by(alloc, first, words) {
+            Ok(question) => Ok(self.asked.push(Query { text, question })?),
+            Err(error) => {
+                drop(text);
+                Err(error)
+            }
+        }
     }
 }
 

@@ -1,7 +1,7 @@
-use Rattle.std.proofs.Common.{IfOk, List, ap, map, nat_eq, subst, sym, ℕ, ◌==◌, ◌≡◌, ◌∙◌}
+use Rattle.std.proofs.Common.{IfOk, List, ap, map, nat_eq, subst, sym, ℕ, ◌≡◌, ◌∙◌}
 use Rattle.std.proofs.lemmas.Result.{IfOk-weaker}
 use Rattle.std.specs.HashSet.{contains}
-use Rattle.std.specs.List.{filter, list_any}
+use Rattle.std.specs.List.{filter}
 use Rattle.kob_names.specs.Binding.{Binding}
 use Rattle.kob_authorizer.specs.Decide.{Contents, IsRising}
 use Rattle.kob_policy_review.proofs.Shadowing.{between_are, lists_between}
@@ -20,10 +20,7 @@ returns-clause-exact c =
     (subst (λ (r : Contents). IsRising 1 r.entries r.next) (sym is)
     (subst (λ (es : List (ℕ × Binding)). IsRising 1 es c.args.rules.now.contents.next) given.entries given.rising))
     (contains nat_eq c.in_ok-some.some) (contains nat_eq c.in_ok-others.others)
-    (λ serial. c.in_ok-some.ensures serial
-    ∙ ap (list_any (λ other. other == serial)) (c.as_slice.ensures.value ∙ c.in_ok-bearing_at_all.ensures))
-    (λ serial. c.in_ok-others.ensures serial
-    ∙ ap (list_any (λ other. other == serial)) (c.as_slice-2.ensures.value ∙ c.in_ok-unbeaten.ensures))
+    c.in_ok-some.ensures c.in_ok-others.ensures
     found.items
     (subst (λ (es : List (ℕ × Binding)). found.items ≡ map serial_of_entry
     (filter (is_between (contains nat_eq c.in_ok-some.some) (contains nat_eq c.in_ok-others.others)) es))
@@ -40,10 +37,7 @@ returns-clause-listed c =
     (λ found listed.
     between_are rules
     (contains nat_eq c.in_ok-some.some) (contains nat_eq c.in_ok-others.others)
-    (λ serial. c.in_ok-some.ensures serial
-    ∙ ap (list_any (λ other. other == serial)) (c.as_slice.ensures.value ∙ c.in_ok-bearing_at_all.ensures))
-    (λ serial. c.in_ok-others.ensures serial
-    ∙ ap (list_any (λ other. other == serial)) (c.as_slice-2.ensures.value ∙ c.in_ok-unbeaten.ensures))
+    c.in_ok-some.ensures c.in_ok-others.ensures
     found.items
     (subst (λ (es : List (ℕ × Binding)). found.items ≡ map serial_of_entry
     (filter (is_between (contains nat_eq c.in_ok-some.some) (contains nat_eq c.in_ok-others.others)) es))
