@@ -10,7 +10,7 @@ _kob() {
     elif [ "$task" = export ] && [[ $word == -* ]]; then
         mapfile -t COMPREPLY < <(compgen -W "--connect --table --help" -- "$word")
     elif [ "$task" = policy ] && [[ $word == -* ]]; then
-        mapfile -t COMPREPLY < <(compgen -W "--policy --questions --topics --before --after --commands --kafka --skip --next --help" -- "$word")
+        mapfile -t COMPREPLY < <(compgen -W "--policy --questions --topics --before --after --commands --kafka --skip --json --csv --next --help" -- "$word")
     else
         mapfile -t COMPREPLY < <(compgen -f -- "$word")
     fi

@@ -18,4 +18,6 @@ complete -c kob -n '__fish_seen_subcommand_from policy' -l after -r -d 'the bind
 complete -c kob -n '__fish_seen_subcommand_from policy' -l kafka -r -d 'the release of the brokers'
 complete -c kob -n '__fish_seen_subcommand_from policy' -l commands -d 'prints the lines of kafka-acls that lead to --after'
 complete -c kob -n '__fish_seen_subcommand_from policy' -l skip -d 'continues after what is left out'
+complete -c kob -n '__fish_seen_subcommand_from policy' -l json -d 'prints objects of JSON'
+complete -c kob -n '__fish_seen_subcommand_from policy' -l csv -d 'prints one answer as a table'
 complete -c kob -n '__fish_seen_subcommand_from policy' -l next -d 'begins another list'

@@ -3,8 +3,10 @@
 
 use crate::ending::Ending;
 use crate::input::{Kind, text_of};
-use crate::policy_answers::{lead, push_answers, push_review};
-use crate::policy_options::{Options, parts_of};
+use crate::policy_answers::{
+    lead, push_answers, push_fault, push_heading, push_omissions, push_review,
+};
+use crate::policy_options::{AnswerForm, Options, parts_of};
 use crate::report;
 use crate::running::say;
 use crate::source::{Source, questions_in, say_fault};
@@ -12,10 +14,9 @@ use crate::stages::Stages;
 use kob_authorizer::CreateFault;
 use kob_mistakes::{Lines, begins_question};
 use kob_names::Text;
-use kob_policy_text::{
-    Judge, Policy, Questions, print_omissions, read_file, read_questions, read_topics,
-};
-use kob_script::{ScriptError, print_fault};
+use kob_policy_rows::is_table;
+use kob_policy_text::{Judge, Policy, Questions, read_file, read_questions, read_topics};
+use kob_script::ScriptError;
 use std::alloc::AllocError;
 use std::io::{self, Write};
 use std::rt::{Clock, Files};
@@ -79,27 +80,15 @@ fn print_part<R: AllocGlobal + Clock + Files + Input + Eprint>(
     headed: bool,
 ) -> Result<Ending, Stop> {
     if headed {
-        push_heading(out, options)?;
+        if options.form == AnswerForm::Csv {
+            return Ok(report::several_tables(rt));
+        }
+        push_heading(rt.alloc(), out, options)?;
     }
     let mut answers = Vec::new(rt.alloc());
     let ended = answer_part(rt, stages, &mut answers, options);
     out.extend_from_slice(&answers)?;
     ended
-}
-
-/// `==` and the names of the files of bindings.
-fn push_heading(out: &mut Vec<u8>, options: &Options) -> Result<(), AllocError> {
-    out.extend_from_slice(b"==")?;
-    if options.policy.is_empty() && options.before.is_empty() {
-        out.extend_from_slice(b" -")?;
-    }
-    for files in [&options.policy, &options.before, &options.after] {
-        for file in files.as_slice() {
-            out.extend_from_slice(b" ")?;
-            out.extend_from_slice(file.as_bytes())?;
-        }
-    }
-    out.extend_from_slice(b"\n")
 }
 
 /// Answers the questions of a part.
@@ -111,10 +100,32 @@ fn answer_part<R: AllocGlobal + Clock + Files + Input + Eprint>(
 ) -> Result<Ending, Stop> {
     let mut questions = Questions::new(rt.alloc());
     push_questions(rt, out, &mut questions, options)?;
+    if options.form == AnswerForm::Csv {
+        unless_one_table(rt, options, &questions)?;
+    }
     if options.before.is_empty() {
         answer_by_one(rt, stages, out, options, &questions)
     } else {
         review(rt, stages, out, options, &questions)
+    }
+}
+
+/// Reports what is asked beside `--csv`, unless it is one table.
+fn unless_one_table<R: AllocGlobal + Eprint>(
+    rt: &R,
+    options: &Options,
+    questions: &Questions,
+) -> Result<(), Stop> {
+    match questions.asked() {
+        [] if !options.before.is_empty() => Ok(()),
+        [query] if options.before.is_empty() => {
+            if is_table(&query.question) {
+                Ok(())
+            } else {
+                Err(Stop(report::no_table(rt, query.text.as_slice())))
+            }
+        }
+        _ => Err(Stop(report::several_tables(rt))),
     }
 }
 
@@ -130,21 +141,45 @@ fn push_questions<R: AllocGlobal + Files + Input + Eprint>(
     for file in options.topics.as_slice() {
         let text = list_of(rt, file.as_str())?;
         let read = read_topics(alloc, questions, &text);
-        unless_fault(rt, out, &questions_in(file.as_str(), &text), read)?;
+        unless_fault(
+            rt,
+            options.form,
+            out,
+            &questions_in(file.as_str(), &text),
+            read,
+        )?;
     }
     for file in options.questions.as_slice() {
         let text = list_of(rt, file.as_str())?;
         let read = read_questions(alloc, questions, &text);
-        unless_fault(rt, out, &questions_in(file.as_str(), &text), read)?;
+        unless_fault(
+            rt,
+            options.form,
+            out,
+            &questions_in(file.as_str(), &text),
+            read,
+        )?;
     }
     for word in options.words.as_slice() {
         let text = word.as_str().as_bytes();
         let read = read_questions(alloc, questions, text);
-        unless_fault(rt, out, &questions_in(word.as_str(), text), read)?;
+        unless_fault(
+            rt,
+            options.form,
+            out,
+            &questions_in(word.as_str(), text),
+            read,
+        )?;
     }
     if options.before.is_empty() && questions.asked().is_empty() {
         let read = read_questions(alloc, questions, b"summary");
-        unless_fault(rt, out, &questions_in("summary", b"summary"), read)?;
+        unless_fault(
+            rt,
+            options.form,
+            out,
+            &questions_in("summary", b"summary"),
+            read,
+        )?;
     }
     Ok(())
 }
@@ -163,10 +198,11 @@ fn list_of<R: AllocGlobal + Files + Input + Eprint>(rt: &R, file: &str) -> Resul
     }
 }
 
-/// Prints a fault as `FILE fault line LINE KIND` in place of all that was to be printed, and says
-/// on standard error which word of the line is wrong.
+/// Prints a fault in place of all that was to be printed, and says on standard error which word of
+/// the line is wrong.
 fn unless_fault<R: AllocGlobal + Eprint>(
     rt: &R,
+    form: AnswerForm,
     out: &mut Vec<u8>,
     source: &Source<'_>,
     read: Result<(), ScriptError>,
@@ -176,9 +212,7 @@ fn unless_fault<R: AllocGlobal + Eprint>(
         Err(ScriptError::Memory(_)) => Err(Stop(Ending::OutOfMemory)),
         Err(ScriptError::Fault(fault)) => {
             out.clear();
-            out.extend_from_slice(source.name.as_bytes())?;
-            out.extend_from_slice(b" ")?;
-            print_fault(out, fault)?;
+            push_fault(rt.alloc(), form, out, source.name, fault)?;
             say_fault(rt, source, fault);
             Err(Stop(Ending::Failed))
         }
@@ -197,7 +231,7 @@ fn judge_of<R: AllocGlobal + Clock + Files + Input + Eprint>(
     let mut policy = Policy::new(rt.alloc());
     for group in files {
         for file in *group {
-            read_list(rt, stages, out, &mut policy, file.as_str())?;
+            read_list(rt, stages, options.form, out, &mut policy, file.as_str())?;
         }
     }
     open_judge(rt, stages, out, options, policy)
@@ -210,8 +244,8 @@ fn open_judge<R: AllocGlobal + Clock + Eprint>(
     options: &Options,
     mut policy: Policy,
 ) -> Result<Judge, Stop> {
-    read_releases(rt, out, &mut policy, &options.kafka)?;
-    print_omissions(out, &policy)?;
+    read_releases(rt, options, out, &mut policy)?;
+    push_omissions(rt, options.form, out, &policy)?;
     report::skipped(rt, policy.skipped().len());
     if !options.skip && !policy.omissions().is_empty() {
         report::left_out(rt, policy.omissions().len());
@@ -229,17 +263,19 @@ fn open_judge<R: AllocGlobal + Clock + Eprint>(
 fn read_list<R: AllocGlobal + Clock + Files + Input + Eprint>(
     rt: &R,
     stages: Stages,
+    form: AnswerForm,
     out: &mut Vec<u8>,
     policy: &mut Policy,
     file: &str,
 ) -> Result<(), Stop> {
     let text = list_of(rt, file)?;
     stages.read(rt, file, text.len(), policy.bindings().len());
-    read_text(rt, out, policy, file, &text)
+    read_text(rt, form, out, policy, file, &text)
 }
 
 fn read_text<R: AllocGlobal + Eprint>(
     rt: &R,
+    form: AnswerForm,
     out: &mut Vec<u8>,
     policy: &mut Policy,
     name: &str,
@@ -252,19 +288,19 @@ fn read_text<R: AllocGlobal + Eprint>(
         text,
         lines: Lines::Bindings,
     };
-    unless_fault(rt, out, &source, read)
+    unless_fault(rt, form, out, &source, read)
 }
 
 /// Reads each `--kafka VERSION` as a line `kafka VERSION` behind all files.
 fn read_releases<R: AllocGlobal + Eprint>(
     rt: &R,
+    options: &Options,
     out: &mut Vec<u8>,
     policy: &mut Policy,
-    releases: &[String],
 ) -> Result<(), Stop> {
-    for release in releases {
+    for release in options.kafka.as_slice() {
         let text = format!(in rt.alloc(); "kafka {release}")?;
-        read_text(rt, out, policy, "--kafka", text.as_bytes())?;
+        read_text(rt, options.form, out, policy, "--kafka", text.as_bytes())?;
     }
     Ok(())
 }
@@ -277,7 +313,7 @@ fn answer_by_one<R: AllocGlobal + Clock + Files + Input + Eprint>(
     questions: &Questions,
 ) -> Result<Ending, Stop> {
     let judge = listed(rt, stages, out, options)?;
-    let answered = answer_about(rt, stages, out, questions, &judge);
+    let answered = answer_about(rt, stages, options.form, out, questions, &judge);
     drop(judge);
     Ok(answered?)
 }
@@ -285,13 +321,14 @@ fn answer_by_one<R: AllocGlobal + Clock + Files + Input + Eprint>(
 fn answer_about<R: AllocGlobal + Clock + Eprint>(
     rt: &R,
     stages: Stages,
+    form: AnswerForm,
     out: &mut Vec<u8>,
     questions: &Questions,
     judge: &Judge,
 ) -> Result<Ending, AllocError> {
     let bindings = judge.policy().bindings().len();
     stages.answer(rt, questions.asked().len(), bindings);
-    push_answers(rt.alloc(), out, judge, questions)
+    push_answers(rt.alloc(), form, out, judge, questions)
 }
 
 /// The list of the options, in force; without one, standard input.
@@ -315,7 +352,7 @@ fn judge_of_input<R: AllocGlobal + Clock + Files + Input + Eprint>(
     options: &Options,
 ) -> Result<Judge, Stop> {
     let mut policy = Policy::new(rt.alloc());
-    match read_list(rt, stages, out, &mut policy, "-") {
+    match read_list(rt, stages, options.form, out, &mut policy, "-") {
         Ok(()) => open_judge(rt, stages, out, options, policy),
         Err(stop) => {
             drop(policy);
@@ -359,7 +396,7 @@ fn review_from<R: AllocGlobal + Clock + Files + Input + Eprint>(
     let reviewed = if options.commands {
         lead(rt, out, questions, before, &after)
     } else {
-        push_review(rt.alloc(), out, questions, before, &after)
+        push_review(rt.alloc(), options.form, out, questions, before, &after)
     };
     drop(after);
     Ok(reviewed?)

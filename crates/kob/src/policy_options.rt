@@ -20,6 +20,18 @@ pub struct Options {
     pub skip: bool,
     /// The commands that lead from `before` to `after` are printed, and nothing else.
     pub commands: bool,
+    pub form: AnswerForm,
+}
+
+/// How answers are printed.
+#[derive(Clone, Copy, Debug, PartialEq, Eq)]
+pub enum AnswerForm {
+    /// In words, below their questions.
+    Words,
+    /// As objects of JSON.
+    Json,
+    /// As one table of comma-separated values.
+    Csv,
 }
 
 /// The options of `policy`.
@@ -43,6 +55,12 @@ pub fn command<'a>(alloc: Global) -> Result<Command<'a>, AllocError> {
             .conflicts_with("questions")?
             .conflicts_with("topics")?,
     )?;
+    made = made.arg(
+        flag(alloc, "json")
+            .conflicts_with("csv")?
+            .conflicts_with("commands")?,
+    )?;
+    made = made.arg(flag(alloc, "csv").conflicts_with("commands")?)?;
     made.arg(
         Arg::new(alloc, "QUESTION")
             .num_args(0..)
@@ -92,6 +110,7 @@ fn options_in(alloc: Global, matches: &ArgMatches<'_>) -> Result<Options, AllocE
         words: Vec::new(alloc),
         skip: matches.get_flag("skip"),
         commands: matches.get_flag("commands"),
+        form: form_in(matches),
     };
     for word in values_of(alloc, matches, "QUESTION")? {
         if is_question(word.as_str()) {
@@ -101,6 +120,16 @@ fn options_in(alloc: Global, matches: &ArgMatches<'_>) -> Result<Options, AllocE
         }
     }
     Ok(options)
+}
+
+fn form_in(matches: &ArgMatches<'_>) -> AnswerForm {
+    if matches.get_flag("json") {
+        AnswerForm::Json
+    } else if matches.get_flag("csv") {
+        AnswerForm::Csv
+    } else {
+        AnswerForm::Words
+    }
 }
 
 /// Whether a word of the command line is a question: it has a blank, or is a question of one word.
