@@ -88,7 +88,12 @@ fn push_fault_object(
 ) -> Result<(), AllocError> {
     let mut text = Vec::new(alloc);
     print_fault(&mut text, fault)?;
-    let kind = text.as_slice().trim_end().rsplit_str(b" ").next().unwrap_or(b"");
+    let kind = text
+        .as_slice()
+        .trim_end()
+        .rsplit_str(b" ")
+        .next()
+        .unwrap_or(b"");
     let kind = str::from_utf8(kind).unwrap_or("");
     let mut rows = Vec::new(alloc);
     rows.push(fault_row(alloc, name, fault.line, kind)?)?;

@@ -87,7 +87,21 @@ pub fn parts_of(alloc: Global, words: &[String]) -> Result<Vec<Options>, Error> 
         let options = options_of(alloc, part)?;
         parts.push(options).map_err(AllocError::from)?;
     }
+    share_form(&mut parts);
     Ok(parts)
+}
+
+/// One form counts for all parts: the first one that is asked for.
+fn share_form(parts: &mut [Options]) {
+    let asked = parts
+        .iter()
+        .map(|part| part.form)
+        .find(|form| *form != AnswerForm::Words);
+    if let Some(form) = asked {
+        for part in parts {
+            part.form = form;
+        }
+    }
 }
 
 /// The options that words give. The error is what is wrong with the words, or the page of help.
