@@ -195,10 +195,17 @@ abbrev pub idle_cells : Policy → List Cell
 idle_cells policy =
     Number (unused_count policy) ∷ count_of (shadowed_in (contents_of policy)) ∷ []
 
+-- bindings, and whom and what they name
+unfoldable pub named_cells : Policy → List Cell
+named_cells policy =
+    count_of policy.bindings ∷ (parties_cells policy ++ patterns_cells policy)
+
+-- what is not read, and what does nothing
+unfoldable pub other_cells : Policy → List Cell
+other_cells policy = count_of policy.omissions ∷ count_of policy.skipped ∷ idle_cells policy
+
 unfoldable pub summary_row : Policy → List Cell
-summary_row policy =
-    count_of policy.bindings ∷ (parties_cells policy ++ patterns_cells policy
-    ++ count_of policy.omissions ∷ count_of policy.skipped ∷ idle_cells policy)
+summary_row policy = named_cells policy ++ other_cells policy
 
 -- Bindings that do nothing.
 

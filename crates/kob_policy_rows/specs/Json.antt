@@ -66,11 +66,19 @@ verdict_tokens policy Unused = []
 verdict_tokens policy Shadowed = []
 verdict_tokens policy Removable = []
 
+unfoldable pub number_tokens : ℕ → List Token
+number_tokens count = key (codes "number") ∷ number (decimal count) ∷ []
+
+unfoldable pub question_tokens : List ℕ → List Token
+question_tokens text = key (codes "question") ∷ string (shown_text text) ∷ []
+
+unfoldable pub kind_tokens : Question → List Token
+kind_tokens question = key (codes "kind") ∷ string (kind_of question) ∷ []
+
 -- number, question and kind
 unfoldable pub query_tokens : ℕ → Query → List Token
 query_tokens count query =
-    key (codes "number") ∷ number (decimal count) ∷ key (codes "question")
-    ∷ string (shown_text query.text) ∷ key (codes "kind") ∷ string (kind_of query.question) ∷ []
+    number_tokens count ++ question_tokens query.text ++ kind_tokens query.question
 
 -- the rows of the answer
 unfoldable pub rows_tokens : Policy → List (List ℕ) → Question → List Token

@@ -1,6 +1,6 @@
 //! Rows of bindings: those that no answer needs, those that a deny beats, those that may go.
 
-ghost use Rattle.std.specs.Prelude.{◌≡◌, ◌++◌, ◌∷◌, OnOk, None, Some, flat_map};
+ghost use Rattle.std.specs.Prelude.{◌≡◌, ◌++◌, ◌∷◌, [], OnOk, Some, flat_map};
 ghost use Rattle.std.specs.Option.{option_copied};
 ghost use Rattle.kob_policy_review.specs.Removal.{removable_in};
 ghost use Rattle.kob_policy_review.specs.Shadows.{shadowed_in};
@@ -79,6 +79,23 @@ fn push_why(alloc: Global, row: &mut Vec<Cell>, why: Option<Reason>) -> Result<(
     }
 }
 
+fn push_whole(
+    alloc: Global,
+    rows: &mut Vec<Items<Cell>>,
+    serial: u64,
+    binding: &Binding,
+    origin: Option<&Origin>,
+    why: Option<Reason>,
+) -> Result<(), AllocError>
+    ensures { OnOk result (rows.new.items ≡ rows.old.items
+        ++ (binding_cells serial binding.now (option_copied origin.entry) ++ why_cells why) ∷ []) }
+{
+    let mut row = Vec::new(alloc);
+    push_binding(alloc, &mut row, serial, binding, origin)?;
+    push_why(alloc, &mut row, why)?;
+    push_row(rows, row)
+}
+
 fn push_at(
     alloc: Global,
     rows: &mut Vec<Items<Cell>>,
@@ -91,19 +108,11 @@ fn push_at(
 {
     let policy = judge.policy();
     let serial = judge.serials().get(place).copied().unwrap_or(0);
-    let Some(binding) = policy.bindings().get(place) else {
-        return Ok(());
-    };
-    let mut row = Vec::new(alloc);
-    push_binding(
-        alloc,
-        &mut row,
-        serial,
-        binding,
-        policy.origins().get(place),
-    )?;
-    push_why(alloc, &mut row, why)?;
-    push_row(rows, row)
+    let origin = policy.origins().get(place);
+    match policy.bindings().get(place) {
+        None => Ok(()),
+        Some(binding) => push_whole(alloc, rows, serial, binding, origin, why),
+    }
 }
 
 /// The binding with a serial, if it stands in a list.

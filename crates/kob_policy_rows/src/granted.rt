@@ -40,7 +40,7 @@ fn push_cells(
     verdict: Verdict,
 ) -> Result<(), AllocError>
     ensures { OnOk result (row.new.items ≡ row.old.items
-        ++ who_row judge.now right.now party.principal.now party.host.now verdict) }
+        ++ who_row judge.now right.now party.entry.principal.now party.entry.host.now verdict) }
 {
     push_right(alloc, row, right)?;
     push_words(alloc, row, party.principal)?;
@@ -57,7 +57,7 @@ fn push_decided(
     verdict: Verdict,
 ) -> Result<(), AllocError>
     ensures { OnOk result (rows.new.items ≡ rows.old.items
-        ++ who_row judge.now right.now party.principal.now party.host.now verdict ∷ []) }
+        ++ who_row judge.now right.now party.entry.principal.now party.entry.host.now verdict ∷ []) }
 {
     let mut row = Vec::new(alloc);
     push_cells(alloc, &mut row, judge, right, party, verdict)?;

@@ -5,7 +5,8 @@ ghost use Rattle.json.specs.Print.{print};
 ghost use Rattle.json.specs.Token.{boolean, key, string};
 ghost use Rattle.kob_policy_rows.specs.Json.{access_tokens, answer_line, answer_tokens, answers_json};
 ghost use Rattle.kob_policy_rows.specs.Json.{cell_token, file_tokens, files_line, files_tokens, lines_text};
-ghost use Rattle.kob_policy_rows.specs.Json.{member_tokens, query_tokens, row_line, row_tokens};
+ghost use Rattle.kob_policy_rows.specs.Json.{kind_tokens, member_tokens, number_tokens};
+ghost use Rattle.kob_policy_rows.specs.Json.{query_tokens, question_tokens, row_line, row_tokens};
 ghost use Rattle.kob_policy_rows.specs.Json.{rows_tokens, shown_text, verdict_tokens};
 ghost use Rattle.kob_policy_rows.specs.Columns.{column_name};
 ghost use Rattle.kob_words.specs.Words.{bytes_text};
@@ -139,6 +140,36 @@ fn push_escaped(alloc: Global, writer: &mut Writer, text: &[u8]) -> Result<(), A
     writer.string(String::from_utf8(escaped).unwrap().as_str())
 }
 
+#[tactic(auto, using(kob_words::proofs::Appending::appending), unfolding(crate::specs::Json::number_tokens))]
+fn push_number(writer: &mut Writer, number: u64) -> Result<(), AllocError>
+    ensures tokens { OnOk result
+        (writer.new.tokens ≡ writer.old.tokens ++ number_tokens number) }
+    ensures before { writer.new.before ≡ writer.old.before }
+{
+    writer.key("number")?;
+    writer.u64(number)
+}
+
+#[tactic(auto, using(kob_words::proofs::Appending::appending), unfolding(crate::specs::Json::question_tokens))]
+fn push_question(alloc: Global, writer: &mut Writer, text: &[u8]) -> Result<(), AllocError>
+    ensures tokens { OnOk result
+        (writer.new.tokens ≡ writer.old.tokens ++ question_tokens text.now) }
+    ensures before { writer.new.before ≡ writer.old.before }
+{
+    writer.key("question")?;
+    push_shown(alloc, writer, text)
+}
+
+#[tactic(auto, using(kob_words::proofs::Appending::appending), unfolding(crate::specs::Json::kind_tokens))]
+fn push_kind(writer: &mut Writer, question: &Question) -> Result<(), AllocError>
+    ensures tokens { OnOk result
+        (writer.new.tokens ≡ writer.old.tokens ++ kind_tokens question.now) }
+    ensures before { writer.new.before ≡ writer.old.before }
+{
+    writer.key("kind")?;
+    writer.string(kind_of(question))
+}
+
 #[tactic(auto, using(kob_words::proofs::Appending::appending), unfolding(crate::specs::Json::query_tokens))]
 fn push_query(
     alloc: Global,
@@ -150,12 +181,9 @@ fn push_query(
         (writer.new.tokens ≡ writer.old.tokens ++ query_tokens number query.now) }
     ensures before { writer.new.before ≡ writer.old.before }
 {
-    writer.key("number")?;
-    writer.u64(number)?;
-    writer.key("question")?;
-    push_shown(alloc, writer, query.text.as_slice())?;
-    writer.key("kind")?;
-    writer.string(kind_of(&query.question))
+    push_number(writer, number)?;
+    push_question(alloc, writer, query.text.as_slice())?;
+    push_kind(writer, &query.question)
 }
 
 #[tactic(auto, using(kob_words::proofs::Appending::appending))]

@@ -1,8 +1,8 @@
 //! The row of `summary`: how many there are of what a policy has.
 
 ghost use Rattle.std.specs.Prelude.{◌≡◌, ◌++◌, ◌∷◌, [], OnOk};
-ghost use Rattle.kob_policy_rows.specs.Answers.{count_of, idle_cells, parties_cells, patterns_cells};
-ghost use Rattle.kob_policy_rows.specs.Answers.{summary_row};
+ghost use Rattle.kob_policy_rows.specs.Answers.{count_of, idle_cells, named_cells, other_cells};
+ghost use Rattle.kob_policy_rows.specs.Answers.{parties_cells, patterns_cells, summary_row};
 ghost use Rattle.kob_policy_text.specs.AtHand.{each_once, hosts_named, names_named, principals_named};
 
 use crate::cell::{Cell, push_number, push_row};
@@ -76,17 +76,30 @@ fn push_idle(alloc: Global, row: &mut Vec<Cell>, judge: &Judge) -> Result<(), Al
     push_number(row, beaten.len() as u64)
 }
 
+#[tactic(auto, using(kob_words::proofs::Appending::appending), unfolding(crate::specs::Answers::named_cells))]
+fn push_named(alloc: Global, row: &mut Vec<Cell>, judge: &Judge) -> Result<(), AllocError>
+    ensures { OnOk result (row.new.items ≡ row.old.items ++ named_cells judge.now) }
+{
+    push_number(row, judge.policy().bindings().len() as u64)?;
+    push_parties(alloc, row, judge)?;
+    push_patterns(alloc, row, judge)
+}
+
+#[tactic(auto, using(kob_words::proofs::Appending::appending), unfolding(crate::specs::Answers::other_cells))]
+fn push_others(alloc: Global, row: &mut Vec<Cell>, judge: &Judge) -> Result<(), AllocError>
+    ensures { OnOk result (row.new.items ≡ row.old.items ++ other_cells judge.now) }
+{
+    push_number(row, judge.policy().omissions().len() as u64)?;
+    push_number(row, judge.policy().skipped().len() as u64)?;
+    push_idle(alloc, row, judge)
+}
+
 #[tactic(auto, using(kob_words::proofs::Appending::appending), unfolding(crate::specs::Answers::summary_row))]
 fn push_counts(alloc: Global, row: &mut Vec<Cell>, judge: &Judge) -> Result<(), AllocError>
     ensures { OnOk result (row.new.items ≡ row.old.items ++ summary_row judge.now) }
 {
-    let policy = judge.policy();
-    push_number(row, policy.bindings().len() as u64)?;
-    push_parties(alloc, row, judge)?;
-    push_patterns(alloc, row, judge)?;
-    push_number(row, policy.omissions().len() as u64)?;
-    push_number(row, policy.skipped().len() as u64)?;
-    push_idle(alloc, row, judge)
+    push_named(alloc, row, judge)?;
+    push_others(alloc, row, judge)
 }
 
 /// How many bindings there are, whom and what they name, and how many do nothing.
