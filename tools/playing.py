@@ -38,7 +38,7 @@ def spent():
 
 def stored(program, folder):
     """What a case prints, and what it has to print."""
-    text = lambda name, other="": (folder / name).read_text() if (folder / name).exists() else other
+    text = lambda name, other="": (folder / name).read_bytes().decode() if (folder / name).exists() else other
     wanted = int(text("status", "0")), text("stdout"), text("stderr")
     return played(program, text("args").splitlines(), folder, text("stdin").encode()), wanted
 

@@ -48,6 +48,6 @@ ending_of_answers true = Differs
 ending_of_answers false = Whole
 
 -- a difference of two lists that says nothing is none
-abbrev pub ending_of_changes : List ℕ → Ending
+abbrev pub ending_of_changes : {A : Type 0} → List A → Ending
 ending_of_changes [] = Whole
 ending_of_changes (first ∷ rest) = Differs

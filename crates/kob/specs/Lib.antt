@@ -1,3 +1,4 @@
+pub mod Answers
 pub mod Commands
 pub mod Connect
 pub mod Ending

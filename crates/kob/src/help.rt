@@ -68,6 +68,9 @@ usage: kob policy [FILE]... [--skip] [QUESTION]...
                     else: no right that both grant is missing on the way
   --kafka VERSION   the release of the brokers, as 2.7; the newest if none is given
   --skip            continues after bindings that are left out
+  --json            prints an object for each answer and for each change, on a line of its own
+  --csv             prints the answer to one question, or what changes, as a table (RFC 4180);
+                    may and expect have none
   --next            begins another list with its questions; == FILE comes before each
   -h, --help        prints this page
 

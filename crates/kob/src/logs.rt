@@ -1,12 +1,17 @@
 //! The logs of brokers that are asked about.
 
+ghost use Rattle.std.specs.Prelude.{◌≡◌, ◌++◌, IfOk, OnOk, codes};
+ghost use Rattle.std.specs.Fmt.{decimal};
+ghost use Rattle.kob.specs.Ending.{ending_of_answers};
+ghost use Rattle.kob_policy_text.specs.LogAnswers.{differs, log_text};
+
 use crate::ending::Ending;
 use crate::input::{Kind, text_of};
-use crate::policy_answers::push_log;
 use crate::policy_options::Options;
 use crate::report;
-use kob_policy_text::{Judge, Questions};
-use std::alloc::AllocError;
+use kob_policy_text::{Judge, Questions, print_log};
+use kob_words::push_number;
+use std::alloc::{AllocError, Global};
 use std::rt::Files;
 
 /// The answers about the logs, numbered on from the other questions. One that can't be read is
@@ -37,5 +42,40 @@ fn answer_log<R: AllocGlobal + Files + Input + Eprint>(
     match text_of(rt, Kind::List, file) {
         Ok(text) => push_log(rt.alloc(), out, judge, number, file, &text),
         Err(fault) => Ok(report::unread(rt, file, &fault)),
+    }
+}
+
+#[tactic(auto, using(kob_words::proofs::Appending::appending))]
+fn push_log_line(out: &mut Vec<u8>, number: u64, file: &str) -> Result<(), AllocError>
+    ensures { OnOk result (out.new.items
+        ≡ out.old.items ++ (decimal number ++ codes " log " ++ file.now ++ codes "\n")) }
+{
+    push_number(out, number)?;
+    out.extend_from_slice(b" log ")?;
+    out.extend_from_slice(file.as_bytes())?;
+    out.extend_from_slice(b"\n")
+}
+
+/// The answer about the text of a broker's log, which ends with `Differs` if an access is decided
+/// otherwise than is recorded.
+#[tactic(auto, using(kob_words::proofs::Appending::appending))]
+fn push_log(
+    alloc: Global,
+    out: &mut Vec<u8>,
+    judge: &Judge,
+    number: u64,
+    file: &str,
+    text: &[u8],
+) -> Result<Ending, AllocError>
+    ensures printed { OnOk result (out.new.items ≡ out.old.items
+        ++ (decimal number ++ codes " log " ++ file.now ++ codes "\n") ++ log_text judge.now text.now) }
+    ensures ending { IfOk result (λ ending. ending
+        ≡ ending_of_answers (differs judge.now text.now)) }
+{
+    push_log_line(out, number, file)?;
+    if print_log(alloc, out, judge, text)? {
+        Ok(Ending::Differs)
+    } else {
+        Ok(Ending::Whole)
     }
 }

@@ -13,6 +13,7 @@ mod options;
 mod play;
 mod policy;
 mod policy_answers;
+mod policy_lists;
 mod policy_options;
 mod report;
 mod running;

@@ -2,35 +2,19 @@
 //! from one to the other.
 
 use crate::ending::Ending;
-use crate::input::{Kind, text_of};
 use crate::logs::answer_logs;
-use crate::policy_answers::{lead, push_answers, push_review};
-use crate::policy_options::{Options, parts_of};
+use crate::policy_answers::{lead, push_answers, push_heading, push_review};
+use crate::policy_lists::{Stop, judge_of, list_of, listed, unless_fault};
+use crate::policy_options::{AnswerForm, Options, parts_of};
 use crate::report;
 use crate::running::say;
-use crate::source::{Source, questions_in, say_fault};
+use crate::source::questions_in;
 use crate::stages::Stages;
-use kob_authorizer::CreateFault;
-use kob_mistakes::{Lines, begins_question};
-use kob_names::Text;
-use kob_policy_text::{
-    Judge, Policy, Questions, print_omissions, read_file, read_questions, read_topics,
-};
-use kob_script::{ScriptError, print_fault};
+use kob_policy_rows::is_table;
+use kob_policy_text::{Judge, Questions, read_questions, read_topics};
 use std::alloc::AllocError;
 use std::io::{self, Write};
 use std::rt::{Clock, Files};
-
-/// Why no more questions of a part are answered: how the part ends, which was reported unless it is
-/// out of memory.
-#[derive(Clone, Copy, Debug)]
-struct Stop(Ending);
-
-impl From<AllocError> for Stop {
-    fn from(_refused: AllocError) -> Stop {
-        Stop(Ending::OutOfMemory)
-    }
-}
 
 /// Answers the words after `policy`. `--next` ends a list with its questions and begins another. A
 /// fault ends its own part. Long work is reported if `is_watched`. Returns the worst end.
@@ -80,27 +64,15 @@ fn print_part<R: AllocGlobal + Clock + Files + Input + Eprint>(
     headed: bool,
 ) -> Result<Ending, Stop> {
     if headed {
-        push_heading(out, options)?;
+        if options.form == AnswerForm::Csv {
+            return Ok(report::several_tables(rt));
+        }
+        push_heading(rt.alloc(), out, options)?;
     }
     let mut answers = Vec::new(rt.alloc());
     let ended = answer_part(rt, stages, &mut answers, options);
     out.extend_from_slice(&answers)?;
     ended
-}
-
-/// `==` and the names of the files of bindings.
-fn push_heading(out: &mut Vec<u8>, options: &Options) -> Result<(), AllocError> {
-    out.extend_from_slice(b"==")?;
-    if options.policy.is_empty() && options.before.is_empty() {
-        out.extend_from_slice(b" -")?;
-    }
-    for files in [&options.policy, &options.before, &options.after] {
-        for file in files.as_slice() {
-            out.extend_from_slice(b" ")?;
-            out.extend_from_slice(file.as_bytes())?;
-        }
-    }
-    out.extend_from_slice(b"\n")
 }
 
 /// Answers the questions of a part.
@@ -110,12 +82,37 @@ fn answer_part<R: AllocGlobal + Clock + Files + Input + Eprint>(
     out: &mut Vec<u8>,
     options: &Options,
 ) -> Result<Ending, Stop> {
+    if options.form != AnswerForm::Words && !options.logs.is_empty() {
+        return Err(Stop(report::log_in_words(rt)));
+    }
     let mut questions = Questions::new(rt.alloc());
     push_questions(rt, out, &mut questions, options)?;
+    if options.form == AnswerForm::Csv {
+        unless_one_table(rt, options, &questions)?;
+    }
     if options.before.is_empty() {
         answer_by_one(rt, stages, out, options, &questions)
     } else {
         review(rt, stages, out, options, &questions)
+    }
+}
+
+/// Reports what is asked beside `--csv`, unless it is one table.
+fn unless_one_table<R: AllocGlobal + Eprint>(
+    rt: &R,
+    options: &Options,
+    questions: &Questions,
+) -> Result<(), Stop> {
+    match questions.asked() {
+        [] if !options.before.is_empty() => Ok(()),
+        [query] if options.before.is_empty() => {
+            if is_table(&query.question) {
+                Ok(())
+            } else {
+                Err(Stop(report::no_table(rt, query.text.as_slice())))
+            }
+        }
+        _ => Err(Stop(report::several_tables(rt))),
     }
 }
 
@@ -131,141 +128,45 @@ fn push_questions<R: AllocGlobal + Files + Input + Eprint>(
     for file in options.topics.as_slice() {
         let text = list_of(rt, file.as_str())?;
         let read = read_topics(alloc, questions, &text);
-        unless_fault(rt, out, &questions_in(file.as_str(), &text), read)?;
+        unless_fault(
+            rt,
+            options.form,
+            out,
+            &questions_in(file.as_str(), &text),
+            read,
+        )?;
     }
     for file in options.questions.as_slice() {
         let text = list_of(rt, file.as_str())?;
         let read = read_questions(alloc, questions, &text);
-        unless_fault(rt, out, &questions_in(file.as_str(), &text), read)?;
+        unless_fault(
+            rt,
+            options.form,
+            out,
+            &questions_in(file.as_str(), &text),
+            read,
+        )?;
     }
     for word in options.words.as_slice() {
         let text = word.as_str().as_bytes();
         let read = read_questions(alloc, questions, text);
-        unless_fault(rt, out, &questions_in(word.as_str(), text), read)?;
+        unless_fault(
+            rt,
+            options.form,
+            out,
+            &questions_in(word.as_str(), text),
+            read,
+        )?;
     }
     if options.before.is_empty() && options.logs.is_empty() && questions.asked().is_empty() {
         let read = read_questions(alloc, questions, b"summary");
-        unless_fault(rt, out, &questions_in("summary", b"summary"), read)?;
-    }
-    Ok(())
-}
-
-/// The text of a list, whose fault was reported.
-fn list_of<R: AllocGlobal + Files + Input + Eprint>(rt: &R, file: &str) -> Result<Vec<u8>, Stop> {
-    match text_of(rt, Kind::List, file) {
-        Ok(text) => Ok(text),
-        Err(fault) => {
-            let ending = report::unread(rt, file, &fault);
-            if begins_question(file.as_bytes()) || file == "log" {
-                report::unquoted(rt, file);
-            }
-            Err(Stop(ending))
-        }
-    }
-}
-
-/// Prints a fault as `FILE fault line LINE KIND` in place of all that was to be printed, and says
-/// on standard error which word of the line is wrong.
-fn unless_fault<R: AllocGlobal + Eprint>(
-    rt: &R,
-    out: &mut Vec<u8>,
-    source: &Source<'_>,
-    read: Result<(), ScriptError>,
-) -> Result<(), Stop> {
-    match read {
-        Ok(()) => Ok(()),
-        Err(ScriptError::Memory(_)) => Err(Stop(Ending::OutOfMemory)),
-        Err(ScriptError::Fault(fault)) => {
-            out.clear();
-            out.extend_from_slice(source.name.as_bytes())?;
-            out.extend_from_slice(b" ")?;
-            print_fault(out, fault)?;
-            say_fault(rt, source, fault);
-            Err(Stop(Ending::Failed))
-        }
-    }
-}
-
-/// The policy of the files, in force. Prints what is left out of it, which is a fault without
-/// `--skip`.
-fn judge_of<R: AllocGlobal + Clock + Files + Input + Eprint>(
-    rt: &R,
-    stages: Stages,
-    out: &mut Vec<u8>,
-    options: &Options,
-    files: &[&[String]],
-) -> Result<Judge, Stop> {
-    let mut policy = Policy::new(rt.alloc());
-    for group in files {
-        for file in *group {
-            read_list(rt, stages, out, &mut policy, file.as_str())?;
-        }
-    }
-    open_judge(rt, stages, out, options, policy)
-}
-
-fn open_judge<R: AllocGlobal + Clock + Eprint>(
-    rt: &R,
-    stages: Stages,
-    out: &mut Vec<u8>,
-    options: &Options,
-    mut policy: Policy,
-) -> Result<Judge, Stop> {
-    read_releases(rt, out, &mut policy, &options.kafka)?;
-    print_omissions(out, &policy)?;
-    report::skipped(rt, policy.skipped().len());
-    if !options.skip && !policy.omissions().is_empty() {
-        report::left_out(rt, policy.omissions().len());
-        return Err(Stop(Ending::Failed));
-    }
-    stages.open(rt, policy.bindings().len());
-    match Judge::open(rt.alloc(), policy) {
-        Ok(judge) => Ok(judge),
-        Err(CreateFault::Memory(_)) => Err(Stop(Ending::OutOfMemory)),
-        Err(CreateFault::TooMany | CreateFault::SerialsSpent) => { Err(Stop(report::too_many(rt))) }
-    }
-}
-
-/// Reads a file of a list after those that were read before.
-fn read_list<R: AllocGlobal + Clock + Files + Input + Eprint>(
-    rt: &R,
-    stages: Stages,
-    out: &mut Vec<u8>,
-    policy: &mut Policy,
-    file: &str,
-) -> Result<(), Stop> {
-    let text = list_of(rt, file)?;
-    stages.read(rt, file, text.len(), policy.bindings().len());
-    read_text(rt, out, policy, file, &text)
-}
-
-fn read_text<R: AllocGlobal + Eprint>(
-    rt: &R,
-    out: &mut Vec<u8>,
-    policy: &mut Policy,
-    name: &str,
-    text: &[u8],
-) -> Result<(), Stop> {
-    let file = Text::copied(rt.alloc(), name)?;
-    let read = read_file(rt.alloc(), policy, &file, text);
-    let source = Source {
-        name,
-        text,
-        lines: Lines::Bindings,
-    };
-    unless_fault(rt, out, &source, read)
-}
-
-/// Reads each `--kafka VERSION` as a line `kafka VERSION` behind all files.
-fn read_releases<R: AllocGlobal + Eprint>(
-    rt: &R,
-    out: &mut Vec<u8>,
-    policy: &mut Policy,
-    releases: &[String],
-) -> Result<(), Stop> {
-    for release in releases {
-        let text = format!(in rt.alloc(); "kafka {release}")?;
-        read_text(rt, out, policy, "--kafka", text.as_bytes())?;
+        unless_fault(
+            rt,
+            options.form,
+            out,
+            &questions_in("summary", b"summary"),
+            read,
+        )?;
     }
     Ok(())
 }
@@ -293,38 +194,8 @@ fn answer_about<R: AllocGlobal + Clock + Files + Input + Eprint>(
 ) -> Result<Ending, AllocError> {
     let bindings = judge.policy().bindings().len();
     stages.answer(rt, questions.asked().len(), bindings);
-    let ending = push_answers(rt.alloc(), out, judge, questions)?;
+    let ending = push_answers(rt.alloc(), options.form, out, judge, questions)?;
     Ok(ending.worse(answer_logs(rt, out, options, questions, judge)?))
-}
-
-/// The list of the options, in force; without one, standard input.
-fn listed<R: AllocGlobal + Clock + Files + Input + Eprint>(
-    rt: &R,
-    stages: Stages,
-    out: &mut Vec<u8>,
-    options: &Options,
-) -> Result<Judge, Stop> {
-    if options.policy.is_empty() {
-        judge_of_input(rt, stages, out, options)
-    } else {
-        judge_of(rt, stages, out, options, &[&options.policy])
-    }
-}
-
-fn judge_of_input<R: AllocGlobal + Clock + Files + Input + Eprint>(
-    rt: &R,
-    stages: Stages,
-    out: &mut Vec<u8>,
-    options: &Options,
-) -> Result<Judge, Stop> {
-    let mut policy = Policy::new(rt.alloc());
-    match read_list(rt, stages, out, &mut policy, "-") {
-        Ok(()) => open_judge(rt, stages, out, options, policy),
-        Err(stop) => {
-            drop(policy);
-            Err(stop)
-        }
-    }
 }
 
 /// What changes, and then the answers of the second list. The lists differ if anything changes.
@@ -373,7 +244,7 @@ fn compare<R: AllocGlobal + Files + Input + Eprint>(
     after: &Judge,
 ) -> Result<Ending, AllocError> {
     if !options.commands {
-        let ending = push_review(rt.alloc(), out, questions, before, after)?;
+        let ending = push_review(rt.alloc(), options.form, out, questions, before, after)?;
         Ok(ending.worse(answer_logs(rt, out, options, questions, after)?))
     } else if options.logs.is_empty() {
         lead(rt, out, questions, before, after)

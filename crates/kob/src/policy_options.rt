@@ -22,6 +22,18 @@ pub struct Options {
     pub skip: bool,
     /// The commands that lead from `before` to `after` are printed, and nothing else.
     pub commands: bool,
+    pub form: AnswerForm,
+}
+
+/// How answers are printed.
+#[derive(Clone, Copy, Debug, PartialEq, Eq)]
+pub enum AnswerForm {
+    /// In words, below their questions.
+    Words,
+    /// As objects of JSON.
+    Json,
+    /// As one table of comma-separated values.
+    Csv,
 }
 
 /// The options of `policy`.
@@ -35,6 +47,8 @@ pub fn command<'a>(alloc: Global) -> Result<Command<'a>, AllocError> {
     made = made.arg(releases(alloc))?;
     made = made.arg(flag(alloc, "skip"))?;
     made = with_arg(made, commands(alloc))?;
+    made = with_arg(made, json(alloc))?;
+    made = with_arg(made, flag(alloc, "csv").conflicts_with("commands"))?;
     made.arg(questions(alloc))
 }
 
@@ -47,6 +61,12 @@ fn commands<'a>(alloc: Global) -> Result<Arg<'a>, AllocError> {
         .requires_arg("before")?
         .conflicts_with("questions")?
         .conflicts_with("topics")
+}
+
+fn json<'a>(alloc: Global) -> Result<Arg<'a>, AllocError> {
+    flag(alloc, "json")
+        .conflicts_with("csv")?
+        .conflicts_with("commands")
 }
 
 fn releases<'a>(alloc: Global) -> Arg<'a> {
@@ -78,7 +98,21 @@ pub fn parts_of(alloc: Global, words: &[String]) -> Result<Vec<Options>, Error> 
         let options = options_of(alloc, part)?;
         parts.push(options).map_err(AllocError::from)?;
     }
+    share_form(&mut parts);
     Ok(parts)
+}
+
+/// One form counts for all parts: the first one that is asked for.
+fn share_form(parts: &mut [Options]) {
+    let asked = parts
+        .iter()
+        .map(|part| part.form)
+        .find(|form| *form != AnswerForm::Words);
+    if let Some(form) = asked {
+        for part in parts {
+            part.form = form;
+        }
+    }
 }
 
 /// The options that words give. The error is what is wrong with the words, or the page of help.
@@ -102,6 +136,7 @@ fn options_in(alloc: Global, matches: &ArgMatches<'_>) -> Result<Options, AllocE
         words: Vec::new(alloc),
         skip: matches.get_flag("skip"),
         commands: matches.get_flag("commands"),
+        form: form_in(matches),
     };
     for word in values_of(alloc, matches, "QUESTION")? {
         if let Some(file) = word.as_str().strip_prefix("log ") {
@@ -113,6 +148,16 @@ fn options_in(alloc: Global, matches: &ArgMatches<'_>) -> Result<Options, AllocE
         }
     }
     Ok(options)
+}
+
+fn form_in(matches: &ArgMatches<'_>) -> AnswerForm {
+    if matches.get_flag("json") {
+        AnswerForm::Json
+    } else if matches.get_flag("csv") {
+        AnswerForm::Csv
+    } else {
+        AnswerForm::Words
+    }
 }
 
 /// Whether a word of the command line is a question: it has a blank, or is a question of one word.

@@ -4,6 +4,7 @@ use crate::ending::Ending;
 use crate::input::InputFault;
 use bstr::ByteSlice;
 use kob_mistakes::Mistake;
+use kob_policy_text::{Policy, print_omissions};
 use kob_scene_play::PlayFault;
 use kob_words::push_bytes;
 use std::alloc::{AllocError, Global};
@@ -49,6 +50,16 @@ pub fn skipped(rt: &impl Eprint, count: usize) {
     }
 }
 
+/// What is left out, a line each.
+pub fn omissions<R: AllocGlobal + Eprint>(rt: &R, policy: &Policy) -> Result<(), AllocError> {
+    let mut out = Vec::new(rt.alloc());
+    print_omissions(&mut out, policy)?;
+    if let Ok(text) = str::from_utf8(&out) {
+        let _ = eprint!(rt; "{text}");
+    }
+    Ok(())
+}
+
 /// Bindings that were left out, for which no question is answered.
 pub fn left_out(rt: &impl Eprint, count: usize) {
     let _ = eprintln!(rt; "kob: bindings left out: {count}; --skip answers without them");
@@ -70,6 +81,27 @@ pub fn no_commands(rt: &impl Eprint) -> Ending {
 /// A question beside `--commands`.
 pub fn asked_beside_commands(rt: &impl Eprint) -> Ending {
     let _ = eprintln!(rt; "kob: --commands: a question is asked beside it");
+    Ending::Failed
+}
+
+/// A question beside `--csv` whose answer is a yes or a no.
+pub fn no_table(rt: &impl Eprint, question: &[u8]) -> Ending {
+    let question = str::from_utf8(question).unwrap_or("the question");
+    let _ = eprintln!(rt; "kob: --csv: the answer is no table: {question}");
+    Ending::Failed
+}
+
+/// Not one table beside `--csv`.
+pub fn several_tables(rt: &impl Eprint) -> Ending {
+    let _ = eprintln!(rt;
+        "kob: --csv: prints one table: the answer to one question, or what changes"
+    );
+    Ending::Failed
+}
+
+/// A log beside another form than words.
+pub fn log_in_words(rt: &impl Eprint) -> Ending {
+    let _ = eprintln!(rt; "kob: log: its answer has no other form than words");
     Ending::Failed
 }
 

@@ -1,0 +1,6 @@
+use Rattle.std.proofs.Common.{flat_map, take, ◌++◌, ◌≡◌}
+use Rattle.kob_policy_rows.specs.Csv.{row_line}
+use Rattle.kob_policy_rows.proofs.table.push_rows.Given as goal
+
+abbrev pub invariant-loop-row : goal.invariant-loop-row
+invariant-loop-row l = l.out.items ≡ l.initial.out.items ++ flat_map row_line (take l.row-index l.rows)

@@ -1,0 +1,226 @@
+//! The rows of `who`: super users, and then each principal and host to which a right is granted.
+
+ghost use Rattle.std.specs.Prelude.{◌≡◌, ◌++◌, ◌∷◌, [], OnOk, flat_map, map};
+ghost use Rattle.kob_policy_rows.specs.Answers.{from_row, grant_row, grant_rows, granted_rows};
+ghost use Rattle.kob_policy_rows.specs.Answers.{right_cells, super_row, who_row, who_rows};
+ghost use Rattle.kob_policy_text.specs.AtHand.{principals_at_hand};
+
+use crate::cell::{Cell, push_row, push_words};
+use crate::verdict::{party_name, push_verdict};
+use kob_names::{Host, Items, Principal, Verdict};
+use kob_policy_review::{Answer, who};
+use kob_policy_text::{Asked, Judge, Right, each_once, is_told, principals_at_hand, target_at};
+use kob_words::{operation_name, resource_name};
+use std::alloc::{AllocError, Global};
+
+/// Operation, resource and name.
+#[tactic(auto, using(kob_words::proofs::Appending::appending), unfolding(crate::specs::Answers::right_cells))]
+pub fn push_right(alloc: Global, row: &mut Vec<Cell>, right: &Right) -> Result<(), AllocError>
+    ensures { OnOk result (row.new.items ≡ row.old.items ++ right_cells right.now) }
+{
+    push_words(alloc, row, operation_name(right.operation))?;
+    push_words(alloc, row, resource_name(right.resource))?;
+    push_words(alloc, row, right.name.as_str())
+}
+
+/// Who asks from where for what.
+#[derive(Clone, Copy)]
+struct Party<'a> {
+    principal: &'a str,
+    host: &'a str,
+}
+
+#[tactic(auto, using(kob_words::proofs::Appending::appending), unfolding(crate::specs::Answers::who_row))]
+fn push_cells(
+    alloc: Global,
+    row: &mut Vec<Cell>,
+    judge: &Judge,
+    right: &Right,
+    party: Party<'_>,
+    verdict: Verdict,
+) -> Result<(), AllocError>
+    ensures { OnOk result (row.new.items ≡ row.old.items
+        ++ who_row judge.now right.now party.entry.principal.now party.entry.host.now verdict) }
+{
+    push_right(alloc, row, right)?;
+    push_words(alloc, row, party.principal)?;
+    push_words(alloc, row, party.host)?;
+    push_verdict(alloc, row, judge, verdict)
+}
+
+fn push_decided(
+    alloc: Global,
+    rows: &mut Vec<Items<Cell>>,
+    judge: &Judge,
+    right: &Right,
+    party: Party<'_>,
+    verdict: Verdict,
+) -> Result<(), AllocError>
+    ensures { OnOk result (rows.new.items ≡ rows.old.items
+        ++ who_row judge.now right.now party.entry.principal.now party.entry.host.now verdict ∷ []) }
+{
+    let mut row = Vec::new(alloc);
+    push_cells(alloc, &mut row, judge, right, party, verdict)?;
+    push_row(rows, row)
+}
+
+fn push_super(
+    alloc: Global,
+    rows: &mut Vec<Items<Cell>>,
+    judge: &Judge,
+    right: &Right,
+    user: &Principal,
+) -> Result<(), AllocError>
+    ensures { OnOk result
+        (rows.new.items ≡ rows.old.items ++ super_row judge.now right.now user.now ∷ []) }
+{
+    let party = Party {
+        principal: user.as_str(),
+        host: "*",
+    };
+    push_decided(alloc, rows, judge, right, party, Verdict::Super)
+}
+
+#[tactic(auto, using(kob_words::proofs::Appending::appending))]
+fn push_supers(
+    alloc: Global,
+    rows: &mut Vec<Items<Cell>>,
+    judge: &Judge,
+    right: &Right,
+    supers: &[Principal],
+) -> Result<(), AllocError>
+    ensures { OnOk result (rows.new.items
+        ≡ rows.old.items ++ map (super_row judge.now right.now) supers.now) }
+{
+    for user in supers {
+        push_super(alloc, rows, judge, right, user)?;
+    }
+    Ok(())
+}
+
+fn push_answer(
+    alloc: Global,
+    rows: &mut Vec<Items<Cell>>,
+    judge: &Judge,
+    right: &Right,
+    answer: &Answer,
+) -> Result<(), AllocError>
+    ensures { OnOk result
+        (rows.new.items ≡ rows.old.items ++ grant_row judge.now right.now answer.now ∷ []) }
+{
+    let party = Party {
+        principal: party_name("User:*", &answer.principal),
+        host: party_name("*", &answer.host),
+    };
+    push_decided(alloc, rows, judge, right, party, answer.verdict)
+}
+
+#[tactic(auto, using(kob_words::proofs::Appending::appending))]
+fn push_answers(
+    alloc: Global,
+    rows: &mut Vec<Items<Cell>>,
+    judge: &Judge,
+    right: &Right,
+    answers: &[Answer],
+) -> Result<(), AllocError>
+    ensures { OnOk result (rows.new.items
+        ≡ rows.old.items ++ flat_map (grant_rows judge.now right.now) answers.now) }
+{
+    for answer in answers {
+        if is_told(answer) {
+            push_answer(alloc, rows, judge, right, answer)?;
+        }
+    }
+    Ok(())
+}
+
+/// Super users, and then each principal and host to which the right is granted.
+#[tactic(auto, using(kob_words::proofs::Appending::appending))]
+pub fn push_granted(
+    alloc: Global,
+    rows: &mut Vec<Items<Cell>>,
+    judge: &Judge,
+    right: &Right,
+) -> Result<(), AllocError>
+    ensures { OnOk result (rows.new.items ≡ rows.old.items ++ granted_rows judge.now right.now) }
+{
+    let target = target_at(alloc, right)?;
+    let found = who(alloc, judge.authorizer(), right.operation, &target)?;
+    let supers = each_once(alloc, judge.policy().supers())?;
+    push_supers(alloc, rows, judge, right, supers.as_slice())?;
+    push_answers(alloc, rows, judge, right, found.as_slice())
+}
+
+fn push_one(
+    alloc: Global,
+    rows: &mut Vec<Items<Cell>>,
+    judge: &Judge,
+    right: &Right,
+    host: &Host,
+    principal: &Principal,
+) -> Result<(), AllocError>
+    ensures { OnOk result (rows.new.items
+        ≡ rows.old.items ++ from_row judge.now right.now host.now principal.now ∷ []) }
+{
+    let asked = Asked {
+        principal,
+        host,
+        operation: right.operation,
+        resource: right.resource,
+        name: right.name.as_str(),
+    };
+    let party = Party {
+        principal: principal.as_str(),
+        host: host.as_str(),
+    };
+    push_decided(alloc, rows, judge, right, party, judge.verdict(&asked))
+}
+
+#[tactic(auto, using(kob_words::proofs::Appending::appending))]
+fn push_each(
+    alloc: Global,
+    rows: &mut Vec<Items<Cell>>,
+    judge: &Judge,
+    right: &Right,
+    host: &Host,
+    principals: &[Principal],
+) -> Result<(), AllocError>
+    ensures { OnOk result (rows.new.items
+        ≡ rows.old.items ++ map (from_row judge.now right.now host.now) principals.now) }
+{
+    for principal in principals {
+        push_one(alloc, rows, judge, right, host, principal)?;
+    }
+    Ok(())
+}
+
+fn push_from(
+    alloc: Global,
+    rows: &mut Vec<Items<Cell>>,
+    judge: &Judge,
+    right: &Right,
+    host: &Host,
+) -> Result<(), AllocError>
+    ensures { OnOk result (rows.new.items ≡ rows.old.items
+        ++ map (from_row judge.now right.now host.now) (principals_at_hand judge.now.bindings)) }
+{
+    let principals = principals_at_hand(alloc, judge.policy().bindings())?;
+    push_each(alloc, rows, judge, right, host, principals.as_slice())
+}
+
+/// Who may do this: from every host, or the answer from one host to each principal.
+pub fn push_who(
+    alloc: Global,
+    rows: &mut Vec<Items<Cell>>,
+    judge: &Judge,
+    right: &Right,
+    host: &Option<Host>,
+) -> Result<(), AllocError>
+    ensures { OnOk result
+        (rows.new.items ≡ rows.old.items ++ who_rows judge.now right.now host.now) }
+{
+    match host {
+        Some(host) => push_from(alloc, rows, judge, right, host),
+        None => push_granted(alloc, rows, judge, right),
+    }
+}

@@ -1,0 +1,194 @@
+//! The rows of `rights`: what a principal may do.
+
+ghost use Rattle.std.specs.Prelude.{◌≡◌, ◌++◌, ◌∷◌, [], OnOk, flat_map, map};
+ghost use Rattle.kob_authorizer.specs.Decide.{is_super};
+ghost use Rattle.kob_policy_rows.specs.Answers.{all_row, held_row, held_rows, open_rows};
+ghost use Rattle.kob_policy_rows.specs.Answers.{operations_told, rights_rows};
+ghost use Rattle.kob_policy_text.specs.Holdings.{is_repeated};
+
+use crate::cell::{Cell, push_nothing, push_row, push_words};
+use crate::verdict::{party_name, push_target};
+use kob_names::{Host, Items, Operation, Principal};
+use kob_policy_review::{Holding, rights};
+use kob_policy_text::Judge;
+use kob_words::operation_name;
+use std::alloc::{AllocError, Global};
+
+#[tactic(auto, using(kob_words::proofs::Appending::appending), unfolding(crate::specs::Answers::held_row))]
+fn push_held_cells(
+    alloc: Global,
+    row: &mut Vec<Cell>,
+    principal: &Principal,
+    one: &Holding,
+    operation: Operation,
+) -> Result<(), AllocError>
+    ensures { OnOk result
+        (row.new.items ≡ row.old.items ++ held_row principal.now one.now operation) }
+{
+    push_words(alloc, row, principal.as_str())?;
+    push_words(alloc, row, party_name("*", &one.host))?;
+    push_words(alloc, row, operation_name(operation))?;
+    push_target(alloc, row, &one.target)?;
+    push_words(alloc, row, "binding")
+}
+
+fn push_held_row(
+    alloc: Global,
+    rows: &mut Vec<Items<Cell>>,
+    principal: &Principal,
+    one: &Holding,
+    operation: Operation,
+) -> Result<(), AllocError>
+    ensures { OnOk result
+        (rows.new.items ≡ rows.old.items ++ held_row principal.now one.now operation ∷ []) }
+{
+    let mut row = Vec::new(alloc);
+    push_held_cells(alloc, &mut row, principal, one, operation)?;
+    push_row(rows, row)
+}
+
+/// `All` for the ten operations of a request.
+fn operations_told(operations: &[Operation]) -> &[Operation]
+    ensures { result.now ≡ operations_told operations.entry.now }
+{
+    if operations.len() == 10 {
+        &[Operation::All]
+    } else {
+        operations
+    }
+}
+
+#[tactic(auto, using(kob_words::proofs::Appending::appending))]
+fn push_operations(
+    alloc: Global,
+    rows: &mut Vec<Items<Cell>>,
+    principal: &Principal,
+    one: &Holding,
+    operations: &[Operation],
+) -> Result<(), AllocError>
+    ensures { OnOk result (rows.new.items
+        ≡ rows.old.items ++ map (held_row principal.now one.now) operations.now) }
+{
+    for operation in operations {
+        push_held_row(alloc, rows, principal, one, *operation)?;
+    }
+    Ok(())
+}
+
+/// Whether the host of a class is the word for all hosts, which asks as all others do.
+fn is_repeated(host: &Option<Host>, one: &Holding) -> bool
+    ensures { result ≡ is_repeated host.now one.now }
+{
+    match (host, &one.host) {
+        (None, Some(named)) => named.as_str() == "*",
+        (None, None) | (Some(_), _) => false,
+    }
+}
+
+fn push_holding(
+    alloc: Global,
+    rows: &mut Vec<Items<Cell>>,
+    principal: &Principal,
+    host: &Option<Host>,
+    one: &Holding,
+) -> Result<(), AllocError>
+    ensures { OnOk result
+        (rows.new.items ≡ rows.old.items ++ held_rows principal.now host.now one.now) }
+{
+    if is_repeated(host, one) {
+        return Ok(());
+    }
+    let operations = operations_told(one.operations.as_slice());
+    push_operations(alloc, rows, principal, one, operations)
+}
+
+#[tactic(auto, using(kob_words::proofs::Appending::appending))]
+fn push_each(
+    alloc: Global,
+    rows: &mut Vec<Items<Cell>>,
+    principal: &Principal,
+    host: &Option<Host>,
+    found: &[Holding],
+) -> Result<(), AllocError>
+    ensures { OnOk result (rows.new.items
+        ≡ rows.old.items ++ flat_map (held_rows principal.now host.now) found.now) }
+{
+    for one in found {
+        push_holding(alloc, rows, principal, host, one)?;
+    }
+    Ok(())
+}
+
+#[tactic(auto, using(kob_words::proofs::Appending::appending), unfolding(crate::specs::Answers::all_row))]
+fn push_all_cells(
+    alloc: Global,
+    row: &mut Vec<Cell>,
+    principal: &Principal,
+    by: &str,
+) -> Result<(), AllocError>
+    ensures { OnOk result (row.new.items ≡ row.old.items ++ all_row principal.now by.now) }
+{
+    push_words(alloc, row, principal.as_str())?;
+    push_words(alloc, row, "*")?;
+    push_words(alloc, row, operation_name(Operation::All))?;
+    push_nothing(row)?;
+    push_nothing(row)?;
+    push_nothing(row)?;
+    push_words(alloc, row, by)
+}
+
+fn push_all(
+    alloc: Global,
+    rows: &mut Vec<Items<Cell>>,
+    principal: &Principal,
+    by: &str,
+) -> Result<(), AllocError>
+    ensures { OnOk result
+        (rows.new.items ≡ rows.old.items ++ all_row principal.now by.now ∷ []) }
+{
+    let mut row = Vec::new(alloc);
+    push_all_cells(alloc, &mut row, principal, by)?;
+    push_row(rows, row)
+}
+
+fn push_open(
+    alloc: Global,
+    rows: &mut Vec<Items<Cell>>,
+    principal: &Principal,
+    everyone: bool,
+) -> Result<(), AllocError>
+    ensures { OnOk result
+        (rows.new.items ≡ rows.old.items ++ open_rows principal.now everyone) }
+{
+    if everyone {
+        push_all(alloc, rows, principal, "everyone")
+    } else {
+        Ok(())
+    }
+}
+
+fn is_super(supers: &[Principal], principal: &Principal) -> bool
+    ensures { result ≡ is_super supers.now principal.now }
+{
+    supers.iter().any(|user| user == principal)
+}
+
+/// What is granted to a principal, from one host or from each that counts.
+#[tactic(auto, using(kob_words::proofs::Appending::appending))]
+pub fn push_rights(
+    alloc: Global,
+    rows: &mut Vec<Items<Cell>>,
+    judge: &Judge,
+    principal: &Principal,
+    host: &Option<Host>,
+) -> Result<(), AllocError>
+    ensures { OnOk result
+        (rows.new.items ≡ rows.old.items ++ rights_rows judge.now principal.now host.now) }
+{
+    if is_super(judge.policy().supers(), principal) {
+        return push_all(alloc, rows, principal, "super");
+    }
+    let found = rights(alloc, judge.authorizer(), principal, host)?;
+    push_each(alloc, rows, principal, host, found.as_slice())?;
+    push_open(alloc, rows, principal, judge.policy().everyone())
+}

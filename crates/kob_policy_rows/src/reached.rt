@@ -1,0 +1,152 @@
+//! The rows of `who` on the names that begin with a prefix.
+
+ghost use Rattle.std.specs.Prelude.{◌≡◌, ◌++◌, ◌∷◌, [], OnOk, flat_map, map};
+ghost use Rattle.kob_policy_review.specs.Difference.{names_all};
+ghost use Rattle.kob_policy_rows.specs.Answers.{below_rows, by_share, reach_row, reach_rows};
+ghost use Rattle.kob_policy_rows.specs.Answers.{super_reach};
+ghost use Rattle.kob_policy_text.specs.Reaches.{asks_as_others};
+
+use crate::cell::{Cell, push_row, push_words};
+use crate::granted::push_right;
+use crate::verdict::party_name;
+use kob_names::{Items, Principal, Text};
+use kob_policy_review::{Reach, Share, who_below};
+use kob_policy_text::{Judge, Right, each_once};
+use std::alloc::{AllocError, Global};
+
+#[tactic(auto, using(kob_words::proofs::Appending::appending))]
+fn push_cells(
+    alloc: Global,
+    row: &mut Vec<Cell>,
+    right: &Right,
+    principal: &str,
+    host: &str,
+    on: &str,
+) -> Result<(), AllocError>
+    ensures { OnOk result
+        (row.new.items ≡ row.old.items ++ reach_row right.now principal.now host.now on.now) }
+{
+    push_right(alloc, row, right)?;
+    push_words(alloc, row, principal)?;
+    push_words(alloc, row, host)?;
+    push_words(alloc, row, on)
+}
+
+fn push_one(
+    alloc: Global,
+    rows: &mut Vec<Items<Cell>>,
+    right: &Right,
+    principal: &str,
+    host: &str,
+    on: &str,
+) -> Result<(), AllocError>
+    ensures { OnOk result (rows.new.items
+        ≡ rows.old.items ++ reach_row right.now principal.now host.now on.now ∷ []) }
+{
+    let mut row = Vec::new(alloc);
+    push_cells(alloc, &mut row, right, principal, host, on)?;
+    push_row(rows, row)
+}
+
+#[tactic(auto, using(kob_words::proofs::Appending::appending))]
+fn push_supers(
+    alloc: Global,
+    rows: &mut Vec<Items<Cell>>,
+    right: &Right,
+    supers: &[Principal],
+) -> Result<(), AllocError>
+    ensures { OnOk result
+        (rows.new.items ≡ rows.old.items ++ map (super_reach right.now) supers.now) }
+{
+    for user in supers {
+        push_one(alloc, rows, right, user.as_str(), "*", "all")?;
+    }
+    Ok(())
+}
+
+fn push_by_share(
+    alloc: Global,
+    rows: &mut Vec<Items<Cell>>,
+    right: &Right,
+    one: &Reach,
+) -> Result<(), AllocError>
+    ensures { OnOk result
+        (rows.new.items ≡ rows.old.items ++ by_share one.now.share right.now one.now) }
+{
+    let principal = party_name("User:*", &one.principal);
+    let host = party_name("*", &one.host);
+    match one.share {
+        Share::Nothing => Ok(()),
+        Share::Part => push_one(alloc, rows, right, principal, host, "some"),
+        Share::Everything => push_one(alloc, rows, right, principal, host, "all"),
+    }
+}
+
+fn names_all(all: &str, party: &Option<Text>) -> bool
+    ensures { result ≡ names_all all.now party.now }
+{
+    match party {
+        Some(party) => party.as_str() == all,
+        None => false,
+    }
+}
+
+/// Whether a party is a word for all, which asks as all others do.
+fn asks_as_others(one: &Reach) -> bool
+    ensures { result ≡ asks_as_others one.now }
+{
+    names_all("User:*", &one.principal) || names_all("*", &one.host)
+}
+
+fn push_reach(
+    alloc: Global,
+    rows: &mut Vec<Items<Cell>>,
+    right: &Right,
+    one: &Reach,
+) -> Result<(), AllocError>
+    ensures { OnOk result (rows.new.items ≡ rows.old.items ++ reach_rows right.now one.now) }
+{
+    if asks_as_others(one) {
+        return Ok(());
+    }
+    push_by_share(alloc, rows, right, one)
+}
+
+#[tactic(auto, using(kob_words::proofs::Appending::appending))]
+fn push_each(
+    alloc: Global,
+    rows: &mut Vec<Items<Cell>>,
+    right: &Right,
+    found: &[Reach],
+) -> Result<(), AllocError>
+    ensures { OnOk result
+        (rows.new.items ≡ rows.old.items ++ flat_map (reach_rows right.now) found.now) }
+{
+    for one in found {
+        push_reach(alloc, rows, right, one)?;
+    }
+    Ok(())
+}
+
+/// Super users, and then each principal and host that may do this on all names, or on some, that
+/// begin with the name of the right.
+#[tactic(auto, using(kob_words::proofs::Appending::appending))]
+pub fn push_below(
+    alloc: Global,
+    rows: &mut Vec<Items<Cell>>,
+    judge: &Judge,
+    right: &Right,
+) -> Result<(), AllocError>
+    ensures { OnOk result (rows.new.items ≡ rows.old.items ++ below_rows judge.now right.now) }
+{
+    let found = who_below(
+        alloc,
+        judge.authorizer(),
+        right.operation,
+        right.resource,
+        &right.name,
+    )?;
+    let supers = each_once(alloc, judge.policy().supers())?;
+    push_supers(alloc, rows, right, supers.as_slice())?;
+    push_each(alloc, rows, right, found.as_slice())
+}
