@@ -1,15 +1,18 @@
 //! What is answered to each principal and host on some names.
 
-ghost use Rattle.std.specs.Prelude.{◌≡◌, ◌++◌, IfOk, OnOk, flat_map, map};
+ghost use Rattle.std.specs.Prelude.{◌≡◌, ◌++◌, ◌&&◌, IfOk, OnOk, flat_map, map, not};
+ghost use Rattle.kob_authorizer.specs.Index.{AreRising};
 ghost use Rattle.kob_policy_review.specs.Classes.{principals_named};
+ghost use Rattle.kob_policy_review.specs.Difference.{some_in};
 ghost use Rattle.kob_policy_review.specs.Granting.{ListsAnswers, answer_at, answers_by, answers_on};
-ghost use Rattle.kob_policy_review.specs.Granting.{first_met, is_open_on, verdict_by};
+ghost use Rattle.kob_policy_review.specs.Granting.{first_met, verdict_by};
 
 use crate::askers::Askers;
 use crate::class::{Target, is_met};
 use crate::matching::{hosts_of, matching};
 use crate::needed::is_super_party;
 use crate::parties::principals_of;
+use crate::sides::is_nothing;
 use kob_authorizer::Authorizer;
 use kob_names::{Binding, Operation, Permission, PlainValue, Principal, Text, Verdict};
 use std::alloc::{AllocError, Global};
@@ -162,7 +165,28 @@ fn answers_among(
     Ok(out)
 }
 
-#[tactic(auto, unfolding(crate::specs::Granting::answers_on), using(crate::proofs::Asking::still_rising))]
+fn is_opened(everyone: bool, matching: &[(u64, Binding)]) -> bool
+    ensures { result ≡ everyone && not (some_in matching.now) }
+{
+    everyone && is_nothing(matching)
+}
+
+fn answers_for(
+    alloc: Global,
+    rules: &Authorizer,
+    operation: Operation,
+    matching: &[(u64, Binding)],
+) -> Result<Vec<Answer>, AllocError>
+    requires { AreRising matching.now }
+    ensures { IfOk result (λ found. found.items ≡ flat_map (answers_by rules.now.contents.supers
+        (rules.now.contents.everyone && not (some_in matching.now)) matching.now operation)
+        (principals_named matching.now)) }
+{
+    let opened = is_opened(rules.everyone(), matching);
+    let askers = Askers::of(alloc, matching)?;
+    answers_among(alloc, rules.supers(), opened, &askers, operation)
+}
+
 fn answers_on(
     alloc: Global,
     rules: &Authorizer,
@@ -173,9 +197,7 @@ fn answers_on(
         found.items ≡ answers_on rules.now.contents operation target.now) }
 {
     let matching = matching(alloc, rules.entries(), target)?;
-    let opened = rules.everyone() && matching.is_empty();
-    let askers = Askers::of(alloc, matching.as_slice())?;
-    answers_among(alloc, rules.supers(), opened, &askers, operation)
+    answers_for(alloc, rules, operation, matching.as_slice())
 }
 
 /// What each principal and host is answered on a target, with the binding that decides: those that
