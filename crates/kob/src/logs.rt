@@ -3,12 +3,14 @@
 ghost use Rattle.std.specs.Prelude.{◌≡◌, ◌++◌, IfOk, OnOk, codes};
 ghost use Rattle.std.specs.Fmt.{decimal};
 ghost use Rattle.kob.specs.Ending.{ending_of_answers};
-ghost use Rattle.kob_policy_text.specs.LogAnswers.{differs, log_text};
+ghost use Rattle.kob.specs.Answers.{log_in, log_words};
+ghost use Rattle.kob_policy_text.specs.LogAnswers.{differs};
 
 use crate::ending::Ending;
 use crate::input::{Kind, text_of};
-use crate::policy_options::Options;
+use crate::policy_options::{AnswerForm, Options};
 use crate::report;
+use kob_policy_rows::print_json_log;
 use kob_policy_text::{Judge, Questions, print_log};
 use kob_words::push_number;
 use std::alloc::{AllocError, Global};
@@ -27,20 +29,21 @@ pub(crate) fn answer_logs<R: AllocGlobal + Files + Input + Eprint>(
     let mut ending = Ending::Whole;
     for file in options.logs.as_slice() {
         number = number.saturating_add(1);
-        ending = ending.worse(answer_log(rt, out, judge, number, file.as_str())?);
+        ending = ending.worse(answer_log(rt, options.form, out, judge, number, file.as_str())?);
     }
     Ok(ending)
 }
 
 fn answer_log<R: AllocGlobal + Files + Input + Eprint>(
     rt: &R,
+    form: AnswerForm,
     out: &mut Vec<u8>,
     judge: &Judge,
     number: u64,
     file: &str,
 ) -> Result<Ending, AllocError> {
     match text_of(rt, Kind::List, file) {
-        Ok(text) => push_log(rt.alloc(), out, judge, number, file, &text),
+        Ok(text) => push_log(rt.alloc(), form, out, judge, number, file, &text),
         Err(fault) => Ok(report::unread(rt, file, &fault)),
     }
 }
@@ -56,24 +59,60 @@ fn push_log_line(out: &mut Vec<u8>, number: u64, file: &str) -> Result<(), Alloc
     out.extend_from_slice(b"\n")
 }
 
-/// The answer about the text of a broker's log, which ends with `Differs` if an access is decided
-/// otherwise than is recorded.
+/// The answer in words.
 #[tactic(auto, using(kob_words::proofs::Appending::appending))]
-fn push_log(
+fn push_words(
     alloc: Global,
     out: &mut Vec<u8>,
     judge: &Judge,
     number: u64,
     file: &str,
     text: &[u8],
+) -> Result<bool, AllocError>
+    ensures printed { OnOk result (out.new.items
+        ≡ out.old.items ++ log_words judge.now number file.now text.now) }
+    ensures differs { IfOk result (λ found. found ≡ differs judge.now text.now) }
+{
+    push_log_line(out, number, file)?;
+    print_log(alloc, out, judge, text)
+}
+
+fn print_in(
+    alloc: Global,
+    form: AnswerForm,
+    out: &mut Vec<u8>,
+    judge: &Judge,
+    number: u64,
+    file: &str,
+    text: &[u8],
+) -> Result<bool, AllocError>
+    ensures printed { OnOk result (out.new.items
+        ≡ out.old.items ++ log_in form judge.now number file.now text.now) }
+    ensures differs { IfOk result (λ found. found ≡ differs judge.now text.now) }
+{
+    match form {
+        AnswerForm::Json => print_json_log(alloc, out, judge, number, file, text),
+        AnswerForm::Words | AnswerForm::Csv => push_words(alloc, out, judge, number, file, text),
+    }
+}
+
+/// The answer about the text of a broker's log, which ends with `Differs` if an access is decided
+/// otherwise than is recorded.
+fn push_log(
+    alloc: Global,
+    form: AnswerForm,
+    out: &mut Vec<u8>,
+    judge: &Judge,
+    number: u64,
+    file: &str,
+    text: &[u8],
 ) -> Result<Ending, AllocError>
-    ensures printed { OnOk result (out.new.items ≡ out.old.items
-        ++ (decimal number ++ codes " log " ++ file.now ++ codes "\n") ++ log_text judge.now text.now) }
+    ensures printed { OnOk result (out.new.items
+        ≡ out.old.items ++ log_in form judge.now number file.now text.now) }
     ensures ending { IfOk result (λ ending. ending
         ≡ ending_of_answers (differs judge.now text.now)) }
 {
-    push_log_line(out, number, file)?;
-    if print_log(alloc, out, judge, text)? {
+    if print_in(alloc, form, out, judge, number, file, text)? {
         Ok(Ending::Differs)
     } else {
         Ok(Ending::Whole)

@@ -82,8 +82,8 @@ fn answer_part<R: AllocGlobal + Clock + Files + Input + Eprint>(
     out: &mut Vec<u8>,
     options: &Options,
 ) -> Result<Ending, Stop> {
-    if options.form != AnswerForm::Words && !options.logs.is_empty() {
-        return Err(Stop(report::log_in_words(rt)));
+    if options.form == AnswerForm::Csv && !options.logs.is_empty() {
+        return Err(Stop(report::no_table(rt, b"log")));
     }
     let mut questions = Questions::new(rt.alloc());
     push_questions(rt, out, &mut questions, options)?;

@@ -99,12 +99,6 @@ pub fn several_tables(rt: &impl Eprint) -> Ending {
     Ending::Failed
 }
 
-/// A log beside another form than words.
-pub fn log_in_words(rt: &impl Eprint) -> Ending {
-    let _ = eprintln!(rt; "kob: log: its answer has no other form than words");
-    Ending::Failed
-}
-
 /// Settings that no command changes.
 pub fn other_settings(rt: &impl Eprint) {
     let _ = eprintln!(rt;

@@ -6,6 +6,8 @@ use Rattle.kob_policy_text.specs.declared.question.Question.{Question}
 use Rattle.kob_policy_text.specs.declared.question.Question.TheVariants.{May, Expect, Who, WhoConsumes, WhoBelow, Rights, Sees, Summary, Unused, Shadowed, Removable}
 
 abbrev pub column_name : Column → List ℕ
+column_name column.Accesses = codes "accesses"
+column_name column.Allowed = codes "allowed"
 column_name column.Answer = codes "answer"
 column_name column.Binding = codes "binding"
 column_name column.Bindings = codes "bindings"
@@ -22,10 +24,12 @@ column_name column.Hosts = codes "hosts"
 column_name column.Kind = codes "kind"
 column_name column.LeftOut = codes "left_out"
 column_name column.Line = codes "line"
+column_name column.LogLine = codes "log_line"
 column_name column.Name = codes "name"
 column_name column.Named = codes "named"
 column_name column.On = codes "on"
 column_name column.Operation = codes "operation"
+column_name column.Otherwise = codes "decided_otherwise"
 column_name column.Pattern = codes "pattern"
 column_name column.Permission = codes "permission"
 column_name column.Prefix = codes "prefix"
@@ -79,6 +83,13 @@ unused_columns =
     column.Binding ∷ column.Permission ∷ column.Principal ∷ column.Host ∷ column.Operation
     ∷ column.Resource ∷ column.Pattern ∷ column.Name ∷ column.File ∷ column.Line
     ∷ column.Reason ∷ column.By ∷ []
+
+-- an access that a broker recorded, and what is decided on it
+abbrev pub access_columns : List Column
+access_columns =
+    column.LogLine ∷ column.Principal ∷ column.Host ∷ column.Operation ∷ column.Resource
+    ∷ column.Name ∷ column.Allowed ∷ column.Answer ∷ column.Reason ∷ column.Binding
+    ∷ column.File ∷ column.Line ∷ []
 
 -- how many there are of each
 abbrev pub summary_columns : List Column

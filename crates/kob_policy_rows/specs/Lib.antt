@@ -4,3 +4,4 @@ pub mod Changes
 pub mod Columns
 pub mod Csv
 pub mod Json
+pub mod Logs

@@ -96,7 +96,7 @@ fn push_whole(
     push_row(rows, row)
 }
 
-fn push_at(
+pub(crate) fn push_at(
     alloc: Global,
     rows: &mut Vec<Items<Cell>>,
     judge: &Judge,

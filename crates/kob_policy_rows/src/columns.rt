@@ -2,7 +2,8 @@
 
 ghost use Rattle.std.specs.Prelude.{◌≡◌};
 ghost use Rattle.kob_policy_rows.specs.Columns.{column_name, columns_of, is_table, kind_of};
-ghost use Rattle.kob_policy_rows.specs.Columns.{binding_columns, change_columns, check_columns};
+ghost use Rattle.kob_policy_rows.specs.Columns.{access_columns, binding_columns, change_columns};
+ghost use Rattle.kob_policy_rows.specs.Columns.{check_columns};
 ghost use Rattle.kob_policy_rows.specs.Columns.{fault_columns, grant_columns, holding_columns};
 ghost use Rattle.kob_policy_rows.specs.Columns.{omission_columns, reach_columns, summary_columns};
 ghost use Rattle.kob_policy_rows.specs.Columns.{unused_columns};
@@ -12,6 +13,8 @@ use kob_policy_text::Question;
 /// What a cell of a row is, by the name that stands above it.
 #[derive(Clone, Copy)]
 pub enum Column {
+    Accesses,
+    Allowed,
     Answer,
     Binding,
     Bindings,
@@ -28,10 +31,12 @@ pub enum Column {
     Kind,
     LeftOut,
     Line,
+    LogLine,
     Name,
     Named,
     On,
     Operation,
+    Otherwise,
     Pattern,
     Permission,
     Prefix,
@@ -55,6 +60,8 @@ pub(crate) fn column_name(column: Column) -> &'static str
     ensures { result.now ≡ column_name column }
 {
     match column {
+        Column::Accesses => "accesses",
+        Column::Allowed => "allowed",
         Column::Answer => "answer",
         Column::Binding => "binding",
         Column::Bindings => "bindings",
@@ -71,10 +78,12 @@ pub(crate) fn column_name(column: Column) -> &'static str
         Column::Kind => "kind",
         Column::LeftOut => "left_out",
         Column::Line => "line",
+        Column::LogLine => "log_line",
         Column::Name => "name",
         Column::Named => "named",
         Column::On => "on",
         Column::Operation => "operation",
+        Column::Otherwise => "decided_otherwise",
         Column::Pattern => "pattern",
         Column::Permission => "permission",
         Column::Prefix => "prefix",
@@ -160,7 +169,7 @@ fn holding_columns() -> &'static [Column]
 }
 
 /// A binding, and where it stands.
-fn binding_columns() -> &'static [Column]
+pub(crate) fn binding_columns() -> &'static [Column]
     ensures { result.now ≡ binding_columns }
 {
     &[
@@ -194,6 +203,26 @@ fn unused_columns() -> &'static [Column]
         Column::Line,
         Column::Reason,
         Column::By,
+    ]
+}
+
+/// An access that a broker recorded, and what is decided on it.
+pub(crate) fn access_columns() -> &'static [Column]
+    ensures { result.now ≡ access_columns }
+{
+    &[
+        Column::LogLine,
+        Column::Principal,
+        Column::Host,
+        Column::Operation,
+        Column::Resource,
+        Column::Name,
+        Column::Allowed,
+        Column::Answer,
+        Column::Reason,
+        Column::Binding,
+        Column::File,
+        Column::Line,
     ]
 }
 

@@ -92,7 +92,7 @@ fn push_row_line(
 
 /// What was written, and a line feed.
 #[tactic(auto, using(kob_words::proofs::Appending::appending))]
-fn push_line(out: &mut Vec<u8>, writer: Writer) -> Result<(), AllocError>
+pub(crate) fn push_line(out: &mut Vec<u8>, writer: Writer) -> Result<(), AllocError>
     ensures { OnOk result (out.new.items ≡ out.old.items
         ++ (writer.before ++ print writer.tokens ++ codes "\n")) }
 {
@@ -141,7 +141,7 @@ fn push_escaped(alloc: Global, writer: &mut Writer, text: &[u8]) -> Result<(), A
 }
 
 #[tactic(auto, using(kob_words::proofs::Appending::appending), unfolding(crate::specs::Json::number_tokens))]
-fn push_number(writer: &mut Writer, number: u64) -> Result<(), AllocError>
+pub(crate) fn push_number(writer: &mut Writer, number: u64) -> Result<(), AllocError>
     ensures tokens { OnOk result
         (writer.new.tokens ≡ writer.old.tokens ++ number_tokens number) }
     ensures before { writer.new.before ≡ writer.old.before }
@@ -151,7 +151,11 @@ fn push_number(writer: &mut Writer, number: u64) -> Result<(), AllocError>
 }
 
 #[tactic(auto, using(kob_words::proofs::Appending::appending), unfolding(crate::specs::Json::question_tokens))]
-fn push_question(alloc: Global, writer: &mut Writer, text: &[u8]) -> Result<(), AllocError>
+pub(crate) fn push_question(
+    alloc: Global,
+    writer: &mut Writer,
+    text: &[u8],
+) -> Result<(), AllocError>
     ensures tokens { OnOk result
         (writer.new.tokens ≡ writer.old.tokens ++ question_tokens text.now) }
     ensures before { writer.new.before ≡ writer.old.before }
@@ -237,7 +241,7 @@ fn push_verdict(writer: &mut Writer, judge: &Judge, question: &Question) -> Resu
 }
 
 #[tactic(auto, using(kob_words::proofs::Appending::appending))]
-fn push_each(
+pub(crate) fn push_each(
     writer: &mut Writer,
     columns: &[Column],
     rows: &[Items<Cell>],

@@ -62,7 +62,11 @@ pub use encoding::plain_text;
 pub use item::LeftOut;
 pub use judge::Judge;
 pub use laws::idempotence_is_kafkas;
-pub use log_answer::print_log;
+pub use log_answer::{
+    any_otherwise, deciders, is_otherwise, otherwise_count, print_log, skipped_lines, verdict_on,
+};
+pub use log_line::Recorded;
+pub use log_reading::{Entry, Log, read_log};
 pub use origin::{Omission, Origin};
 pub use policy::Policy;
 pub use question::{

@@ -31,13 +31,15 @@ fn asked_in(recorded: &Recorded) -> Asked<'_>
     on(&recorded.asker, &check_of(&recorded.right))
 }
 
-fn verdict_on(judge: &Judge, entry: &Entry) -> Verdict
+/// The decision of the rules on a recorded access.
+pub fn verdict_on(judge: &Judge, entry: &Entry) -> Verdict
     ensures { result ≡ verdict_on judge.now entry.now }
 {
     judge.verdict(&asked_in(&entry.recorded))
 }
 
-fn is_otherwise(judge: &Judge, entry: &Entry) -> bool
+/// Whether the rules decide a recorded access otherwise than the broker did.
+pub fn is_otherwise(judge: &Judge, entry: &Entry) -> bool
     ensures { result ≡ is_otherwise judge.now entry.now }
 {
     is_other_answer(
@@ -105,8 +107,12 @@ fn add_decider(set: &mut HashSet<u64>, judge: &Judge, entry: &Entry) -> Result<(
     }
 }
 
-/// The serials of the bindings that decide accesses.
-fn deciders(alloc: Global, judge: &Judge, accesses: &[Entry]) -> Result<HashSet<u64>, AllocError>
+/// The serials of the bindings that decide accesses. The error is out of memory.
+pub fn deciders(
+    alloc: Global,
+    judge: &Judge,
+    accesses: &[Entry],
+) -> Result<HashSet<u64>, AllocError>
     ensures { IfOk result (λ set. (serial : ℕ) → contains nat_eq set serial
         ≡ is_decider judge.now accesses.now serial) }
 {
@@ -157,7 +163,8 @@ fn push_idle_in(
     push_idle_lines(out, judge, &set)
 }
 
-fn otherwise_count(judge: &Judge, accesses: &[Entry]) -> usize
+/// How many accesses the rules decide otherwise than the broker did.
+pub fn otherwise_count(judge: &Judge, accesses: &[Entry]) -> usize
     ensures { result ≡ length (filter (is_otherwise judge.now) accesses.now) }
 {
     accesses
@@ -166,8 +173,9 @@ fn otherwise_count(judge: &Judge, accesses: &[Entry]) -> usize
         .count()
 }
 
+/// How many lines record no access.
 #[tactic(auto, unfolding(crate::specs::LogAnswers::skipped_lines))]
-fn skipped_lines(log: &Log) -> usize
+pub fn skipped_lines(log: &Log) -> usize
     ensures { result ≡ skipped_lines log.now }
 {
     (log.lines as usize)
@@ -206,7 +214,8 @@ fn push_accesses(
     push_idle_in(alloc, out, judge, &log.accesses)
 }
 
-fn any_otherwise(judge: &Judge, accesses: &[Entry]) -> bool
+/// Whether the rules decide some access otherwise than the broker did.
+pub fn any_otherwise(judge: &Judge, accesses: &[Entry]) -> bool
     ensures { result ≡ list_any (is_otherwise judge.now) accesses.now }
 {
     accesses.iter().any(|entry| is_otherwise(judge, entry))

@@ -1,0 +1,154 @@
+//! The answer about a broker's log as JSON.
+
+ghost use Rattle.std.specs.Prelude.{◌≡◌, ◌++◌, IfOk, OnOk, codes};
+ghost use Rattle.json.specs.Print.{print};
+ghost use Rattle.kob_policy_rows.specs.Logs.{array_tokens, asked_tokens, count_tokens};
+ghost use Rattle.kob_policy_rows.specs.Logs.{counts_tokens, listed_tokens, log_line, log_tokens};
+ghost use Rattle.kob_policy_text.specs.LogAnswers.{differs};
+
+use crate::cell::Cell;
+use crate::columns::{Column, access_columns, binding_columns, column_name};
+use crate::log_rows::{push_idle_in, push_otherwise};
+use crate::objects::{push_each, push_line, push_number, push_question};
+use json::Writer;
+use kob_names::Items;
+use kob_policy_text::{Entry, Judge, Log, any_otherwise, otherwise_count, read_log, skipped_lines};
+use std::alloc::{AllocError, Global};
+
+#[tactic(auto, using(kob_words::proofs::Appending::appending), unfolding(crate::specs::Logs::array_tokens))]
+fn push_array(
+    writer: &mut Writer,
+    name: &str,
+    columns: &[Column],
+    rows: &[Items<Cell>],
+) -> Result<(), AllocError>
+    ensures tokens { OnOk result
+        (writer.new.tokens ≡ writer.old.tokens ++ array_tokens name.now columns.now rows.now) }
+    ensures before { writer.new.before ≡ writer.old.before }
+{
+    writer.key(name)?;
+    writer.begin_array()?;
+    push_each(writer, columns, rows)?;
+    writer.end_array()
+}
+
+#[tactic(auto, using(kob_words::proofs::Appending::appending), unfolding(crate::specs::Logs::count_tokens))]
+fn push_count(writer: &mut Writer, column: Column, count: usize) -> Result<(), AllocError>
+    ensures tokens { OnOk result
+        (writer.new.tokens ≡ writer.old.tokens ++ count_tokens column count) }
+    ensures before { writer.new.before ≡ writer.old.before }
+{
+    writer.key(column_name(column))?;
+    writer.u64(count as u64)
+}
+
+#[tactic(auto, using(kob_words::proofs::Appending::appending), unfolding(crate::specs::Logs::counts_tokens))]
+fn push_counts(writer: &mut Writer, judge: &Judge, log: &Log) -> Result<(), AllocError>
+    ensures tokens { OnOk result
+        (writer.new.tokens ≡ writer.old.tokens ++ counts_tokens judge.now log.now) }
+    ensures before { writer.new.before ≡ writer.old.before }
+{
+    push_count(writer, Column::Accesses, log.accesses.len())?;
+    push_count(
+        writer,
+        Column::Otherwise,
+        otherwise_count(judge, &log.accesses),
+    )?;
+    push_count(writer, Column::LeftOut, log.others.len())?;
+    push_count(writer, Column::SkippedLines, skipped_lines(log))
+}
+
+#[tactic(auto, using(kob_words::proofs::Appending::appending), unfolding(crate::specs::Logs::listed_tokens))]
+fn push_listed(
+    alloc: Global,
+    writer: &mut Writer,
+    judge: &Judge,
+    accesses: &[Entry],
+) -> Result<(), AllocError>
+    ensures tokens { OnOk result
+        (writer.new.tokens ≡ writer.old.tokens ++ listed_tokens judge.now accesses.now) }
+    ensures before { writer.new.before ≡ writer.old.before }
+{
+    let mut rows = Vec::new(alloc);
+    push_otherwise(alloc, &mut rows, judge, accesses)?;
+    push_array(writer, "rows", access_columns(), &rows)?;
+    let mut idle = Vec::new(alloc);
+    push_idle_in(alloc, &mut idle, judge, accesses)?;
+    push_array(writer, "idle", binding_columns(), &idle)
+}
+
+#[tactic(auto, using(kob_words::proofs::Appending::appending), unfolding(crate::specs::Logs::asked_tokens))]
+fn push_asked(alloc: Global, writer: &mut Writer, number: u64, file: &str) -> Result<(), AllocError>
+    ensures tokens { OnOk result
+        (writer.new.tokens ≡ writer.old.tokens ++ asked_tokens number file.now) }
+    ensures before { writer.new.before ≡ writer.old.before }
+{
+    let mut question = Vec::new(alloc);
+    question.extend_from_slice(b"log ")?;
+    question.extend_from_slice(file.as_bytes())?;
+    push_number(writer, number)?;
+    push_question(alloc, writer, &question)?;
+    writer.key("kind")?;
+    writer.string("log")
+}
+
+#[tactic(auto, using(kob_words::proofs::Appending::appending))]
+fn push_log(
+    alloc: Global,
+    writer: &mut Writer,
+    judge: &Judge,
+    number: u64,
+    file: &str,
+    log: &Log,
+) -> Result<(), AllocError>
+    ensures tokens { OnOk result
+        (writer.new.tokens ≡ writer.old.tokens ++ log_tokens judge.now number file.now log.now) }
+    ensures before { writer.new.before ≡ writer.old.before }
+{
+    writer.begin_object()?;
+    push_asked(alloc, writer, number, file)?;
+    push_counts(writer, judge, log)?;
+    push_listed(alloc, writer, judge, &log.accesses)?;
+    writer.end_object()
+}
+
+fn push_log_line(
+    alloc: Global,
+    out: &mut Vec<u8>,
+    judge: &Judge,
+    number: u64,
+    file: &str,
+    log: &Log,
+) -> Result<(), AllocError>
+    ensures { OnOk result (out.new.items ≡ out.old.items
+        ++ (print (log_tokens judge.now number file.now log.now) ++ codes "\n")) }
+{
+    let mut writer = Writer::new(Vec::new(alloc));
+    match push_log(alloc, &mut writer, judge, number, file, log) {
+        Ok(()) => push_line(out, writer),
+        Err(refused) => {
+            drop(writer);
+            Err(refused)
+        }
+    }
+}
+
+/// Prints the answer about the text of a broker's log as an object on a line. Returns whether some
+/// access is decided otherwise than is recorded. The error is out of memory; `out` has then grown by
+/// a part of the line.
+pub fn print_json_log(
+    alloc: Global,
+    out: &mut Vec<u8>,
+    judge: &Judge,
+    number: u64,
+    file: &str,
+    text: &[u8],
+) -> Result<bool, AllocError>
+    ensures printed { OnOk result (out.new.items
+        ≡ out.old.items ++ log_line judge.now number file.now text.now) }
+    ensures differs { IfOk result (λ found. found ≡ differs judge.now text.now) }
+{
+    let log = read_log(alloc, text)?;
+    push_log_line(alloc, out, judge, number, file, &log)?;
+    Ok(any_otherwise(judge, &log.accesses))
+}
