@@ -5,8 +5,8 @@ ghost use Rattle.std.specs.Option.{option_copied};
 ghost use Rattle.kob_policy_review.specs.Removal.{removable_in};
 ghost use Rattle.kob_policy_review.specs.Shadows.{shadowed_in};
 ghost use Rattle.kob_policy_rows.specs.Answers.{listed_rows, unneeded_rows, unused_rows};
-ghost use Rattle.kob_policy_rows.specs.Cells.{binding_cells, bound_at, bound_rows, grant_cells};
-ghost use Rattle.kob_policy_rows.specs.Cells.{pattern_cells, why_cells};
+ghost use Rattle.kob_policy_rows.specs.Cells.{binding_cells, bound_at, bound_row, bound_rows};
+ghost use Rattle.kob_policy_rows.specs.Cells.{grant_cells, pattern_cells, why_cells};
 ghost use Rattle.kob_policy_text.specs.Policy.{contents_of};
 
 use crate::cell::{Cell, push_nothing, push_number, push_row, push_words};
@@ -96,6 +96,25 @@ fn push_whole(
     push_row(rows, row)
 }
 
+fn push_found(
+    alloc: Global,
+    rows: &mut Vec<Items<Cell>>,
+    judge: &Judge,
+    why: Option<Reason>,
+    place: usize,
+    binding: Option<&Binding>,
+) -> Result<(), AllocError>
+    ensures { OnOk result (rows.new.items ≡ rows.old.items
+        ++ bound_row judge.now why place (option_copied binding.entry)) }
+{
+    let serial = judge.serials().get(place).copied().unwrap_or(0);
+    let origin = judge.policy().origins().get(place);
+    match binding {
+        None => Ok(()),
+        Some(binding) => push_whole(alloc, rows, serial, binding, origin, why),
+    }
+}
+
 pub(crate) fn push_at(
     alloc: Global,
     rows: &mut Vec<Items<Cell>>,
@@ -106,13 +125,8 @@ pub(crate) fn push_at(
     ensures { OnOk result
         (rows.new.items ≡ rows.old.items ++ bound_at judge.now why (Some place)) }
 {
-    let policy = judge.policy();
-    let serial = judge.serials().get(place).copied().unwrap_or(0);
-    let origin = policy.origins().get(place);
-    match policy.bindings().get(place) {
-        None => Ok(()),
-        Some(binding) => push_whole(alloc, rows, serial, binding, origin, why),
-    }
+    let binding = judge.policy().bindings().get(place);
+    push_found(alloc, rows, judge, why, place, binding)
 }
 
 /// The binding with a serial, if it stands in a list.
