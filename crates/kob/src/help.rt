@@ -139,11 +139,11 @@ hexadecimal digits stand for a byte. A line that begins with # is a comment.
   service NAME PRINCIPAL HOST partitions N [by COLUMN] [replacement TEXT] [placement TEXT]
     NAME record ID AGGREGATETYPE AGGREGATEID TYPE PAYLOAD KIND KEY STATE    NAME business KIND KEY
     NAME tick [lose-request|lose-reply]     NAME run    NAME restart    NAME sweep    NAME outbox
-  consumer NAME PRINCIPAL HOST group GROUP max N reads TOPIC:PARTITION ..
+  consumer NAME PRINCIPAL HOST group GROUP max N [start latest] reads TOPIC:PARTITION ..
     NAME tick [lose-request|lose-reply]     NAME run    NAME restart    NAME inbox
   journal               every request that was served, with its reply
   law SERVICE CONSUMER  whether the laws of delivery apply to the two
-  check SERVICE CONSUMER    which events are delivered, waiting, lost or doubled, and by what
+  check SERVICE CONSUMER    which events are delivered, waiting, lost, doubled or misordered
   expect SERVICE CONSUMER delivered all|lost ID|order       status 3 if it is not so
 ";
 

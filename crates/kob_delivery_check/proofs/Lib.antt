@@ -1,2 +1,4 @@
-pub mod Listed
-pub mod More
+mod Earlier
+mod Listed
+mod More
+mod Placed

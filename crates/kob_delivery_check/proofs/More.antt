@@ -1,10 +1,11 @@
 -- What one item more adds to what a loop has made.
 use Rattle.std.proofs.Common.{Bool, List, Some, [], ap, cond, false, get_or, length, map, refl, sym, take, true, ℕ, ◌++◌, ◌+◌, ◌<◌, ◌==◌, ◌||◌, ◌∙◌, ◌∷◌, ◌≡◌}
 use Rattle.std.proofs.lemmas.List.{flat_map_more, map-append, take_more}
+use Rattle.std.proofs.lemmas.List.Elements.{filter-append}
 use Rattle.std.proofs.lemmas.List.Sums.{fold_more}
 use Rattle.std.proofs.lemmas.List.Folds.{list_any-append}
 use Rattle.std.proofs.lemmas.Option.{get_or_from_slice_get}
-use Rattle.std.specs.List.{flat_map, fold, list_any}
+use Rattle.std.specs.List.{filter, flat_map, fold, list_any}
 use Rattle.std.specs.Prelude.{slice_get}
 
 -- to a fold
@@ -51,3 +52,18 @@ pub parts_to : {A B : Type 0} (part : A → List B) (xs : List A) (k : ℕ) (x :
 parts_to part xs k x held mid now below is so_far more =
     more ∙ ap (λ ys. ys ++ part x) so_far ∙ flat_map_more part held (take k xs) x
     ∙ ap (λ zs. held ++ flat_map part zs) (sym (next xs k x below (sym (get_or_from_slice_get xs k x x is))))
+
+one_kept : {A B : Type 0} (g : A → B) (x : A) (test : Bool) → map g (cond test (x ∷ []) []) ≡ cond test (g x ∷ []) []
+one_kept g x true = refl
+one_kept g x false = refl
+
+-- to the items of a list that pass a test
+pub kept_to : {A B : Type 0} (p : B → Bool) (g : A → B) (xs : List A) (k : ℕ) (x : A) (test : Bool) (mid now : List A)
+    → k < length xs → x ≡ get_or xs k x → test ≡ p (g x) → map g mid ≡ filter p (map g (take k xs))
+    → now ≡ mid ++ cond test (x ∷ []) [] → map g now ≡ filter p (map g (take (k + 1) xs))
+kept_to p g xs k x test mid now below is passes so_far more =
+    ap (map g) more ∙ map-append g mid (cond test (x ∷ []) []) ∙ ap (λ ys. ys ++ map g (cond test (x ∷ []) [])) so_far
+    ∙ ap (λ zs. filter p (map g (take k xs)) ++ zs)
+    (one_kept g x test ∙ ap (λ b. cond b (g x ∷ []) []) passes)
+    ∙ sym (filter-append p (map g (take k xs)) (g x ∷ []))
+    ∙ ap (filter p) (sym (ap (map g) (next xs k x below is) ∙ map-append g (take k xs) (x ∷ [])))

@@ -2,9 +2,13 @@ pub mod Causes
 pub mod Fates
 pub mod Journaled
 pub mod Logs
+pub mod Order
 pub mod Printed
+pub mod PrintedOrder
 pub mod PrintedPieces
 pub mod PrintedRecords
 pub mod Reaches
 pub mod Repeats
 pub mod Sent
+pub mod Starts
+pub mod Unread

@@ -1,19 +1,18 @@
 -- How the answer to a check is printed: how many events are where, and the first that waits.
-use Rattle.std.specs.Prelude.{ℕ, ◌==◌, List, [], ◌++◌, Option, if◌then◌else◌, None, Some, codes, length, slice_get, string_bytes}
+use Rattle.std.specs.Prelude.{ℕ, List, [], ◌++◌, Option, None, Some, codes, length, slice_get}
 use Rattle.std.specs.Fmt.{decimal}
 use Rattle.std.specs.List.{count_by, position}
 use Rattle.kob_delivery_check.specs.Fates.{is_delivered, is_lost, is_waiting}
+use Rattle.kob_delivery_check.specs.PrintedOrder.{record_lines, row_lines}
 use Rattle.kob_delivery_check.specs.PrintedPieces.{counted, event_text, place_text}
 use Rattle.kob_delivery_check.specs.PrintedRecords.{doubled_lines, lost_lines}
 use Rattle.kob_delivery_check.specs.declared.printed.Found.{Found}
 use Rattle.kob_delivery_check.specs.declared.fate.Fate.{Fate}
 use Rattle.kob_delivery_check.specs.declared.fate.Fate.TheVariants.{Delivered, Ahead, Outbox, Lost}
-use Rattle.kob_outbox.specs.Contents.{id_text}
 use Rattle.kob_outbox.specs.declared.event.OutboxEvent.{OutboxEvent}
 use Rattle.kob_router.specs.Line.{one_more}
 use Rattle.kob_router.specs.declared.place.Place.{Place}
 use Rattle.kob_shared.specs.declared.journal.Entry.{Entry}
-use Rattle.kob_words.specs.Words.{bytes_text}
 
 -- where an event waits
 abbrev pub where_text : List Place → Fate → List ℕ
@@ -52,3 +51,5 @@ check_text number journal events found assignment =
     head_text number found.fates.items ++ waits_text events found.fates.items assignment
     ++ lost_lines journal assignment events found.losses.items
     ++ doubled_lines journal assignment events found.repeats.items
+    ++ row_lines events found.early_rows.items
+    ++ record_lines events assignment found.early_records.items

@@ -2,23 +2,35 @@
 #![tactic(auto)]
 
 mod cause;
+mod come;
 mod fate;
 mod fates;
 mod journaled;
 mod obstacle;
+mod order;
 mod partition_log;
 mod printed;
+mod printed_order;
 mod printed_pieces;
 mod printed_records;
 mod reach;
+mod record_order;
 mod repeats;
 mod sent;
+mod start;
+mod unread;
 
 pub use cause::{Cause, Loss, losses_of};
+pub use come::{Arrival, count_taken};
 pub use fate::Fate;
 pub use fates::fates_of;
 pub use journaled::{log_by, reaches_by};
+pub use order::{Early, early_rows};
 pub use partition_log::PartitionLog;
 pub use printed::{Found, print_check};
 pub use reach::{Reach, Stored, records_ahead};
+pub use record_order::{EarlyRecord, early_records};
 pub use repeats::{records_of, repeats_of};
+pub use sent::place_of;
+pub use start::start_due;
+pub use unread::unread_of;

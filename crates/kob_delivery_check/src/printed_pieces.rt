@@ -29,7 +29,7 @@ pub(crate) fn push_counted(out: &mut Vec<u8>, number: u64) -> Result<(), AllocEr
 
 /// An event's id after a space, in lower case with hyphens.
 #[tactic(auto, using(kob_words::proofs::Appending::appending))]
-fn push_id(out: &mut Vec<u8>, id: Uuid) -> Result<(), AllocError>
+pub(crate) fn push_id(out: &mut Vec<u8>, id: Uuid) -> Result<(), AllocError>
     ensures { OnOk result (out.new.items ≡ out.old.items ++ spaced (id_text id)) }
 {
     let mut buffer = Uuid::encode_buffer();

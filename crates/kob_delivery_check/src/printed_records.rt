@@ -35,7 +35,7 @@ fn push_committed(out: &mut Vec<u8>, offset: u64, group: &Text) -> Result<(), Al
 
 /// A number after a text.
 #[tactic(auto, using(kob_words::proofs::Appending::appending))]
-fn push_labelled(out: &mut Vec<u8>, label: &[u8], number: u64) -> Result<(), AllocError>
+pub(crate) fn push_labelled(out: &mut Vec<u8>, label: &[u8], number: u64) -> Result<(), AllocError>
     ensures { OnOk result (out.new.items ≡ out.old.items ++ (label.now ++ counted number)) }
 {
     out.extend_from_slice(label)?;

@@ -29,7 +29,8 @@ pub fn records_of(
     Ok(records)
 }
 
-fn push_once(
+/// Adds the records of events in a partition, where it is not assigned before.
+pub(crate) fn push_once(
     records: &mut Vec<Stored>,
     assignment: &[Place],
     assigned: usize,

@@ -1,7 +1,9 @@
 //! Which entries of a journal send an event.
 
-ghost use Rattle.std.specs.Prelude.{◌≡◌, ◌<◌, IfSome, Some, length, slice_get};
+ghost use Rattle.std.specs.Prelude.{◌≡◌, ◌<◌, ◌==◌, IfSome, Some, length, map, slice_get};
 ghost use Rattle.std.specs.List.{list_any, position};
+ghost use Rattle.kob_delivery_check.specs.Logs.{number_of};
+ghost use Rattle.kob_delivery_check.specs.PrintedOrder.{place_of};
 ghost use Rattle.std.specs.Option.{option_copied};
 ghost use Rattle.kob_delivery_check.specs.Sent.{has_event, is_event_of, is_number, put_at, put_on};
 ghost use Rattle.kob_delivery_check.specs.Sent.{puts, sends, sent_at};
@@ -9,6 +11,7 @@ ghost use Rattle.kob_delivery_check.specs.Sent.{puts, sends, sent_at};
 use crate::partition_log::{event_number, is_on};
 use crate::reach::Stored;
 use kob_names::Record;
+use kob_outbox::OutboxEvent;
 use kob_rights::{Body, Reply, Request};
 use kob_router::Place;
 use kob_shared::Journal;
@@ -101,4 +104,17 @@ fn is_event_of(event: u128, message: Option<&Record>) -> bool
         Some(message) => is_number(event, event_number(message)),
         None => false,
     }
+}
+
+/// The place of the event with this id among the events that a service recorded.
+pub fn place_of(id: u128, events: &[&OutboxEvent]) -> Option<usize>
+    ensures { result ≡ place_of id (map (λ event. event.now) events.now) }
+{
+    place_in(id, events)
+}
+
+fn place_in(id: u128, events: &[&OutboxEvent]) -> Option<usize>
+    ensures { result ≡ position (λ event. number_of event.now.id == id) events.now }
+{
+    events.iter().position(|event| event.id.as_u128() == id)
 }

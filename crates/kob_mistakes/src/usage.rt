@@ -59,7 +59,7 @@ static LINES: [(&str, &str); 8] = [
     ),
     (
         "consumer",
-        "consumer NAME PRINCIPAL HOST group GROUP max N reads TOPIC:PARTITION ..",
+        "consumer NAME PRINCIPAL HOST group GROUP max N [start latest] reads TOPIC:PARTITION ..",
     ),
     ("journal", "journal"),
     ("law", "law SERVICE CONSUMER"),
@@ -140,13 +140,15 @@ static WORDS: [&str; 50] = [
 ];
 
 /// The words of declarations and steps behind their first two.
-static PARTS: [&str; 13] = [
+static PARTS: [&str; 15] = [
     "partitions",
     "by",
     "replacement",
     "placement",
     "group",
     "max",
+    "start",
+    "latest",
     "reads",
     "lose-request",
     "lose-reply",

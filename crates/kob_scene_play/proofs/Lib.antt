@@ -1,7 +1,6 @@
 pub mod Answered
 pub mod Checked
 pub mod ConsumerRunning
-pub mod Earlier
 pub mod Expecting
 pub mod Kept
 pub mod Listed

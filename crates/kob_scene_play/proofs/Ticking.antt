@@ -1,9 +1,12 @@
 -- Ticks over a line of their own.
-use Rattle.kob_scene_play.proofs.Words.{ArePassedOn, AreServed, Call, Consumer, IsConsumerTick, IsJournaled, IsSameConsumer, IsSameService, IsServiceTick, Journals, List, LosesFirst, Loss, PassesCallsOn, Record, Served, Service, Ticks, [], inl, inr, point_of, served_in, subst, sym, ℕ, map, ◌++◌, ◌∙◌, ◌∷◌, ◌≡◌, ap}
+use Rattle.kob_scene_play.proofs.Words.{ArePassedOn, AreServed, Call, Consumer, IsOwnTick, IsJournaled, IsSameConsumer, IsSameService, IsServiceTick, Journals, List, LosesFirst, Loss, PassesCallsOn, Record, Served, Service, Ticks, [], inl, inr, point_of, served_in, subst, sym, ℕ, map, ◌++◌, ◌∙◌, ◌∷◌, ◌≡◌, ap, Err, IfOk, IsConsumerTick, None, Ok, Option, Result, Some}
 use Rattle.kob_inbox.specs.declared.tick.Tick.{Tick as ConsumerAnswer}
+use Rattle.kob_rights.specs.declared.event.Event.{Event}
 use Rattle.kob_router.specs.Run.{dispatch_of}
 use Rattle.kob_router.specs.Tick as router_ticks
 use Rattle.kob_router.specs.declared.tick.Tick.{Tick as ServiceAnswer}
+use Rattle.kob_scene_play.specs.Begins.{IsBegun, start_event}
+use Rattle.kob_scene_play.specs.Steps.{IsTickBy}
 
 -- calls of a line that are served below it are served
 served_below : (calls below : List Call) (served : List Served) → ArePassedOn calls below → AreServed below served
@@ -81,7 +84,7 @@ pub consumer_ticked : (loss : Loss) (old new : Consumer) (tick : ConsumerAnswer)
     → IsJournaled old.worker old.principal old.host now recorded then_recorded
     → Ticks old.fetcher.subscription (point_of old.fetcher old.inbox before unmade)
     (point_of new.fetcher new.inbox now then_unmade) tick
-    → IsConsumerTick loss old new recorded then_recorded tick
+    → IsOwnTick loss old new recorded then_recorded tick
 consumer_ticked loss old new tick before now unmade then_unmade recorded then_recorded lost same none all journaled ticks =
     let Begun : List Call → ℕ → Type 0 =
     λ calls count. Ticks old.fetcher.subscription (point_of old.fetcher old.inbox calls count)
@@ -94,3 +97,22 @@ consumer_ticked loss old new tick before now unmade then_unmade recorded then_re
       unmade = then_unmade;
       ticks = subst (Begun []) all (subst (λ calls. Begun calls unmade) none ticks);
     }
+
+-- a tick of a consumer that has to begin is the commit of the end
+pub tick_begun : {E : Type 0} (result : Result ConsumerAnswer E) (loss : Loss) (old new : Consumer) (before after : Record)
+    (due : Option Event) (event : Event)
+    → due ≡ start_event old.start old.principal old.host old.fetcher before.journal → due ≡ Some event → new ≡ old
+    → IfOk result (IsBegun loss old.worker event before after)
+    → IfOk result (IsConsumerTick loss old new before after)
+tick_begun (Ok tick) loss old new before after due event found is same begun =
+    subst (λ (d : Option Event). IsTickBy d loss old new before after tick) (sym is ∙ found) (same, begun)
+tick_begun (Err fault) loss old new before after due event found is same begun = begun
+
+-- and any other is the consumer's own
+pub tick_own : {E : Type 0} (result : Result ConsumerAnswer E) (loss : Loss) (old new : Consumer) (before after : Record)
+    (due : Option Event)
+    → due ≡ start_event old.start old.principal old.host old.fetcher before.journal → due ≡ None
+    → IfOk result (IsOwnTick loss old new before after) → IfOk result (IsConsumerTick loss old new before after)
+tick_own (Ok tick) loss old new before after due found is own =
+    subst (λ (d : Option Event). IsTickBy d loss old new before after tick) (sym is ∙ found) own
+tick_own (Err fault) loss old new before after due found is own = own

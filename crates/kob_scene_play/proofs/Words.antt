@@ -4,7 +4,6 @@ pub use Rattle.kob_inbox.specs.Run.Move.{Restarted}
 pub use Rattle.kob_inbox.specs.Tick.{Ticks, point_of}
 pub use Rattle.kob_inbox.specs.declared.fetcher.Subscription.{Subscription}
 pub use Rattle.kob_inbox.specs.declared.tick.Tick.{Tick}
-pub use Rattle.kob_inbox.specs.declared.inbox_row.InboxRow.{InboxRow}
 pub use Rattle.kob_lines.specs.Calls.{ArePassedOn, IsJournaled, Journals, PassesCallsOn, served_in}
 pub use Rattle.kob_lines.specs.declared.lossy.Loss.{Loss}
 pub use Rattle.kob_outbox.specs.Contents.{Contents, id_text, first_bad, without_sent, after_record, is_recorded, next_seq}
@@ -21,15 +20,16 @@ pub use Rattle.kob_router.specs.Run.{Hand}
 pub use Rattle.kob_router.specs.Run.Move.{Recorded}
 pub use Rattle.kob_router.specs.Tick.{IsFirst, hand_of}
 pub use Rattle.kob_router.specs.declared.line.Call.{Call}
-pub use Rattle.kob_scene_play.specs.Stages.{line_of, IsOpened, declared_consumer, declared_service, named_consumer, named_service, IsAnswered, IsLaw, law_text, IsMisplaced}
+pub use Rattle.kob_scene_play.specs.Stages.{line_of, IsOpened, declared_consumer, declared_service, named_consumer, named_service}
+pub use Rattle.kob_scene_play.specs.Laws.{IsAnswered, IsCoverage, IsLaw, law_text}
+pub use Rattle.kob_scene_play.specs.declared.law.Coverage.{Coverage}
 pub use Rattle.kob_delivery_check.specs.Printed.{check_text}
 pub use Rattle.kob_scene_play.specs.Checks.{IsChecked, IsFound}
-pub use Rattle.kob_scene_play.specs.Steps.{Tells, Writes, AllGoOn, AreTicks, EndsRun, IsConsumerStep, IsServiceStep, IsTold, Records, Consumer, Consumes, Does, IsConsumerTick, IsSameConsumer, IsServiceTick, LosesFirst, Service, IsConsumerChange, IsPrinted, IsReadOnce, IsServiceChange, IsSameService, consumer_goes_on, consumer_line, service_line, idle_in_row, idle_with, left_after, recorded_after, service_goes_on}
+pub use Rattle.kob_scene_play.specs.Steps.{Tells, Writes, AllGoOn, AreTicks, EndsRun, IsConsumerStep, IsServiceStep, IsTold, Records, Consumer, Consumes, Does, IsConsumerTick, IsOwnTick, IsSameConsumer, IsServiceTick, LosesFirst, Service, IsConsumerChange, IsPrinted, IsReadOnce, IsServiceChange, IsSameService, consumer_goes_on, consumer_line, service_line, idle_in_row, idle_with, left_after, recorded_after, service_goes_on}
 pub use Rattle.kob_scene_play.specs.Scenes.{ArePlayed, EndsAs, EndsScene, EndsSteps, IsRead, IsReady, IsServed, IsShown, IsStep, IsWritten, Leaves, OthersStay, Show, StopsIn, WritesSteps, show_of}
 pub use Rattle.kob_scene_play.specs.Forms.{fault_shown, shown_by, shown_text, stopped_shown}
 pub use Rattle.kob_scene_play.specs.declared.form.Form.{Form}
 pub use Rattle.kob_scene_play.specs.declared.form.Shown.{Shown}
-pub use Rattle.kob_scene_play.specs.Orders.{first_early, id_before, is_missing, is_of_aggregate, last_of, number_of}
 pub use Rattle.kob_scene_play.specs.declared.consumer_steps.Left.{Left}
 pub use Rattle.kob_scene_play.specs.declared.fault.PlayFault.{PlayFault}
 pub use Rattle.kob_scene_play.specs.declared.stage.PlayedConsumer.{PlayedConsumer}
@@ -44,15 +44,15 @@ pub use Rattle.kob_scene_text.specs.declared.scene.Scene.{Scene}
 pub use Rattle.kob_scene_text.specs.declared.scene.ServiceStep.{ServiceStep}
 pub use Rattle.kob_scene_text.specs.declared.scene.Step.{Step}
 pub use Rattle.kob_shared.specs.declared.journal.Entry.{Entry}
-pub use Rattle.std.proofs.Common.{Bool, List, [], ap, append-nil, append_assoc, arith, codes, drop, false, inl, inr, length, map, refl, rules, set, subst, suc, sym, take, true, zero, ℕ, ◌++◌, ◌+◌, ◌<◌, ◌∙◌, ◌∷◌, ◌≡◌, ◌≤◌, cond, get_or, reverse, string_bytes, unwrap_or, ◌==◌, ◌||◌}
+pub use Rattle.std.proofs.Common.{Bool, List, [], ap, append-nil, append_assoc, arith, codes, drop, false, inl, inr, length, map, refl, rules, set, subst, suc, sym, take, true, zero, ℕ, ◌++◌, ◌+◌, ◌<◌, ◌∙◌, ◌∷◌, ◌≡◌, ◌≤◌, get_or, ◌||◌}
 pub use Rattle.std.proofs.KnownBytes.{Appends-trans}
-pub use Rattle.std.proofs.lemmas.List.{flat_map_more, length-take-le, take-append-drop, take_all, take_more, drop_more, map-append, reverse-append}
+pub use Rattle.std.proofs.lemmas.List.{flat_map_more, length-take-le, take-append-drop, take_all, take_more, map-append}
 pub use Rattle.kob_script.specs.Printed.{stopped_text}
 pub use Rattle.kob_shared.specs.Journals.{Record}
 pub use Rattle.std.proofs.lemmas.Option.{get_or_from_slice_get, none-some, slice_get_read}
 pub use Rattle.std.specs.Fmt.{decimal}
 pub use Rattle.std.specs.Io.KnownBytes.{Appends}
-pub use Rattle.std.specs.List.{enumerate_from, flat_map, list_any}
+pub use Rattle.std.specs.List.{enumerate_from, flat_map}
 pub use Rattle.std.specs.Option.{is_some, option_and_then}
 pub use Rattle.std.specs.Prelude.{Err, IfOk, IsErrOf, IsTrue, MatchOption, None, Ok, OnErr, OnOk, Option, Result, Some, option_map, slice_get}
 pub use Rattle.std.specs.Vec.Iter.{into_iter_items}

@@ -4,10 +4,13 @@ use Rattle.std.specs.Prelude.{◌≡◌, ℕ, List, Some, map, slice_get}
 use Rattle.kob_delivery_check.specs.Causes.{losses_by}
 use Rattle.kob_delivery_check.specs.Fates.{fates_by}
 use Rattle.kob_delivery_check.specs.Journaled.{reach_of}
+use Rattle.kob_delivery_check.specs.Order.{early_records, early_rows}
 use Rattle.kob_delivery_check.specs.Printed.{check_text}
 use Rattle.kob_delivery_check.specs.Reaches.{records_ahead}
 use Rattle.kob_delivery_check.specs.Repeats.{records_of, repeats_of}
 use Rattle.kob_delivery_check.specs.declared.fate.Fate.{Fate}
+use Rattle.kob_delivery_check.specs.declared.order.Early.{Early}
+use Rattle.kob_delivery_check.specs.declared.record_order.EarlyRecord.{EarlyRecord}
 use Rattle.kob_delivery_check.specs.declared.printed.Found.{Found}
 use Rattle.kob_delivery_check.specs.declared.reach.Reach.{Reach}
 use Rattle.kob_delivery_check.specs.declared.reach.Stored.{Stored}
@@ -20,12 +23,14 @@ use Rattle.kob_scene_play.specs.Steps.{Consumer, Service}
 use Rattle.kob_scene_play.specs.declared.stage.PlayedConsumer.{PlayedConsumer}
 use Rattle.kob_scene_play.specs.declared.stage.PlayedService.{PlayedService}
 use Rattle.kob_scene_play.specs.declared.stage.Stage.{Stage}
+use Rattle.kob_scene_text.specs.Scenes.{is_latest}
 use Rattle.kob_shared.specs.declared.journal.Entry.{Entry}
 
 -- the consumer's partitions, with what they hold by its broker's journal
 abbrev pub reaches_of : List Entry → Consumer → List Reach
 reaches_of journal consumer =
-    map (reach_of journal consumer.fetcher) consumer.fetcher.subscription.assignment
+    map (reach_of (is_latest consumer.start) journal consumer.fetcher)
+    consumer.fetcher.subscription.assignment
 
 -- the records of events that the consumer has before it
 abbrev pub ahead_of : List Entry → Consumer → List Stored
@@ -46,12 +51,27 @@ AreFates service consumer journal fates =
     ≡ first_after service.outbox.mark 4294967295 service.outbox.events)
     × (fates ≡ fates_by taken (ahead_of journal consumer) waiting service.recorded)
 
--- where each event is, why each lost one is lost, and which records repeat one
+-- the rows of its inbox that are out of order
+abbrev pub AreEarly : Service → Consumer → List Early → Type 0
+AreEarly service consumer early =
+    (taken : List InboxRow)
+    × (map placed_intake taken ≡ enumerate_from 1 consumer.inbox)
+    × (early ≡ early_rows service.recorded taken)
+
+-- the records in its partitions that are out of order
+abbrev pub early_in_topics : Service → Consumer → List Entry → List EarlyRecord
+early_in_topics service consumer journal =
+    early_records consumer.fetcher.subscription.assignment service.recorded
+    (reaches_of journal consumer)
+
+-- where each event is, why each lost one is lost, which records repeat one, and what is out of order
 abbrev pub IsFound : Service → Consumer → List Entry → Found → Type 0
 IsFound service consumer journal found =
     AreFates service consumer journal found.fates.items
     × (found.losses.items ≡ losses_by consumer.fetcher.subscription journal service.recorded found.fates.items)
     × (found.repeats.items ≡ repeats_in journal consumer)
+    × AreEarly service consumer found.early_rows.items
+    × (found.early_records.items ≡ early_in_topics service consumer journal)
 
 abbrev pub IsCheck : Service → Consumer → List Entry → ℕ → List ℕ → Type 0
 IsCheck service consumer journal told text =

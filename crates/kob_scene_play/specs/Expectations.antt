@@ -1,14 +1,15 @@
 -- Whether the events of a service are where they are expected to be.
-use Rattle.std.specs.List.{list_all, position}
-use Rattle.std.specs.Prelude.{◌≡◌, ◌==◌, ◌||◌, ℕ, Bool, true, false, not, List, ◌++◌, Option, None, Some, codes, is_none, slice_get}
+use Rattle.std.specs.List.{list_all}
+use Rattle.std.specs.Prelude.{◌≡◌, ◌==◌, ◌||◌, ℕ, Bool, true, false, not, List, ◌++◌, Option, None, Some, codes, length, slice_get}
 use Rattle.std.specs.Fmt.{decimal}
 use Rattle.kob_delivery_check.specs.Fates.{is_delivered, is_lost}
 use Rattle.kob_delivery_check.specs.Logs.{number_of}
+use Rattle.kob_delivery_check.specs.PrintedOrder.{place_of}
 use Rattle.kob_delivery_check.specs.declared.fate.Fate.{Fate}
+use Rattle.kob_delivery_check.specs.declared.order.Early.{Early}
 use Rattle.kob_outbox.specs.declared.event.OutboxEvent.{OutboxEvent}
 use Rattle.kob_router.specs.Line.{one_more}
-use Rattle.kob_scene_play.specs.Checks.{AreFates}
-use Rattle.kob_scene_play.specs.Stages.{IsMisplaced}
+use Rattle.kob_scene_play.specs.Checks.{AreEarly, AreFates}
 use Rattle.kob_scene_play.specs.Steps.{Consumer, Service}
 use Rattle.kob_scene_play.specs.declared.stage.PlayedConsumer.{PlayedConsumer}
 use Rattle.kob_scene_play.specs.declared.stage.PlayedService.{PlayedService}
@@ -27,8 +28,7 @@ is_lost_at fates None = false
 
 -- the event with this id is one of these, and its fate is that it is lost
 abbrev pub is_lost_event : List ℕ → List OutboxEvent → List Fate → Bool
-is_lost_event id events fates =
-    is_lost_at fates (position (λ event. number_of event.id == number_of id) events)
+is_lost_event id events fates = is_lost_at fates (place_of (number_of id) events)
 
 -- whether it is as expected
 abbrev pub IsMet : Expected → Service → Consumer → List Entry → Bool → Type 0
@@ -39,8 +39,7 @@ IsMet (expectations.Lost id) service consumer journal is_met =
     (fates : List Fate) × AreFates service consumer journal fates
     × (is_met ≡ is_lost_event id service.recorded fates)
 IsMet expectations.Order service consumer journal is_met =
-    (misplaced : Option ℕ) × IsMisplaced service.recorded consumer.inbox misplaced
-    × (is_met ≡ is_none misplaced)
+    (early : List Early) × AreEarly service consumer early × (is_met ≡ (length early == 0))
 
 abbrev pub expected_text : Bool → List ℕ
 expected_text true = codes " as expected\n"

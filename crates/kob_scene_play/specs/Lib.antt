@@ -1,10 +1,11 @@
+pub mod Begins
 pub mod Checks
 pub mod Expectations
 pub mod Faults
 pub mod Forms
 pub mod Json
+pub mod Laws
 pub mod Needs
-pub mod Orders
 pub mod Scenes
 pub mod Stages
 pub mod Steps

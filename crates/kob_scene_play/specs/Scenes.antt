@@ -1,9 +1,10 @@
 -- What a step of a scene changes and prints, and what a whole scene does.
 use Rattle.std.specs.Prelude.{◌≡◌, ◌≢◌, ◌⊎◌, ◌+◌, ℕ, List, [], ◌∷◌, ◌++◌, Some, None, Bool, true, false, length, map, slice_get, Option, Ok, Err}
 use Rattle.kob_router.specs.Line.{one_more}
-use Rattle.kob_scene_play.specs.Stages.{journal_text, IsOpened, declared_consumer, declared_service, named_consumer, named_service, IsAnswered}
+use Rattle.kob_scene_play.specs.Stages.{journal_text, IsOpened, declared_consumer, declared_service, named_consumer, named_service}
 use Rattle.kob_scene_play.specs.Checks.{IsChecked}
 use Rattle.kob_scene_play.specs.Expectations.{IsExpected}
+use Rattle.kob_scene_play.specs.Laws.{IsAnswered}
 use Rattle.kob_scene_play.specs.Steps.{IsConsumerStep, IsServiceStep, Writes}
 use Rattle.kob_scene_play.specs.declared.stage.PlayedConsumer.{PlayedConsumer}
 use Rattle.kob_scene_play.specs.declared.stage.PlayedService.{PlayedService}

@@ -25,7 +25,10 @@ use Rattle.kob_scene_play.specs.declared.consumer_steps.Left.{Left}
 use Rattle.kob_scene_text.specs.declared.scene.ConsumerStep.{ConsumerStep}
 use Rattle.kob_scene_text.specs.declared.scene.Lost.{Lost}
 use Rattle.kob_scene_text.specs.declared.scene.ServiceStep.{ServiceStep}
+use Rattle.kob_scene_text.specs.declared.scene.Start.{Start}
 use Rattle.kob_shared.specs.Journals.{Record}
+use Rattle.kob_rights.specs.declared.event.Event.{Event}
+use Rattle.kob_scene_play.specs.Begins.{IsBegun, start_event}
 use Rattle.kob_scene_play.specs.Forms.{last_needs}
 use Rattle.kob_scene_play.specs.Needs.{behind}
 use Rattle.kob_inbox.specs.Run as consuming
@@ -111,22 +114,25 @@ pub record IsServiceTick (loss : Loss) (old new : Service) (before after : Recor
       (router_ticks.point_of old.sender old.outbox [] 0)
       (router_ticks.point_of new.sender new.outbox calls unmade) tick
 
--- a consumer: its number in the journal, who it is, how far it has come, and its inbox
+-- a consumer: its number in the journal, who it is, where it begins on a partition without a commit,
+-- how far it has come, and its inbox
 pub record Consumer : Type 0 where
   pub worker : ℕ
   pub principal : List ℕ
   pub host : List ℕ
+  pub start : Start
   pub fetcher : Fetcher
   pub inbox : InboxContents
 
 abbrev pub consumer_state : Consumer → consuming.State
 consumer_state consumer = consumer_ticks.state_of consumer.fetcher consumer.inbox
 
--- its number, who it is and what it reads stay
+-- its number, who it is, where it begins and what it reads stay
 pub record IsSameConsumer (old new : Consumer) : Type 0 where
   pub worker : new.worker ≡ old.worker
   pub principal : new.principal ≡ old.principal
   pub host : new.host ≡ old.host
+  pub start : new.start ≡ old.start
   pub subscription : new.fetcher.subscription ≡ old.fetcher.subscription
 
 -- a move of a consumer's run that may be made, and that is
@@ -136,9 +142,9 @@ pub record Consumes (move : consuming.Move) (old new : Consumer) : Type 0 where
   pub done :
       consumer_state new ≡ consuming.after old.fetcher.subscription (consumer_state old) move
 
--- the move of one tick of the consumer, over a line of its own that loses the first call so; its
+-- the move of one tick of the consumer itself, over a line of its own that loses the first call so; its
 -- call that was served is the journal's new entry
-pub record IsConsumerTick (loss : Loss) (old new : Consumer) (before after : Record)
+pub record IsOwnTick (loss : Loss) (old new : Consumer) (before after : Record)
     (tick : ConsumerAnswer) : Type 0 where
   pub same : IsSameConsumer old new
   pub calls : List Call
@@ -149,6 +155,18 @@ pub record IsConsumerTick (loss : Loss) (old new : Consumer) (before after : Rec
       consumer_ticks.Ticks old.fetcher.subscription
       (consumer_ticks.point_of old.fetcher old.inbox [] 0)
       (consumer_ticks.point_of new.fetcher new.inbox calls unmade) tick
+
+abbrev pub IsTickBy : Option Event → Loss → Consumer → Consumer → Record → Record → ConsumerAnswer
+    → Type 0
+IsTickBy None loss old new before after tick = IsOwnTick loss old new before after tick
+IsTickBy (Some event) loss old new before after tick =
+    (new ≡ old) × IsBegun loss old.worker event before after tick
+
+-- one tick of a consumer: where it has to begin, the commit of the end; else the consumer's own
+abbrev pub IsConsumerTick : Loss → Consumer → Consumer → Record → Record → ConsumerAnswer → Type 0
+IsConsumerTick loss old new before after tick =
+    IsTickBy (start_event old.start old.principal old.host old.fetcher before.journal) loss old new
+    before after tick
 
 -- What the steps of a scene do, and what they print.
 

@@ -3,8 +3,8 @@
 ghost use Rattle.std.specs.Prelude.{◌≡◌, ◌++◌, IfOk, OnOk};
 ghost use Rattle.kob_delivery_check.specs.Printed.{check_text};
 ghost use Rattle.kob_router.specs.Line.{one_more};
-ghost use Rattle.kob_scene_play.specs.Checks.{AreFates, IsChecked, IsFound, ahead_of};
-ghost use Rattle.kob_scene_play.specs.Checks.{repeats_in};
+ghost use Rattle.kob_scene_play.specs.Checks.{AreEarly, AreFates, IsChecked, IsFound, ahead_of};
+ghost use Rattle.kob_scene_play.specs.Checks.{early_in_topics, reaches_of, repeats_in};
 ghost use Rattle.kob_scene_play.specs.Steps.{Tells};
 
 use crate::consumer_worker::ConsumerWorker;
@@ -13,15 +13,16 @@ use crate::output::Output;
 use crate::service_worker::ServiceWorker;
 use crate::stage::Stage;
 use kob_delivery_check::{
-    Fate, Found, Stored, fates_of, losses_of, print_check, reaches_by, records_ahead, records_of,
-    repeats_of,
+    Early, EarlyRecord, Fate, Found, Reach, Stored, early_records, early_rows, fates_of, losses_of,
+    print_check, reaches_by, records_ahead, records_of, repeats_of,
 };
 use kob_shared::Journal;
 use std::alloc::{AllocError, Global};
 
 /// Prints how many events of the service are in the consumer's inbox, how many wait and how many
-/// are lost; the first one that waits with where it does; each one that is lost; and each record of
-/// one of them in the consumer's partitions that has an earlier record.
+/// are lost; the first one that waits with where it does; each one that is lost; each record of one
+/// of them in the consumer's partitions that has an earlier record; and each row of the inbox and
+/// each such record that is out of order.
 pub(crate) fn show_check(
     alloc: Global,
     stage: &mut Stage<'_>,
@@ -49,7 +50,7 @@ pub(crate) fn show_check(
     Ok(())
 }
 
-/// Where each event of the service is, and which records repeat an event.
+/// Where each event of the service is, which records repeat an event, and what is out of order.
 fn found_at(
     alloc: Global,
     journal: &Journal,
@@ -61,6 +62,8 @@ fn found_at(
     ensures found { IfOk result (λ found. IsFound sender.old taker.old journal.now found) }
 {
     let repeats = repeats_in(alloc, journal, taker)?;
+    let early_records = early_in_topics(alloc, journal, sender, taker)?;
+    let early_rows = early_at(alloc, sender, taker)?;
     let fates = fates_at(alloc, journal, sender, taker)?;
     let losses = losses_of(
         alloc,
@@ -73,7 +76,37 @@ fn found_at(
         fates,
         losses,
         repeats,
+        early_rows,
+        early_records,
     })
+}
+
+/// The rows of the consumer's inbox that are out of order.
+pub(crate) fn early_at(
+    alloc: Global,
+    sender: &ServiceWorker<'_>,
+    taker: &mut ConsumerWorker,
+) -> Result<Vec<Early>, PlayFault>
+    ensures early { IfOk result (λ early. AreEarly sender.now taker.old early.items) }
+    ensures same { taker.new ≡ taker.old }
+{
+    let taken = taker.rows()?;
+    Ok(early_rows(alloc, sender.recorded(), &taken)?)
+}
+
+/// The records in the consumer's partitions that are out of order.
+fn early_in_topics(
+    alloc: Global,
+    journal: &Journal,
+    sender: &ServiceWorker<'_>,
+    taker: &ConsumerWorker,
+) -> Result<Vec<EarlyRecord>, AllocError>
+    ensures { IfOk result (λ early. early.items
+        ≡ early_in_topics sender.now taker.now journal.now) }
+{
+    let reaches = reaches_of(alloc, journal, taker)?;
+    let assignment = taker.subscription().assignment.as_slice();
+    early_records(alloc, assignment, sender.recorded(), &reaches)
 }
 
 /// Where each event of the service is, in the order in which they were recorded.
@@ -94,6 +127,17 @@ pub(crate) fn fates_at(
     Ok(fates_of(alloc, sender.recorded(), &taken, &ahead, &waiting)?)
 }
 
+/// What a consumer has before it on each of its partitions.
+fn reaches_of(
+    alloc: Global,
+    journal: &Journal,
+    taker: &ConsumerWorker,
+) -> Result<Vec<Reach>, AllocError>
+    ensures { IfOk result (λ reaches. reaches.items ≡ reaches_of journal.now taker.now) }
+{
+    reaches_by(alloc, taker.start().is_latest(), journal, taker.consumer())
+}
+
 /// The records of events that a consumer has before it.
 fn ahead_of(
     alloc: Global,
@@ -102,7 +146,7 @@ fn ahead_of(
 ) -> Result<Vec<Stored>, AllocError>
     ensures { IfOk result (λ ahead. ahead.items ≡ ahead_of journal.now taker.now) }
 {
-    let reaches = reaches_by(alloc, journal, taker.consumer())?;
+    let reaches = reaches_of(alloc, journal, taker)?;
     records_ahead(alloc, &reaches)
 }
 
@@ -114,7 +158,7 @@ fn repeats_in(
 ) -> Result<Vec<Stored>, AllocError>
     ensures { IfOk result (λ repeats. repeats.items ≡ repeats_in journal.now taker.now) }
 {
-    let reaches = reaches_by(alloc, journal, taker.consumer())?;
+    let reaches = reaches_of(alloc, journal, taker)?;
     let assignment = taker.subscription().assignment.as_slice();
     let records = records_of(alloc, assignment, &reaches)?;
     repeats_of(alloc, &records)

@@ -4,25 +4,31 @@ ghost use Rattle.std.specs.Prelude.{◌≡◌, [], IfOk, map};
 ghost use Rattle.std.specs.List.{enumerate_from};
 ghost use Rattle.kob_inbox.specs.Contents.{placed_intake};
 ghost use Rattle.kob_inbox.specs.Run.Move.{Restarted};
-ghost use Rattle.kob_inbox.specs.Run.{start};
+ghost use Rattle.kob_inbox.specs.Run.{start as new_state};
 ghost use Rattle.kob_scene_play.specs.Faults.{stop_of_consumer};
-ghost use Rattle.kob_scene_play.specs.Steps.{Consumes, IsConsumerTick, consumer_state};
+ghost use Rattle.kob_scene_play.specs.Begins.{IsBegun, begun_by, commit_event, start_event};
+ghost use Rattle.kob_scene_play.specs.Steps.{Consumes, IsConsumerTick, IsOwnTick, consumer_state};
 
 use crate::fault::{PlayFault, line_fault, loses_first, unless};
 use crate::line::take_over;
+use kob_delivery_check::start_due;
 use kob_inbox::{Consumer, Inbox, InboxFault, InboxRow, StopReason, Subscription, Tick};
 use kob_lines::{Calls, Loss, Lossy, RecordedLine};
 use kob_names::{Host, PlainValue, Principal};
-use kob_shared::Recorded;
-use std::alloc::Global;
+use kob_rights::{Event, Reply, Request};
+use kob_scene_text::Start;
+use kob_shared::{Journal, Recorded};
+use std::alloc::{AllocError, Global};
 use std::marker::Model;
 
-/// A consumer: its number in the journal, who it is, how far it has come, and its inbox.
+/// A consumer: its number in the journal, who it is, where it begins, how far it has come, and its
+/// inbox.
 #[derive(Drop)]
 pub struct ConsumerWorker {
     worker: usize,
     principal: Principal,
     host: Host,
+    start: Start,
     subscription: Subscription,
     consumer: Consumer,
     inbox: Inbox,
@@ -38,6 +44,7 @@ impl Model for ConsumerWorker {
       worker = w.worker;
       principal = w.principal;
       host = w.host;
+      start = w.start;
       fetcher = w.consumer;
       inbox = w.inbox;
     } };
@@ -52,13 +59,15 @@ impl ConsumerWorker {
         worker: usize,
         principal: Principal,
         host: Host,
+        start: Start,
         subscription: Subscription,
     ) -> Result<ConsumerWorker, PlayFault>
         ensures worker { IfOk result (λ w. w.worker ≡ worker) }
         ensures principal { IfOk result (λ w. w.principal ≡ principal) }
         ensures host { IfOk result (λ w. w.host ≡ host) }
+        ensures start { IfOk result (λ w. w.start ≡ start) }
         ensures subscription { IfOk result (λ w. w.fetcher.subscription ≡ subscription) }
-        ensures state { IfOk result (λ w. consumer_state w ≡ start) }
+        ensures state { IfOk result (λ w. consumer_state w ≡ new_state) }
     {
         let Subscription {
             group,
@@ -70,6 +79,7 @@ impl ConsumerWorker {
             worker,
             principal,
             host,
+            start,
             subscription,
             consumer: Consumer::new(alloc, group, assignment, max),
             inbox,
@@ -90,6 +100,13 @@ impl ConsumerWorker {
         &self.subscription
     }
 
+    /// Where it begins on a partition without a commit of its group.
+    pub fn start(&self) -> Start
+        ensures { result ≡ self.now.start }
+    {
+        self.start
+    }
+
     /// The consumer itself.
     pub fn consumer(&self) -> &Consumer
         ensures { result.now ≡ self.now.fetcher }
@@ -98,7 +115,10 @@ impl ConsumerWorker {
     }
 
     /// One step over the broker, whose first call has this loss. Its call gets its entry in the
-    /// journal under its number, its principal and its host.
+    /// journal under its number, its principal and its host. One that begins at the end first
+    /// commits the end of each partition on which it knows no position and its group has no commit,
+    /// a step each.
+    #[tactic(auto, using(crate::proofs::Ticking::tick_begun, crate::proofs::Ticking::tick_own))]
     pub fn tick(
         &mut self,
         alloc: Global,
@@ -106,6 +126,48 @@ impl ConsumerWorker {
         loss: Loss,
     ) -> Result<Tick, PlayFault>
         ensures { IfOk result (IsConsumerTick loss self.old self.new recorded.old recorded.new) }
+    {
+        match self.start_due(alloc, recorded.journal())? {
+            Some(event) => begin(alloc, recorded, self.worker, loss, &event),
+            None => self.go_on(alloc, recorded, loss),
+        }
+    }
+
+    /// The commit with which it begins on a partition.
+    fn start_due(&self, alloc: Global, journal: &Journal) -> Result<Option<Event>, AllocError>
+        ensures { IfOk result (λ event. event ≡ start_event self.now.start self.now.principal
+            self.now.host self.now.fetcher journal.now) }
+    {
+        match self.start {
+            Start::Earliest => Ok(None),
+            Start::Latest => self.commit_due(alloc, journal),
+        }
+    }
+
+    fn commit_due(&self, alloc: Global, journal: &Journal) -> Result<Option<Event>, AllocError>
+        ensures { IfOk result (λ event. event ≡ commit_event self.now.principal self.now.host
+            self.now.fetcher journal.now) }
+    {
+        let Some(asked) = start_due(alloc, journal, &self.consumer)? else {
+            return Ok(None);
+        };
+        let principal = self.principal.copy(alloc)?;
+        let host = self.host.copy(alloc)?;
+        Ok(Some(Event {
+            principal,
+            host,
+            request: Request::OffsetCommit(asked),
+        }))
+    }
+
+    /// One step of the consumer itself.
+    fn go_on(
+        &mut self,
+        alloc: Global,
+        recorded: &mut Recorded,
+        loss: Loss,
+    ) -> Result<Tick, PlayFault>
+        ensures { IfOk result (IsOwnTick loss self.old self.new recorded.old recorded.new) }
     {
         let principal = self.principal.copy(alloc)?;
         let host = self.host.copy(alloc)?;
@@ -148,6 +210,39 @@ impl ConsumerWorker {
         ensures same { self.new ≡ self.old }
     {
         self.inbox.taken()
+    }
+}
+
+/// Serves the commit with which a consumer begins, unless it is lost before.
+fn begin(
+    alloc: Global,
+    recorded: &mut Recorded,
+    worker: usize,
+    loss: Loss,
+    event: &Event,
+) -> Result<Tick, PlayFault>
+    ensures { IfOk result (IsBegun loss worker event.now recorded.old recorded.new) }
+{
+    match loss {
+        Loss::None => {
+            let receipt = recorded.serve_as(alloc, worker, event)?;
+            Ok(begun_by(receipt.reply))
+        }
+        Loss::BeforeServe => Ok(Tick::Repeat),
+        Loss::AfterServe => {
+            recorded.serve_as(alloc, worker, event)?;
+            Ok(Tick::Repeat)
+        }
+    }
+}
+
+fn begun_by(reply: Reply) -> Tick
+    ensures { result ≡ begun_by reply }
+{
+    match reply {
+        Reply::Done(_) => Tick::Committed,
+        Reply::Denied { code, verdicts } => Tick::Stopped(StopReason::Denied { code, verdicts }),
+        Reply::Refused { code, reason } => Tick::Stopped(StopReason::Refused { code, reason }),
     }
 }
 

@@ -1,25 +1,24 @@
 //! Whether the events of a service are where they are expected to be.
 
-ghost use Rattle.std.specs.Prelude.{◌≡◌, ◌++◌, ◌==◌, ◌||◌, IfOk, OnOk, is_none, map, not, slice_get};
+ghost use Rattle.std.specs.Prelude.{◌≡◌, ◌++◌, ◌==◌, ◌||◌, IfOk, OnOk, length, map, not, slice_get};
 ghost use Rattle.std.specs.Fmt.{decimal};
-ghost use Rattle.std.specs.List.{list_all, position};
+ghost use Rattle.std.specs.List.{list_all};
 ghost use Rattle.std.specs.Option.{option_copied};
 ghost use Rattle.kob_delivery_check.specs.Fates.{is_delivered};
 ghost use Rattle.kob_delivery_check.specs.Logs.{number_of};
 ghost use Rattle.kob_router.specs.Line.{one_more};
-ghost use Rattle.kob_scene_play.specs.Checks.{AreFates};
+ghost use Rattle.kob_scene_play.specs.Checks.{AreEarly, AreFates};
 ghost use Rattle.kob_scene_play.specs.Expectations.{IsExpected, IsMet, expected_text, is_lost_at};
 ghost use Rattle.kob_scene_play.specs.Expectations.{is_lost_event, is_lost_fate};
 ghost use Rattle.kob_scene_play.specs.Steps.{Tells};
 
-use crate::check::fates_at;
+use crate::check::{early_at, fates_at};
 use crate::consumer_worker::ConsumerWorker;
 use crate::fault::PlayFault;
-use crate::law::misplaced_row;
 use crate::output::Output;
 use crate::service_worker::ServiceWorker;
 use crate::stage::Stage;
-use kob_delivery_check::Fate;
+use kob_delivery_check::{Fate, place_of};
 use kob_outbox::OutboxEvent;
 use kob_scene_text::Expected;
 use kob_shared::Journal;
@@ -86,8 +85,8 @@ fn is_met(
             Ok(is_lost_event(id, sender.recorded(), &fates))
         }
         Expected::Order => {
-            let misplaced = misplaced_row(alloc, sender, taker)?;
-            Ok(misplaced.is_none())
+            let early = early_at(alloc, sender, taker)?;
+            Ok(early.len() == 0)
         }
     }
 }
@@ -102,24 +101,10 @@ fn are_delivered(fates: &[Fate]) -> bool
 fn is_lost_event(id: Uuid, events: &[&OutboxEvent], fates: &[Fate]) -> bool
     ensures { result ≡ is_lost_event id (map (λ event. event.now) events.now) fates.now }
 {
-    match place_of(id, events) {
+    match place_of(id.as_u128(), events) {
         Some(place) => is_lost_fate(fates.get(place)),
         None => false,
     }
-}
-
-fn place_of(id: Uuid, events: &[&OutboxEvent]) -> Option<usize>
-    ensures { result ≡ position (λ event. number_of event.id == number_of id)
-        (map (λ event. event.now) events.now) }
-{
-    place_in(id, events)
-}
-
-fn place_in(id: Uuid, events: &[&OutboxEvent]) -> Option<usize>
-    ensures { result ≡ position (λ event. number_of event.now.id == number_of id) events.now }
-{
-    let id = id.as_u128();
-    events.iter().position(|event| event.id.as_u128() == id)
 }
 
 fn is_lost_fate(fate: Option<&Fate>) -> bool

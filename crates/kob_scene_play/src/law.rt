@@ -1,18 +1,23 @@
-//! Whether the laws of delivery apply to a service and a consumer, and what its inbox shows.
+//! Whether the laws of delivery apply to a service and a consumer, and what its inbox has.
 
-ghost use Rattle.std.specs.Prelude.{◌≡◌, ◌++◌, IfOk, OnOk, slice_get};
+ghost use Rattle.std.specs.Prelude.{◌≡◌, ◌++◌, IfOk, OnOk, flat_map, length, slice_get};
+ghost use Rattle.std.specs.Fmt.{decimal};
 ghost use Rattle.kob_router.specs.Line.{one_more};
 ghost use Rattle.std.specs.Option.{option_copied};
-ghost use Rattle.kob_scene_play.specs.Stages.{IsAnswered, IsLaw, IsMisplaced, breach_text, broken_text};
-ghost use Rattle.kob_scene_play.specs.Stages.{law_text, misplaced_text, name_text, order_text, premise_text, topic_text};
+ghost use Rattle.kob_scene_play.specs.Laws.{IsAnswered, IsCoverage, IsLaw, IsTaken, breach_text};
+ghost use Rattle.kob_scene_play.specs.Laws.{broken_text};
+ghost use Rattle.kob_scene_play.specs.Laws.{coverage_text, first_at, law_text, misplaced_text};
+ghost use Rattle.kob_scene_play.specs.Laws.{name_text, order_text, premise_text, taken_text};
+ghost use Rattle.kob_scene_play.specs.Laws.{topic_text, unread_text};
 ghost use Rattle.kob_scene_play.specs.Steps.{Tells};
 
+use crate::check::early_at;
 use crate::consumer_worker::ConsumerWorker;
 use crate::fault::PlayFault;
-use crate::order::first_misplaced;
 use crate::output::{Output, push_counted};
 use crate::service_worker::ServiceWorker;
 use crate::stage::Stage;
+use kob_delivery_check::{Early, count_taken, unread_of};
 use kob_names::Text;
 use kob_pipeline::{Breach, Premise, first_breach};
 use kob_router::Place;
@@ -20,11 +25,24 @@ use kob_shared::Journal;
 use kob_words::{push_bytes, push_number};
 use std::alloc::{AllocError, Global};
 
+/// What a consumer has of the rows of a service.
+#[derive(Drop)]
+pub(crate) struct Coverage {
+    /// How many rows the service recorded, and how many of them the inbox has.
+    recorded: usize,
+    taken: usize,
+    /// The place of the first row of the inbox that is out of order.
+    misplaced: Option<u64>,
+    /// The partitions that the service has sent to and the consumer does not read.
+    unread: Vec<Place>,
+}
+
 /// Prints `N law holds` if only this service sends to the topics that the consumer reads, only this
 /// consumer commits for its group on them, and nobody deleted one. Otherwise prints `N law says
 /// nothing` with the premise that is broken, and the first entry that breaks it. After that it
-/// prints whether the inbox has of each aggregate the first rows that the service recorded, in
-/// their order.
+/// prints how many of the service's rows the inbox has, whether it has of each aggregate the first
+/// ones, in their order, and each partition that the service has sent to and the consumer does not
+/// read.
 pub(crate) fn show_law(
     alloc: Global,
     stage: &mut Stage<'_>,
@@ -46,12 +64,13 @@ pub(crate) fn show_law(
     let Some(taker) = stage.consumers.get_mut(consumer) else {
         return Err(PlayFault::NoWorker);
     };
-    let misplaced = misplaced_row(alloc, &sender.service, &mut taker.consumer)?;
+    let journal = stage.recorded.journal();
+    let coverage = coverage_of(alloc, journal, &sender.service, &mut taker.consumer)?;
     answer(
-        stage.recorded.journal(),
+        journal,
         sender.service.number(),
         &taker.consumer,
-        misplaced,
+        &coverage,
         out,
     )
 }
@@ -61,11 +80,11 @@ fn answer(
     journal: &Journal,
     sender: usize,
     taker: &ConsumerWorker,
-    misplaced: Option<u64>,
+    coverage: &Coverage,
     out: &mut Output,
 ) -> Result<(), PlayFault>
     ensures done { OnOk result (Tells (IsLaw sender taker.now.worker taker.now.fetcher.subscription
-        journal.now misplaced out.old.told) out.old.text.items out.new.text.items) }
+        journal.now coverage.now out.old.told) out.old.text.items out.new.text.items) }
     ensures told { OnOk result (out.new.told ≡ one_more out.old.told) }
 {
     let subscription = taker.subscription();
@@ -78,7 +97,7 @@ fn answer(
         assignment,
     );
     let number = out.number();
-    push_law(&mut out.text, number, assignment, breach, misplaced)?;
+    push_law(&mut out.text, number, assignment, breach, coverage)?;
     out.tell();
     Ok(())
 }
@@ -89,27 +108,68 @@ fn push_law(
     number: u64,
     assignment: &[Place],
     breach: Option<Breach>,
-    misplaced: Option<u64>,
+    coverage: &Coverage,
 ) -> Result<(), AllocError>
     ensures { OnOk result (out.new.items
-        ≡ out.old.items ++ law_text number assignment.now breach misplaced) }
+        ≡ out.old.items ++ law_text number assignment.now breach coverage.now) }
 {
     push_number(out, number)?;
     push_breach(out, assignment, breach)?;
-    push_order(out, misplaced)
+    push_coverage(out, coverage)
 }
 
-/// The place of the first row of the inbox that is out of order.
-pub(crate) fn misplaced_row(
+/// What a consumer has of the rows of a service.
+fn coverage_of(
+    alloc: Global,
+    journal: &Journal,
+    sender: &ServiceWorker<'_>,
+    taker: &mut ConsumerWorker,
+) -> Result<Coverage, PlayFault>
+    ensures covered { IfOk result (λ coverage.
+        IsCoverage sender.now taker.old journal.now coverage) }
+    ensures same { taker.new ≡ taker.old }
+{
+    let early = early_at(alloc, sender, taker)?;
+    let misplaced = first_at(&early);
+    let taken = taken_at(alloc, sender, taker)?;
+    let assignment = taker.subscription().assignment.as_slice();
+    let unread = unread_of(alloc, journal, sender.number(), assignment)?;
+    Ok(Coverage {
+        recorded: recorded_at(sender),
+        taken,
+        misplaced,
+        unread,
+    })
+}
+
+/// How many rows the service recorded.
+fn recorded_at(sender: &ServiceWorker<'_>) -> usize
+    ensures { result ≡ length sender.now.recorded }
+{
+    sender.recorded().len()
+}
+
+/// How many rows of the service the inbox has.
+fn taken_at(
     alloc: Global,
     sender: &ServiceWorker<'_>,
     taker: &mut ConsumerWorker,
-) -> Result<Option<u64>, PlayFault>
-    ensures place { IfOk result (IsMisplaced sender.now.recorded taker.old.inbox) }
+) -> Result<usize, PlayFault>
+    ensures count { IfOk result (λ count. IsTaken sender.now taker.old count) }
     ensures same { taker.new ≡ taker.old }
 {
-    let inbox = taker.rows()?;
-    Ok(first_misplaced(alloc, sender.recorded(), &inbox)?)
+    let rows = taker.rows()?;
+    Ok(count_taken(alloc, sender.recorded(), &rows)?)
+}
+
+/// Where the first of the events came that are out of order.
+fn first_at(early: &[Early]) -> Option<u64>
+    ensures { result ≡ first_at early.now }
+{
+    match early {
+        [] => None,
+        [first, ..] => Some(first.at),
+    }
 }
 
 fn push_breach(
@@ -169,11 +229,30 @@ fn broken(premise: Premise) -> &'static str
     }
 }
 
+#[tactic(auto, using(kob_words::proofs::Appending::appending))]
+fn push_coverage(out: &mut Vec<u8>, coverage: &Coverage) -> Result<(), AllocError>
+    ensures { OnOk result (out.new.items ≡ out.old.items ++ coverage_text coverage.now) }
+{
+    push_taken(out, coverage.taken, coverage.recorded)?;
+    push_order(out, coverage.misplaced)?;
+    push_each_unread(out, &coverage.unread)?;
+    out.extend_from_slice(b"\n")
+}
+
+#[tactic(auto, using(kob_words::proofs::Appending::appending))]
+fn push_taken(out: &mut Vec<u8>, taken: usize, recorded: usize) -> Result<(), AllocError>
+    ensures { OnOk result (out.new.items ≡ out.old.items ++ taken_text taken recorded) }
+{
+    push_counted(out, b", ", taken as u64, b" of ")?;
+    push_number(out, recorded as u64)?;
+    out.extend_from_slice(b" rows")
+}
+
 fn push_order(out: &mut Vec<u8>, misplaced: Option<u64>) -> Result<(), AllocError>
     ensures { OnOk result (out.new.items ≡ out.old.items ++ order_text misplaced) }
 {
     match misplaced {
-        None => out.extend_from_slice(b", in order\n"),
+        None => out.extend_from_slice(b", in order"),
         Some(place) => push_misplaced(out, place),
     }
 }
@@ -181,5 +260,33 @@ fn push_order(out: &mut Vec<u8>, misplaced: Option<u64>) -> Result<(), AllocErro
 fn push_misplaced(out: &mut Vec<u8>, place: u64) -> Result<(), AllocError>
     ensures { OnOk result (out.new.items ≡ out.old.items ++ misplaced_text place) }
 {
-    push_counted(out, b", out of order at row ", place, b"\n")
+    push_labelled(out, b", out of order at row ", place)
+}
+
+/// A number behind a text.
+#[tactic(auto, using(kob_words::proofs::Appending::appending))]
+fn push_labelled(out: &mut Vec<u8>, label: &[u8], number: u64) -> Result<(), AllocError>
+    ensures { OnOk result (out.new.items ≡ out.old.items ++ (label.now ++ decimal number)) }
+{
+    out.extend_from_slice(label)?;
+    push_number(out, number)
+}
+
+fn push_each_unread(out: &mut Vec<u8>, unread: &[Place]) -> Result<(), AllocError>
+    ensures { OnOk result (out.new.items ≡ out.old.items ++ flat_map unread_text unread.now) }
+{
+    for place in unread {
+        push_unread(out, place)?;
+    }
+    Ok(())
+}
+
+#[tactic(auto, using(kob_words::proofs::Appending::appending))]
+fn push_unread(out: &mut Vec<u8>, place: &Place) -> Result<(), AllocError>
+    ensures { OnOk result (out.new.items ≡ out.old.items ++ unread_text place.now) }
+{
+    out.extend_from_slice(b", not read")?;
+    push_name(out, &place.topic)?;
+    out.extend_from_slice(b" ")?;
+    push_number(out, place.partition)
 }

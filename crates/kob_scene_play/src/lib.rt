@@ -13,7 +13,6 @@ mod json;
 mod law;
 mod line;
 mod needs;
-mod order;
 mod output;
 mod page;
 mod playing;

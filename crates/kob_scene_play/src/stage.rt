@@ -234,8 +234,9 @@ fn add_consumer(
         principal,
         host,
         subscription,
+        start,
     } = consumer;
-    match ConsumerWorker::open(alloc, worker, principal, host, subscription) {
+    match ConsumerWorker::open(alloc, worker, principal, host, start, subscription) {
         Ok(consumer) => {
             all.push_reserved(PlayedConsumer { name, consumer });
             Ok(())

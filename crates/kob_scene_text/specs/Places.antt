@@ -1,5 +1,5 @@
 -- Which word of a line has the fault that its scene has.
-use Rattle.std.specs.Prelude.{◌≡◌, ℕ, nat_eq, Bool, true, false, is_none, ◌&&◌, ◌||◌, List, [], ◌∷◌, Option, Some, None, codes, map, if◌then◌else◌}
+use Rattle.std.specs.Prelude.{◌≡◌, ℕ, nat_eq, Bool, true, false, not, is_none, ◌&&◌, ◌||◌, List, [], ◌∷◌, Option, Some, None, codes, map, if◌then◌else◌}
 use Rattle.std.specs.List.{list_any, position}
 use Rattle.std.specs.Option.{option_map}
 use Rattle.std.specs.Result.{result_err}
@@ -7,14 +7,14 @@ use Rattle.std.specs.Str.{bytes_eq}
 use Rattle.kob_router.specs.declared.settings.RouteBy.TheVariants.{AggregateType}
 use Rattle.kob_script.specs.Places.{fault_place as script_fault_place}
 use Rattle.kob_script.specs.Script.{is_super, line_words}
-use Rattle.kob_script.specs.Words.{Word, named_host, named_principal, number_of, rank, text_of}
+use Rattle.kob_script.specs.Words.{Word, named_host, named_principal, rank, text_of}
 use Rattle.kob_script.specs.declared.fault.FaultKind.{FaultKind}
 use Rattle.kob_scene_text.specs.Reading.{◌>>>◌, as_scripts, bad_line}
 use Rattle.kob_scene_text.specs.Scenes.{is_request}
 use Rattle.kob_scene_text.specs.Steps.{head_of, id_of}
-use Rattle.kob_scene_text.specs.Workers.{by_named, is_name, partitions_of, place_of, route_of}
+use Rattle.kob_scene_text.specs.Workers.{by_named, start_named, is_name, max_of, partitions_of, place_of, route_of}
 use Rattle.kob_scene_text.specs.declared.fault.SceneFaultKind.{SceneFaultKind}
-use Rattle.kob_scene_text.specs.declared.fault.SceneFaultKind.TheVariants.{Script, UnknownWorker, BadWorkerName, NameTaken, BadPartitions, BadRoute, BadId}
+use Rattle.kob_scene_text.specs.declared.fault.SceneFaultKind.TheVariants.{Script, UnknownWorker, BadWorkerName, NameTaken, BadPartitions, BadMax, BadRoute, BadId, NoLaw}
 use Rattle.kob_scene_text.specs.declared.forms.Keyword.{Keyword}
 use Rattle.kob_scene_text.specs.declared.forms.Keyword.TheVariants as keyword
 use Rattle.kob_scene_text.specs.declared.forms.Part.{Part}
@@ -32,8 +32,10 @@ same_kind UnknownWorker UnknownWorker = true
 same_kind BadWorkerName BadWorkerName = true
 same_kind NameTaken NameTaken = true
 same_kind BadPartitions BadPartitions = true
+same_kind BadMax BadMax = true
 same_kind BadRoute BadRoute = true
 same_kind BadId BadId = true
+same_kind NoLaw NoLaw = true
 same_kind _ _ = false
 
 -- a fault is of this kind
@@ -52,6 +54,16 @@ are_of first name _ = false
 abbrev pub is_declared : List ℕ → List (List ℕ) → List ℕ → Bool
 is_declared first lines name = list_any (λ line. are_of first name (line_words line)) lines
 
+-- words declare a consumer of this name that begins at the end
+abbrev pub are_of_variant : List ℕ → List Word → Bool
+are_of_variant name (first ∷ own ∷ principal ∷ host ∷ group ∷ its ∷ max ∷ most ∷ keyword ∷ words) =
+    bytes_eq first.decoded (codes "consumer") && bytes_eq own.decoded name
+    && bytes_eq keyword.decoded (codes "start")
+are_of_variant name _ = false
+
+abbrev pub is_variant : List (List ℕ) → List ℕ → Bool
+is_variant lines name = list_any (λ line. are_of_variant name (line_words line)) lines
+
 -- the kind of the worker of a name, whose place does not matter here
 abbrev pub worker_in : List (List ℕ) → List ℕ → Option Worker
 worker_in lines name =
@@ -67,6 +79,7 @@ keyword_text keyword.Replacement = codes "replacement"
 keyword_text keyword.Placement = codes "placement"
 keyword_text keyword.Group = codes "group"
 keyword_text keyword.Max = codes "max"
+keyword_text keyword.Start = codes "start"
 keyword_text keyword.Reads = codes "reads"
 keyword_text keyword.Delivered = codes "delivered"
 keyword_text keyword.All = codes "all"
@@ -94,13 +107,17 @@ service_form = One slot.NewName ∷ service_words
 abbrev pub consumer_words : List Part
 consumer_words =
     One slot.Principal ∷ One slot.Host ∷ One (slot.Keyword keyword.Group)
-    ∷ One slot.Text ∷ One (slot.Keyword keyword.Max) ∷ One slot.Number
-    ∷ OrEnd ∷ One (slot.Keyword keyword.Reads) ∷ Each slot.Partition ∷ []
+    ∷ One slot.Text ∷ One (slot.Keyword keyword.Max) ∷ One slot.Max
+    ∷ After keyword.Start slot.Start ∷ OrEnd ∷ One (slot.Keyword keyword.Reads) ∷ Each slot.Partition ∷ []
 
 abbrev pub consumer_form : List Part
 consumer_form = One slot.NewName ∷ consumer_words
 
--- of law and of check
+-- of law
+abbrev pub law_form : List Part
+law_form = One slot.ServiceName ∷ One slot.LawConsumer ∷ []
+
+-- of check
 abbrev pub pair_form : List Part
 pair_form = One slot.ServiceName ∷ One slot.ConsumerName ∷ []
 
@@ -167,6 +184,12 @@ name_fault lines name =
     if is_name name then fault_unless (is_none (worker_in lines name)) NameTaken
     else Some BadWorkerName
 
+-- the name of a consumer of which the laws speak
+abbrev pub law_fault : List (List ℕ) → List ℕ → Option SceneFaultKind
+law_fault lines name =
+    if is_declared (codes "consumer") lines name
+    then fault_unless (not (is_variant lines name)) NoLaw else Some UnknownWorker
+
 -- a route with this replacement, and one with this placement
 abbrev pub replacement_fault : Word → Option SceneFaultKind
 replacement_fault word = result_err (as_scripts (text_of word) >>> λ text.
@@ -186,10 +209,12 @@ slot_fault lines slot.ServiceName word =
     fault_unless (is_declared (codes "service") lines word.decoded) UnknownWorker
 slot_fault lines slot.ConsumerName word =
     fault_unless (is_declared (codes "consumer") lines word.decoded) UnknownWorker
+slot_fault lines slot.LawConsumer word = law_fault lines word.decoded
 slot_fault lines slot.Text word = script_fault (result_err (text_of word))
 slot_fault lines slot.Principal word = script_fault (result_err (named_principal word))
 slot_fault lines slot.Host word = script_fault (result_err (named_host word))
-slot_fault lines slot.Number word = script_fault (result_err (number_of word))
+slot_fault lines slot.Max word = result_err (max_of word)
+slot_fault lines slot.Start word = script_fault (result_err (start_named word))
 slot_fault lines slot.Column word = script_fault (result_err (by_named word))
 slot_fault lines slot.Partition word = script_fault (result_err (place_of word))
 slot_fault lines slot.Partitions word = result_err (partitions_of word)
@@ -243,7 +268,7 @@ word_faults lines Setting first rest = None ∷ faults_in lines (setting_form fi
 word_faults lines Service first rest = None ∷ faults_in lines service_form rest
 word_faults lines Consumer first rest = None ∷ faults_in lines consumer_form rest
 word_faults lines Journal first rest = None ∷ faults_in lines [] rest
-word_faults lines Law first rest = None ∷ faults_in lines pair_form rest
+word_faults lines Law first rest = None ∷ faults_in lines law_form rest
 word_faults lines Check first rest = None ∷ faults_in lines pair_form rest
 word_faults lines Expect first rest = None ∷ faults_in lines (expect_form rest) rest
 word_faults lines (Of worker) first rest = None ∷ worker_faults worker rest

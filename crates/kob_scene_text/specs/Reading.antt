@@ -4,7 +4,7 @@ use Rattle.kob_script.specs.declared.fault.FaultKind.{FaultKind}
 use Rattle.kob_script.specs.declared.fault.FaultKind.TheVariants.{BadLine}
 use Rattle.kob_script.specs.declared.fault.LineError.{LineError}
 use Rattle.kob_scene_text.specs.declared.fault.SceneFaultKind.{SceneFaultKind}
-use Rattle.kob_scene_text.specs.declared.fault.SceneFaultKind.TheVariants.{Script, UnknownWorker, BadWorkerName, NameTaken, BadPartitions, BadRoute, BadId}
+use Rattle.kob_scene_text.specs.declared.fault.SceneFaultKind.TheVariants.{Script, UnknownWorker, BadWorkerName, NameTaken, BadPartitions, BadMax, BadRoute, BadId, NoLaw}
 use Rattle.kob_scene_text.specs.declared.fault.StepError.{StepError}
 use Rattle.kob_scene_text.specs.declared.fault.StepError.TheVariants.{Memory, Fault}
 use Rattle.std.specs.Fmt.{decimal}
@@ -58,8 +58,10 @@ kind_text UnknownWorker = codes "UnknownWorker"
 kind_text BadWorkerName = codes "BadWorkerName"
 kind_text NameTaken = codes "NameTaken"
 kind_text BadPartitions = codes "BadPartitions"
+kind_text BadMax = codes "BadMax"
 kind_text BadRoute = codes "BadRoute"
 kind_text BadId = codes "BadId"
+kind_text NoLaw = codes "NoLaw"
 
 -- a fault of scripts is printed as theirs are
 abbrev pub line_of_kind : ℕ → SceneFaultKind → List ℕ

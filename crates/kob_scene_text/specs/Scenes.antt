@@ -1,5 +1,5 @@
 -- A scene: settings, workers, and steps, a line each.
-use Rattle.std.specs.Prelude.{ℕ, ◌+◌, ◌-◌, Bool, ◌&&◌, ◌==◌, List, [], ◌∷◌, ◌++◌, Option, Some, Result, Ok, Err, length, map, replicate, if◌then◌else◌, ◌≡◌, true, false, None}
+use Rattle.std.specs.Prelude.{ℕ, ◌+◌, ◌-◌, Bool, ◌&&◌, ◌==◌, List, [], ◌∷◌, ◌++◌, Option, Some, Result, Ok, Err, length, map, replicate, slice_get, if◌then◌else◌, ◌≡◌, true, false, None}
 use Rattle.kob_acl_cli.specs.declared.args.CliArgs.{CliArgs}
 use Rattle.kob_names.specs.declared.settings.Settings.{Settings}
 use Rattle.kob_rights.specs.declared.event.Event.{Event}
@@ -15,6 +15,8 @@ use Rattle.kob_scene_text.specs.declared.reading.Reading.{Reading}
 use Rattle.kob_scene_text.specs.declared.scene.Consumer.{Consumer}
 use Rattle.kob_scene_text.specs.declared.scene.Scene.{Scene}
 use Rattle.kob_scene_text.specs.declared.scene.Service.{Service}
+use Rattle.kob_scene_text.specs.declared.scene.Start.{Start}
+use Rattle.kob_scene_text.specs.declared.scene.Start.TheVariants as starts
 use Rattle.kob_scene_text.specs.declared.scene.Step.{Step}
 use Rattle.kob_scene_text.specs.declared.service_lines.DeclaredService.{DeclaredService}
 use Rattle.kob_scene_text.specs.Workers.{consumer_of, consumer_named, new_name, service_named, worker_named, service_of}
@@ -116,14 +118,14 @@ consumer_at number name declared = record {
   principal = declared.who.principal;
   host = declared.who.host;
   subscription = declared.subscription;
+  start = declared.start;
 }
 
 -- consumer NAME and its declaration
 abbrev pub with_consumer : Seen → List Word → Result Seen SceneFaultKind
 with_consumer s [] = Err bad_line
 with_consumer s (name ∷ words) =
-    new_name s.services s.consumers name >>> λ name. as_scripts (consumer_of words)
-    >>> λ declared.
+    new_name s.services s.consumers name >>> λ name. consumer_of words >>> λ declared.
     Ok (record s { consumers = s.consumers ++ consumer_at (next_worker s) name declared ∷ [] })
 
 -- journal
@@ -145,10 +147,24 @@ abbrev pub pair_of : Seen → List Word → Result (ℕ × ℕ) SceneFaultKind
 pair_of s (service ∷ consumer ∷ []) = pair_named s service consumer
 pair_of s _ = Err bad_line
 
--- law SERVICE CONSUMER
+abbrev pub is_latest : Start → Bool
+is_latest starts.Earliest = false
+is_latest starts.Latest = true
+
+abbrev pub is_variant_by : Option Consumer → Bool
+is_variant_by None = false
+is_variant_by (Some consumer) = is_latest consumer.start
+
+-- the consumer at this place begins at the end
+abbrev pub is_variant_at : List Consumer → ℕ → Bool
+is_variant_at consumers place = is_variant_by (slice_get consumers place)
+
+-- law SERVICE CONSUMER, of a consumer that does not begin at the end
 abbrev pub with_law : Seen → List Word → Result Seen SceneFaultKind
 with_law s words =
-    pair_of s words >>> λ pair. Ok (with_steps s (Plain (step_forms.Law pair.0 pair.1) ∷ []))
+    pair_of s words >>> λ pair.
+    if is_variant_at s.consumers pair.1 then Err kinds.NoLaw
+    else Ok (with_steps s (Plain (step_forms.Law pair.0 pair.1) ∷ []))
 
 -- check SERVICE CONSUMER
 abbrev pub with_check : Seen → List Word → Result Seen SceneFaultKind

@@ -7,11 +7,13 @@ use Rattle.std.specs.Str.{bytes_eq}
 use Rattle.kob_script.specs.declared.fault.FaultKind.{FaultKind}
 use Rattle.kob_script.specs.Words.{◌>>=◌, each, text_of, principal_of, host_of, Word, number_of, word_of}
 use Rattle.kob_scene_text.specs.declared.fault.SceneFaultKind.{SceneFaultKind}
-use Rattle.kob_scene_text.specs.declared.fault.SceneFaultKind.TheVariants.{BadWorkerName, NameTaken, BadPartitions, BadRoute}
+use Rattle.kob_scene_text.specs.declared.fault.SceneFaultKind.TheVariants.{BadWorkerName, NameTaken, BadPartitions, BadMax, BadRoute}
 use Rattle.kob_scene_text.specs.declared.name.Who.{Who}
 use Rattle.kob_scene_text.specs.declared.name.Worker.{Worker}
 use Rattle.kob_scene_text.specs.declared.scene.Consumer.{Consumer}
 use Rattle.kob_scene_text.specs.declared.scene.Service.{Service}
+use Rattle.kob_scene_text.specs.declared.scene.Start.{Start}
+use Rattle.kob_scene_text.specs.declared.scene.Start.TheVariants.{Earliest, Latest}
 use Rattle.kob_scene_text.specs.Reading.{as_scripts, ◌>>>◌, bad_line}
 use Rattle.kob_router.specs.declared.placement.Placed.{Placed}
 use Rattle.kob_router.specs.declared.settings.RouteBy.{RouteBy}
@@ -23,7 +25,6 @@ use Rattle.kob_script.specs.declared.fault.FaultKind.TheVariants.{BadLine, BadWo
 use Rattle.kob_scene_text.specs.declared.service_lines.DeclaredRoute.{DeclaredRoute}
 use Rattle.kob_scene_text.specs.declared.service_lines.DeclaredService.{DeclaredService}
 use Rattle.bstr.specs.Find.{first_of, matches}
-use Rattle.kob_inbox.specs.declared.fetcher.Subscription.{Subscription}
 use Rattle.kob_router.specs.declared.place.Place.{Place}
 use Rattle.kob_scene_text.specs.declared.consumer_lines.DeclaredConsumer.{DeclaredConsumer}
 use Rattle.kob_scene_text.specs.declared.name.Worker.TheVariants as workers
@@ -172,20 +173,47 @@ places_of [] = Ok []
 places_of (keyword ∷ places) =
     if bytes_eq keyword.decoded (codes "reads") then each place_of places else Err BadLine
 
-abbrev pub subscription_of : Word → Word → List Word → Result Subscription FaultKind
-subscription_of group max words =
-    text_of group >>= λ group. number_of max >>= λ max. places_of words >>= λ places.
-    Ok (record { group = group; assignment = places; max = max })
+-- from 1 on
+abbrev pub max_of : Word → Result ℕ SceneFaultKind
+max_of word =
+    as_scripts (number_of word) >>> λ number. if nat_le 1 number then Ok number else Err BadMax
+
+-- where a consumer begins, by a word
+abbrev pub start_named : Word → Result Start FaultKind
+start_named word = if bytes_eq word.decoded (codes "latest") then Ok Latest else Err BadWord
+
+-- `start latest` where the words begin so, else at the start, and the words behind it
+abbrev pub start_first : List Word → Result (Start × List Word) FaultKind
+start_first (keyword ∷ word ∷ rest) =
+    if bytes_eq keyword.decoded (codes "start")
+    then (start_named word >>= λ start. Ok (start, rest))
+    else Ok (Earliest, keyword ∷ word ∷ rest)
+start_first words = Ok (Earliest, words)
+
+-- where it begins, and what it reads
+abbrev pub start_and_places : List Word → Result (Start × List Place) FaultKind
+start_and_places words =
+    start_first words >>= λ start. places_of start.1 >>= λ places. Ok (start.0, places)
+
+-- what stands behind who it is
+abbrev pub reading_of : Who → Word → Word → List Word → Result DeclaredConsumer SceneFaultKind
+reading_of who group max words =
+    as_scripts (text_of group) >>> λ group. max_of max >>> λ max.
+    as_scripts (start_and_places words) >>> λ read.
+    Ok (record {
+      who = who;
+      subscription = record { group = group; assignment = read.1; max = max };
+      start = read.0;
+    })
 
 abbrev pub consumer_with : Word → Word → Word → Word → List Word
-    → Result DeclaredConsumer FaultKind
+    → Result DeclaredConsumer SceneFaultKind
 consumer_with principal host group max words =
-    who_of principal host >>= λ who. subscription_of group max words >>= λ subscription.
-    Ok (record { who = who; subscription = subscription })
+    as_scripts (who_of principal host) >>> λ who. reading_of who group max words
 
--- PRINCIPAL HOST group G max N and what is read
-abbrev pub consumer_of : List Word → Result DeclaredConsumer FaultKind
+-- PRINCIPAL HOST group G max N, where it begins and what is read
+abbrev pub consumer_of : List Word → Result DeclaredConsumer SceneFaultKind
 consumer_of (principal ∷ host ∷ first ∷ group ∷ second ∷ max ∷ words) =
     if bytes_eq first.decoded (codes "group") && bytes_eq second.decoded (codes "max")
-    then consumer_with principal host group max words else Err BadLine
-consumer_of _ = Err BadLine
+    then consumer_with principal host group max words else Err bad_line
+consumer_of _ = Err bad_line

@@ -2,11 +2,15 @@
 
 ghost use Rattle.std.specs.Prelude.{◌≡◌};
 ghost use Rattle.std.specs.Option.{option_map};
-ghost use Rattle.kob_script.specs.Words.{Gives, each};
-ghost use Rattle.kob_scene_text.specs.Workers.{consumer_of, consumer_with, cut, place_in};
-ghost use Rattle.kob_scene_text.specs.Workers.{place_of, places_of, subscription_of};
+ghost use Rattle.kob_script.specs.Words.{Gives as ScriptGives, GivesSeen as ScriptGivesSeen, each};
+ghost use Rattle.kob_scene_text.specs.Reading.{Gives};
+ghost use Rattle.kob_scene_text.specs.Workers.{start_and_places, start_first, start_named};
+ghost use Rattle.kob_scene_text.specs.Workers.{consumer_of, consumer_with, cut, max_of, place_in};
+ghost use Rattle.kob_scene_text.specs.Workers.{place_of, places_of, reading_of};
 
+use crate::fault::{SceneFaultKind, StepError};
 use crate::name::{Who, who_of};
+use crate::scene::Start;
 use bstr::ByteSlice;
 use kob_inbox::Subscription;
 use kob_names::Items;
@@ -19,45 +23,109 @@ use std::alloc::Global;
 pub(crate) struct DeclaredConsumer {
     pub(crate) who: Who,
     pub(crate) subscription: Subscription,
+    pub(crate) start: Start,
 }
 
-/// `PRINCIPAL HOST group GROUP max N [reads TOPIC:PARTITION ..]`. The words are checked from left
-/// to right.
-pub(crate) fn consumer_of(alloc: Global, words: &[Word<'_>]) -> Result<DeclaredConsumer, LineError>
+/// `PRINCIPAL HOST group GROUP max N [start latest] [reads TOPIC:PARTITION ..]`. The words are
+/// checked from left to right.
+pub(crate) fn consumer_of(alloc: Global, words: &[Word<'_>]) -> Result<DeclaredConsumer, StepError>
     ensures { Gives result (consumer_of words.now) }
 {
     match words {
         [principal, host, first, group, second, max, rest @ ..]
             if first.decoded() == b"group".as_slice() && second.decoded() == b"max".as_slice() => {
-            let who = who_of(alloc, principal, host)?;
-            let subscription = subscription_of(alloc, group, max, rest)?;
-            Ok(DeclaredConsumer { who, subscription })
+            consumer_with(alloc, principal, host, group, max, rest)
         }
-        _ => Err(LineError::Fault(FaultKind::BadLine)),
+        _ => Err(StepError::Fault(SceneFaultKind::Script(FaultKind::BadLine))),
     }
 }
 
-fn subscription_of(
+fn consumer_with(
     alloc: Global,
+    principal: &Word<'_>,
+    host: &Word<'_>,
     group: &Word<'_>,
     max: &Word<'_>,
     words: &[Word<'_>],
-) -> Result<Subscription, LineError>
-    ensures { Gives result (subscription_of group.now max.now words.now) }
+) -> Result<DeclaredConsumer, StepError>
+    ensures { Gives result (consumer_with principal.now host.now group.now max.now words.now) }
+{
+    let who = who_of(alloc, principal, host)?;
+    reading_of(alloc, who, group, max, words)
+}
+
+/// What stands behind who it is.
+fn reading_of(
+    alloc: Global,
+    who: Who,
+    group: &Word<'_>,
+    max: &Word<'_>,
+    words: &[Word<'_>],
+) -> Result<DeclaredConsumer, StepError>
+    ensures { Gives result (reading_of who group.now max.now words.now) }
 {
     let group = text_of(alloc, group)?;
-    let max = number_of(max)?;
-    let assignment = places_of(alloc, words)?;
-    Ok(Subscription {
-        group,
-        assignment,
-        max,
+    let max = max_of(max)?;
+    let (start, assignment) = start_and_places(alloc, words)?;
+    Ok(DeclaredConsumer {
+        who,
+        subscription: Subscription {
+            group,
+            assignment,
+            max,
+        },
+        start,
     })
+}
+
+/// From 1 on. `BadNumber` comes before `BadMax`.
+pub(crate) fn max_of(word: &Word<'_>) -> Result<u64, StepError>
+    ensures { Gives result (max_of word.now) }
+{
+    let number = number_of(word)?;
+    if 1 <= number {
+        Ok(number)
+    } else {
+        Err(StepError::Fault(SceneFaultKind::BadMax))
+    }
+}
+
+/// Where it begins, and the partitions that it reads.
+fn start_and_places(alloc: Global, words: &[Word<'_>]) -> Result<(Start, Items<Place>), LineError>
+    ensures { ScriptGives result (start_and_places words.now) }
+{
+    let (start, words) = start_first(words)?;
+    let places = places_of(alloc, words)?;
+    Ok((start, places))
+}
+
+/// Where it begins, and the words after that.
+fn start_first<'w, 'l>(words: &'w [Word<'l>]) -> Result<(Start, &'w [Word<'l>]), LineError>
+    ensures { ScriptGivesSeen (λ read. (read.0, read.1.now)) result
+        (start_first words.entry.now) }
+{
+    match words {
+        [keyword, word, rest @ ..] if keyword.decoded() == b"start".as_slice() => {
+            let start = start_named(word)?;
+            Ok((start, rest))
+        }
+        _ => Ok((Start::Earliest, words)),
+    }
+}
+
+pub(crate) fn start_named(word: &Word<'_>) -> Result<Start, LineError>
+    ensures { ScriptGives result (start_named word.now) }
+{
+    if word.decoded() == b"latest".as_slice() {
+        Ok(Start::Latest)
+    } else {
+        Err(LineError::Fault(FaultKind::BadWord))
+    }
 }
 
 /// The partitions after `reads`; without words there are none.
 fn places_of(alloc: Global, words: &[Word<'_>]) -> Result<Items<Place>, LineError>
-    ensures { Gives result (places_of words.now) }
+    ensures { ScriptGives result (places_of words.now) }
 {
     match words {
         [] => Ok(Items::from_vec(Vec::new(alloc))),
@@ -69,7 +137,7 @@ fn places_of(alloc: Global, words: &[Word<'_>]) -> Result<Items<Place>, LineErro
 }
 
 fn each_place(alloc: Global, words: &[Word<'_>]) -> Result<Items<Place>, LineError>
-    ensures { Gives result (each place_of words.now) }
+    ensures { ScriptGives result (each place_of words.now) }
 {
     let mut places = Vec::with_capacity(alloc, words.len())?;
     for word in words {
@@ -81,7 +149,7 @@ fn each_place(alloc: Global, words: &[Word<'_>]) -> Result<Items<Place>, LineErr
 
 /// `TOPIC:PARTITION`, split at the first colon that is not escaped.
 pub(crate) fn place_of(alloc: Global, word: &Word<'_>) -> Result<Place, LineError>
-    ensures { Gives result (place_of word.now) }
+    ensures { ScriptGives result (place_of word.now) }
 {
     match cut(word.raw()) {
         Some((topic, partition)) => place_by(alloc, topic, partition),
@@ -92,7 +160,7 @@ pub(crate) fn place_of(alloc: Global, word: &Word<'_>) -> Result<Place, LineErro
 ghost use Rattle.std.specs.Prelude.{Some};
 
 fn place_by(alloc: Global, topic: &[u8], partition: &[u8]) -> Result<Place, LineError>
-    ensures { Gives result (place_in (Some (topic.now, partition.now))) }
+    ensures { ScriptGives result (place_in (Some (topic.now, partition.now))) }
 {
     let topic = Word::read(alloc, topic)?;
     let topic = text_of(alloc, &topic)?;

@@ -20,10 +20,14 @@ pub enum SceneFaultKind {
     NameTaken,
     #[error("invalid number of partitions: not from 1 to 1,000")]
     BadPartitions,
+    #[error("a consumer that fetches no record: `max` is from 1 on")]
+    BadMax,
     #[error("invalid replacement or placement of a route")]
     BadRoute,
     #[error("invalid UUID")]
     BadId,
+    #[error("the laws of delivery do not speak of a consumer that begins at the end")]
+    NoLaw,
 }
 
 /// The first line of a scene with a fault, counted from 1, and the fault's kind.

@@ -3,7 +3,7 @@
 ghost use Rattle.std.specs.Prelude.{◌≡◌};
 ghost use Rattle.std.specs.Option.{option_map};
 ghost use Rattle.kob_scene_text.specs.Places.{bare_form, consumer_form, consumer_step_form};
-ghost use Rattle.kob_scene_text.specs.Places.{expect_form, expect_form_by};
+ghost use Rattle.kob_scene_text.specs.Places.{expect_form, expect_form_by, law_form};
 ghost use Rattle.kob_scene_text.specs.Places.{keyword_text, pair_form, record_form, service_form};
 ghost use Rattle.kob_scene_text.specs.Places.{service_step_form, setting_form, step_form, tick_form};
 
@@ -23,8 +23,12 @@ pub(crate) enum Slot {
     Text,
     Principal,
     Host,
-    /// Decimal digits of a number of 64 bits.
-    Number,
+    /// The name of a consumer that a line before declares, and of which the laws speak.
+    LawConsumer,
+    /// A number from 1 on.
+    Max,
+    /// `latest`
+    Start,
     /// From 1 to 1,000 partitions.
     Partitions,
     /// The column that rows are routed by.
@@ -51,6 +55,7 @@ pub(crate) enum Keyword {
     Placement,
     Group,
     Max,
+    Start,
     Reads,
     Delivered,
     All,
@@ -80,6 +85,7 @@ pub(crate) fn keyword_text(keyword: Keyword) -> &'static str
         Keyword::Placement => "placement",
         Keyword::Group => "group",
         Keyword::Max => "max",
+        Keyword::Start => "start",
         Keyword::Reads => "reads",
         Keyword::Delivered => "delivered",
         Keyword::All => "all",
@@ -126,14 +132,22 @@ pub(crate) fn consumer_form() -> &'static [Part]
         Part::One(Slot::Keyword(Keyword::Group)),
         Part::One(Slot::Text),
         Part::One(Slot::Keyword(Keyword::Max)),
-        Part::One(Slot::Number),
+        Part::One(Slot::Max),
+        Part::After(Keyword::Start, Slot::Start),
         Part::OrEnd,
         Part::One(Slot::Keyword(Keyword::Reads)),
         Part::Each(Slot::Partition),
     ]
 }
 
-/// The words behind `law` and `check`.
+/// The words behind `law`.
+pub(crate) fn law_form() -> &'static [Part]
+    ensures { result.now ≡ law_form }
+{
+    &[Part::One(Slot::ServiceName), Part::One(Slot::LawConsumer)]
+}
+
+/// The words behind `check`.
 pub(crate) fn pair_form() -> &'static [Part]
     ensures { result.now ≡ pair_form }
 {

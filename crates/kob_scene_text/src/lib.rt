@@ -31,5 +31,5 @@ pub use printed_tick::{
 };
 pub use reading::read_scene;
 pub use scene::{
-    Consumer, ConsumerStep, Expected, Lost, Routed, Scene, Service, ServiceStep, Step,
+    Consumer, ConsumerStep, Expected, Lost, Routed, Scene, Service, ServiceStep, Start, Step,
 };

@@ -3,7 +3,8 @@
 ghost use Rattle.std.specs.Prelude.{◌≡◌, ◌++◌, map, IfOk, OnOk};
 ghost use Rattle.kob_scene_text.specs.Steps.{asks_step, head_by, head_by_word, head_named, head_of};
 ghost use Rattle.kob_scene_text.specs.Scenes.{ReadsLine, ReadsNext};
-ghost use Rattle.kob_scene_text.specs.Scenes.{asked, is_early, next_worker, so_far, told};
+ghost use Rattle.kob_scene_text.specs.Scenes.{asked, is_early, is_variant_at};
+ghost use Rattle.kob_scene_text.specs.Scenes.{next_worker, so_far, told};
 ghost use Rattle.kob_scene_text.specs.Scenes.{consumer_at, service_at};
 ghost use Rattle.kob_scene_text.specs.Reading.{Gives};
 ghost use Rattle.kob_scene_text.specs.Scenes.{pair_named, pair_of, with_check, with_consumer};
@@ -258,7 +259,7 @@ impl Reading {
             Ok(declared) => self.push_consumer(worker, name, declared),
             Err(error) => {
                 drop(name);
-                Err(error.into())
+                Err(error)
             }
         }
     }
@@ -279,6 +280,7 @@ impl Reading {
             principal: declared.who.principal,
             host: declared.who.host,
             subscription: declared.subscription,
+            start: declared.start,
         })?;
         Ok(())
     }
@@ -299,11 +301,14 @@ impl Reading {
         }
     }
 
-    /// `law SERVICE CONSUMER`
+    /// `law SERVICE CONSUMER`, of a consumer that does not begin at the end
     fn add_law(&mut self, words: &[Word<'_>]) -> Result<(), StepError>
         ensures { ReadsNext self.new result (with_law (so_far self.old) words.now) }
     {
         let (service, consumer) = self.pair_of(words)?;
+        if is_variant_at(&self.consumers, consumer) {
+            return Err(StepError::Fault(SceneFaultKind::NoLaw));
+        }
         self.push_step(Step::Law { service, consumer })
     }
 
@@ -388,5 +393,15 @@ impl Reading {
         let asked = events_of(alloc, words, answer)?;
         push_asked(&mut self.steps, asked)?;
         Ok(())
+    }
+}
+
+/// Whether the consumer at this place begins at the end.
+fn is_variant_at(consumers: &[Consumer], place: usize) -> bool
+    ensures { result ≡ is_variant_at consumers.now place }
+{
+    match consumers.get(place) {
+        Some(consumer) => consumer.start.is_latest(),
+        None => false,
     }
 }

@@ -9,7 +9,7 @@ ghost use Rattle.std.specs.List.{position};
 
 use crate::fault::SceneFaultKind;
 use crate::forms::{
-    Part, consumer_form, expect_form, pair_form, service_form, setting_form, step_form,
+    Part, consumer_form, expect_form, law_form, pair_form, service_form, setting_form, step_form,
 };
 use crate::line::{Head, head_of};
 use crate::name::Worker;
@@ -122,8 +122,10 @@ fn same_kind(one: SceneFaultKind, other: SceneFaultKind) -> bool
         | (SceneFaultKind::BadWorkerName, SceneFaultKind::BadWorkerName)
         | (SceneFaultKind::NameTaken, SceneFaultKind::NameTaken)
         | (SceneFaultKind::BadPartitions, SceneFaultKind::BadPartitions)
+        | (SceneFaultKind::BadMax, SceneFaultKind::BadMax)
         | (SceneFaultKind::BadRoute, SceneFaultKind::BadRoute)
-        | (SceneFaultKind::BadId, SceneFaultKind::BadId) => true,
+        | (SceneFaultKind::BadId, SceneFaultKind::BadId)
+        | (SceneFaultKind::NoLaw, SceneFaultKind::NoLaw) => true,
         _ => false,
     }
 }
@@ -144,7 +146,8 @@ fn word_faults(
         Head::Service => faults_by(alloc, before, service_form(), rest),
         Head::Consumer => faults_by(alloc, before, consumer_form(), rest),
         Head::Journal => faults_by(alloc, before, &[], rest),
-        Head::Law | Head::Check => faults_by(alloc, before, pair_form(), rest),
+        Head::Law => faults_by(alloc, before, law_form(), rest),
+        Head::Check => faults_by(alloc, before, pair_form(), rest),
         Head::Expect => faults_by(alloc, before, expect_form(rest), rest),
         Head::Of(worker) => worker_faults(alloc, worker, rest),
         Head::Unknown => Ok(Vec::from_array(alloc, [Some(SceneFaultKind::UnknownWorker)])?),

@@ -40,7 +40,9 @@ fn kind_text(kind: SceneFaultKind) -> &'static str
         SceneFaultKind::BadWorkerName => "BadWorkerName",
         SceneFaultKind::NameTaken => "NameTaken",
         SceneFaultKind::BadPartitions => "BadPartitions",
+        SceneFaultKind::BadMax => "BadMax",
         SceneFaultKind::BadRoute => "BadRoute",
         SceneFaultKind::BadId => "BadId",
+        SceneFaultKind::NoLaw => "NoLaw",
     }
 }

@@ -83,7 +83,30 @@ pub struct Service {
     pub routed: Routed,
 }
 
-/// A consumer: its name in the text, its worker number, who it is, and what it reads.
+/// Where a consumer begins on a partition without a commit of its group.
+#[derive(Clone, Copy, Debug, PartialEq, Eq)]
+pub enum Start {
+    /// At offset 0.
+    Earliest,
+    /// At the end: a variant, of which the laws of delivery do not speak.
+    Latest,
+}
+
+impl Start {
+    ghost use Rattle.kob_scene_text.specs.Scenes.{is_latest};
+
+    pub fn is_latest(self) -> bool
+        ensures { result ≡ is_latest self }
+    {
+        match self {
+            Start::Earliest => false,
+            Start::Latest => true,
+        }
+    }
+}
+
+/// A consumer: its name in the text, its worker number, who it is, what it reads, and where it
+/// begins.
 #[derive(Drop)]
 pub struct Consumer {
     pub name: Text,
@@ -91,6 +114,7 @@ pub struct Consumer {
     pub principal: Principal,
     pub host: Host,
     pub subscription: Subscription,
+    pub start: Start,
 }
 
 /// A step, by the place of its service or consumer in the scene's list, from 0.

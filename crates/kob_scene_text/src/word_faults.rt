@@ -4,24 +4,23 @@ ghost use Rattle.std.specs.Prelude.{◌≡◌, ◌++◌, IfOk, OnOk, Result, map
 ghost use Rattle.std.specs.Result.{result_err};
 ghost use Rattle.kob_script.specs.Words.{Gives as ScriptGives};
 ghost use Rattle.kob_script.specs.declared.fault.FaultKind as script_kinds;
-ghost use Rattle.kob_scene_text.specs.Places.{fault_unless, faults_in, is_declared, name_fault};
+ghost use Rattle.kob_scene_text.specs.Places.{fault_unless, faults_in, is_declared, law_fault};
+ghost use Rattle.kob_scene_text.specs.Places.{name_fault};
 ghost use Rattle.kob_scene_text.specs.Places.{placement_fault, replacement_fault, script_fault};
 ghost use Rattle.kob_scene_text.specs.Places.{slot_fault};
 ghost use Rattle.kob_scene_text.specs.Reading.{Gives};
 ghost use Rattle.kob_scene_text.specs.declared.fault.SceneFaultKind as kinds;
 
-use crate::consumer_lines::place_of;
+use crate::consumer_lines::{max_of, place_of, start_named};
 use crate::fault::{SceneFaultKind, StepError};
 use crate::forms::{Keyword, Part, Slot, keyword_text};
 use crate::name::is_name;
 use crate::service_lines::{by_named, partitions_of, route_of};
 use crate::step_lines::id_of;
-use crate::workers_before::{is_declared, worker_in};
+use crate::workers_before::{is_declared, is_variant, worker_in};
 use kob_names::{Host, Principal, Text};
 use kob_router::{Route, RouteBy, RouteSettings};
-use kob_script::{
-    FaultKind, LineError, Word, host_of, lent_text_of, number_of, principal_of, text_of,
-};
+use kob_script::{FaultKind, LineError, Word, host_of, lent_text_of, principal_of, text_of};
 use std::alloc::{AllocError, Global};
 
 /// Appends the faults of words, by a form, behind these lines of a scene.
@@ -119,10 +118,12 @@ fn slot_fault(
             let is_known = is_declared(alloc, b"consumer", before, word.decoded())?;
             Ok(fault_unless(is_known, SceneFaultKind::UnknownWorker))
         }
+        Slot::LawConsumer => law_fault(alloc, before, word.decoded()),
         Slot::Text => line_fault(text_of(alloc, word)),
         Slot::Principal => line_fault(principal_in(alloc, word)),
         Slot::Host => line_fault(host_in(alloc, word)),
-        Slot::Number => Ok(script_fault(number_of(word).err())),
+        Slot::Max => step_fault(max_of(word)),
+        Slot::Start => line_fault(start_named(word)),
         Slot::Column => line_fault(by_named(word)),
         Slot::Partition => line_fault(place_of(alloc, word)),
         Slot::Partitions => step_fault(partitions_of(word)),
@@ -179,6 +180,22 @@ fn step_fault<T: Drop>(read: Result<T, StepError>) -> Result<Option<SceneFaultKi
         Err(StepError::Fault(kind)) => Ok(Some(kind)),
         Err(StepError::Memory(refused)) => Err(refused),
     }
+}
+
+/// The fault of the name of a consumer of which the laws speak.
+fn law_fault(
+    alloc: Global,
+    before: &[&[u8]],
+    name: &[u8],
+) -> Result<Option<SceneFaultKind>, AllocError>
+    ensures { IfOk result (λ fault.
+        fault ≡ law_fault (map (λ line. line.now) before.now) name.now) }
+{
+    if !is_declared(alloc, b"consumer", before, name)? {
+        return Ok(Some(SceneFaultKind::UnknownWorker));
+    }
+    let is_variant = is_variant(alloc, before, name)?;
+    Ok(fault_unless(!is_variant, SceneFaultKind::NoLaw))
 }
 
 fn name_fault(

@@ -2,7 +2,8 @@
 
 ghost use Rattle.std.specs.Prelude.{◌≡◌, IfOk, map};
 ghost use Rattle.kob_script.specs.Script.{line_words};
-ghost use Rattle.kob_scene_text.specs.Places.{are_of, is_declared, worker_in};
+ghost use Rattle.kob_scene_text.specs.Places.{are_of, are_of_variant, is_declared, is_variant};
+ghost use Rattle.kob_scene_text.specs.Places.{worker_in};
 
 use crate::name::Worker;
 use kob_script::{LineError, Word, words_of};
@@ -40,6 +41,42 @@ pub(crate) fn is_declared(
         }
     }
     Ok(false)
+}
+
+/// Whether one of these lines declares a consumer of this name that begins at the end.
+pub(crate) fn is_variant(alloc: Global, before: &[&[u8]], name: &[u8]) -> Result<bool, AllocError>
+    ensures { IfOk result (λ is.
+        is ≡ is_variant (map (λ line. line.now) before.now) name.now) }
+{
+    for line in before {
+        if is_of_variant(alloc, line, name)? {
+            return Ok(true);
+        }
+    }
+    Ok(false)
+}
+
+fn is_of_variant(alloc: Global, line: &[u8], name: &[u8]) -> Result<bool, AllocError>
+    ensures { IfOk result (λ is. is ≡ are_of_variant name.now (line_words line.now)) }
+{
+    match words_of(alloc, line) {
+        Ok(words) => Ok(are_of_variant(name, &words)),
+        Err(LineError::Fault(_)) => Ok(false),
+        Err(LineError::Memory(refused)) => Err(refused),
+    }
+}
+
+fn are_of_variant(name: &[u8], words: &[Word<'_>]) -> bool
+    ensures { result ≡ are_of_variant name.now words.now }
+{
+    match words {
+        [first, own, _, _, _, _, _, _, keyword, ..] => {
+            first.decoded() == b"consumer".as_slice()
+                && own.decoded() == name
+                && keyword.decoded() == b"start".as_slice()
+        }
+        _ => false,
+    }
 }
 
 fn is_of(alloc: Global, keyword: &[u8], line: &[u8], name: &[u8]) -> Result<bool, AllocError>

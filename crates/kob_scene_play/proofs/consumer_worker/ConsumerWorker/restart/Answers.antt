@@ -9,12 +9,13 @@ returns c =
       worker = was.worker;
       principal = was.principal;
       host = was.host;
+      start = was.start;
       fetcher = c.restart.new.self;
       inbox = was.inbox;
     } in
     let made = c.restart.ensures in
     subst (λ (old : Consumer). Consumes Restarted old new) c.self.view_is (record {
-      same = record { worker = refl; principal = refl; host = refl; subscription = made.same };
+      same = record { worker = refl; principal = refl; host = refl; start = refl; subscription = made.same };
       may = tt;
       done = made.done was.inbox;
     })

@@ -1,0 +1,155 @@
+//! How events that are out of order are printed.
+
+ghost use Rattle.std.specs.Prelude.{◌≡◌, ◌<◌, ◌++◌, OnOk, Some, length, map, slice_get};
+ghost use Rattle.std.specs.Option.{option_copied};
+ghost use Rattle.kob_delivery_check.specs.PrintedOrder.{before_event, before_named, early_event};
+ghost use Rattle.kob_delivery_check.specs.PrintedOrder.{early_named, inbox_place, place_of};
+ghost use Rattle.kob_delivery_check.specs.PrintedOrder.{record_line, record_lines, row_line};
+ghost use Rattle.kob_delivery_check.specs.PrintedOrder.{row_lines};
+
+use crate::cause::event_at;
+use crate::order::Early;
+use crate::printed_pieces::{push_assigned, push_counted, push_event, push_id};
+use crate::printed_records::push_labelled;
+use crate::record_order::EarlyRecord;
+use crate::sent::place_of;
+use kob_outbox::OutboxEvent;
+use kob_router::Place;
+use std::alloc::AllocError;
+
+#[tactic(auto, using(kob_words::proofs::Appending::appending))]
+fn push_early(
+    out: &mut Vec<u8>,
+    place: usize,
+    event: Option<&OutboxEvent>,
+) -> Result<(), AllocError>
+    ensures { OnOk result (out.new.items
+        ≡ out.old.items ++ early_event place (option_copied event.entry)) }
+{
+    let Some(event) = event else {
+        return Ok(());
+    };
+    out.extend_from_slice(b"misordered")?;
+    push_event(out, (place as u64).saturating_add(1), event)
+}
+
+/// The event that came, by its id.
+fn push_early_named(out: &mut Vec<u8>, events: &[&OutboxEvent], id: u128) -> Result<(), AllocError>
+    ensures { OnOk result (out.new.items ≡ out.old.items
+        ++ early_named (map (λ event. event.now) events.now)
+        (place_of id (map (λ event. event.now) events.now))) }
+{
+    match place_of(id, events) {
+        None => Ok(()),
+        Some(place) => push_early(out, place, event_at(events, place)),
+    }
+}
+
+#[tactic(auto, using(kob_words::proofs::Appending::appending))]
+fn push_before(
+    out: &mut Vec<u8>,
+    place: usize,
+    event: Option<&OutboxEvent>,
+) -> Result<(), AllocError>
+    ensures { OnOk result (out.new.items
+        ≡ out.old.items ++ before_event place (option_copied event.entry)) }
+{
+    let Some(event) = event else {
+        return Ok(());
+    };
+    out.extend_from_slice(b", before")?;
+    push_id(out, event.id)?;
+    out.extend_from_slice(b" row")?;
+    push_counted(out, (place as u64).saturating_add(1))?;
+    out.extend_from_slice(b"\n")
+}
+
+/// The event that was recorded before it, by its id.
+fn push_before_named(out: &mut Vec<u8>, events: &[&OutboxEvent], id: u128) -> Result<(), AllocError>
+    ensures { OnOk result (out.new.items ≡ out.old.items
+        ++ before_named (map (λ event. event.now) events.now)
+        (place_of id (map (λ event. event.now) events.now))) }
+{
+    match place_of(id, events) {
+        None => Ok(()),
+        Some(place) => push_before(out, place, event_at(events, place)),
+    }
+}
+
+fn push_inbox_place(out: &mut Vec<u8>, at: u64) -> Result<(), AllocError>
+    ensures { OnOk result (out.new.items ≡ out.old.items ++ inbox_place at) }
+{
+    push_labelled(out, b" in the inbox at", at)
+}
+
+/// The line of a row of the inbox.
+#[tactic(auto, using(kob_words::proofs::Appending::appending))]
+fn push_row(out: &mut Vec<u8>, events: &[&OutboxEvent], early: Early) -> Result<(), AllocError>
+    ensures { OnOk result (out.new.items
+        ≡ out.old.items ++ row_line (map (λ event. event.now) events.now) early) }
+{
+    push_early_named(out, events, early.event)?;
+    push_inbox_place(out, early.at)?;
+    push_before_named(out, events, early.before)
+}
+
+/// The line of a record.
+#[tactic(auto, using(kob_words::proofs::Appending::appending))]
+fn push_record(
+    out: &mut Vec<u8>,
+    events: &[&OutboxEvent],
+    assignment: &[Place],
+    found: EarlyRecord,
+) -> Result<(), AllocError>
+    ensures { OnOk result (out.new.items ≡ out.old.items
+        ++ record_line (map (λ event. event.now) events.now) assignment.now found) }
+{
+    push_early_named(out, events, found.early.event)?;
+    push_assigned(out, assignment, found.assigned, found.early.at)?;
+    push_before_named(out, events, found.early.before)
+}
+
+/// A line for each row of the inbox that is out of order.
+pub(crate) fn push_rows(
+    out: &mut Vec<u8>,
+    events: &[&OutboxEvent],
+    early: &[Early],
+) -> Result<(), AllocError>
+    ensures { OnOk result (out.new.items
+        ≡ out.old.items ++ row_lines (map (λ event. event.now) events.now) early.now) }
+{
+    for place in 0..early.len() {
+        push_row(out, events, row_at(early, place))?;
+    }
+    Ok(())
+}
+
+fn row_at(early: &[Early], place: usize) -> Early
+    requires { place < length early.now }
+    ensures { slice_get early.now place ≡ Some result }
+{
+    early[place]
+}
+
+/// A line for each record that is out of order in its partition.
+pub(crate) fn push_records(
+    out: &mut Vec<u8>,
+    events: &[&OutboxEvent],
+    assignment: &[Place],
+    early: &[EarlyRecord],
+) -> Result<(), AllocError>
+    ensures { OnOk result (out.new.items ≡ out.old.items
+        ++ record_lines (map (λ event. event.now) events.now) assignment.now early.now) }
+{
+    for place in 0..early.len() {
+        push_record(out, events, assignment, record_at(early, place))?;
+    }
+    Ok(())
+}
+
+fn record_at(early: &[EarlyRecord], place: usize) -> EarlyRecord
+    requires { place < length early.now }
+    ensures { slice_get early.now place ≡ Some result }
+{
+    early[place]
+}

@@ -1,0 +1,75 @@
+//! Where a consumer that begins at the end commits before it asks for its group's commit.
+
+ghost use Rattle.std.specs.Prelude.{◌≡◌, IfOk};
+ghost use Rattle.kob_delivery_check.specs.Starts.{end_unless, start_by, start_due, start_on};
+
+use crate::journaled::log_by;
+use crate::partition_log::PartitionLog;
+use kob_inbox::Consumer;
+use kob_names::PlainValue;
+use kob_rights::OffsetCommit;
+use kob_router::Place;
+use kob_shared::Journal;
+use std::alloc::{AllocError, Global};
+
+/// The commit of the end of the first partition of a consumer's assignment on which the consumer
+/// knows no position and its group has no commit. The error is out of memory.
+pub fn start_due(
+    alloc: Global,
+    journal: &Journal,
+    consumer: &Consumer,
+) -> Result<Option<OffsetCommit>, AllocError>
+    ensures { IfOk result (λ due. due
+        ≡ start_due journal.now consumer.now consumer.now.subscription.assignment) }
+{
+    let subscription = consumer.subscription();
+    for place in subscription.assignment.as_slice() {
+        let due = start_on(alloc, journal, consumer, place)?;
+        if due.is_some() {
+            return Ok(due);
+        }
+    }
+    Ok(None)
+}
+
+fn start_on(
+    alloc: Global,
+    journal: &Journal,
+    consumer: &Consumer,
+    place: &Place,
+) -> Result<Option<OffsetCommit>, AllocError>
+    ensures { IfOk result (λ due. due ≡ start_on journal.now consumer.now place.now) }
+{
+    let group = &consumer.subscription().group;
+    let log = log_by(alloc, group, place, journal)?;
+    let Some(offset) = start_by(consumer.position(place), &log) else {
+        return Ok(None);
+    };
+    let group = group.copy(alloc)?;
+    let topic = place.topic.copy(alloc)?;
+    Ok(Some(OffsetCommit {
+        group,
+        topic,
+        partition: place.partition,
+        offset,
+    }))
+}
+
+/// The end of a partition, if there is neither a position nor a commit.
+fn start_by(own: Option<u64>, log: &PartitionLog) -> Option<u64>
+    ensures { result ≡ start_by own log.now }
+{
+    match own {
+        Some(_) => None,
+        None => end_unless(log.committed(), log.events().len() as u64),
+    }
+}
+
+fn end_unless(committed: Option<u64>, end: u64) -> Option<u64>
+    ensures { result ≡ end_unless committed end }
+{
+    match committed {
+        Some(_) => None,
+        None => Some(end),
+    }
+}
