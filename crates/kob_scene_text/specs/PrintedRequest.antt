@@ -1,5 +1,5 @@
 -- How the bindings of a creation and the filters of bindings are printed.
-use Rattle.std.specs.Prelude.{ℕ, List, ◌++◌, codes, Option, Some, None, [], flat_map}
+use Rattle.std.specs.Prelude.{ℕ, List, ◌++◌, codes, Option, Some, None, [], flat_map, bytes_eq, if◌then◌else◌}
 use Rattle.kob_names.specs.declared.draft.Draft.{Draft}
 use Rattle.kob_names.specs.declared.filter.BindingFilter.{BindingFilter}
 use Rattle.kob_names.specs.declared.filter.FilterPattern.{FilterPattern}
@@ -51,6 +51,10 @@ pattern_text patterns.Matching = codes " match"
 pattern_text patterns.Literal = codes " LITERAL"
 pattern_text patterns.Prefixed = codes " PREFIXED"
 
+-- a text of a filter after a space; the text `-` has an escape, since the word `-` stands for any
+abbrev pub asked_text : List ℕ → List ℕ
+asked_text text = if bytes_eq text (codes "-") then codes " %2d" else spaced text
+
 -- a part of a filter, `-` where any is meant
 abbrev pub or_dash : {A : Type 0} → (A → List ℕ) → Option A → List ℕ
 or_dash text None = codes " -"
@@ -67,12 +71,12 @@ permission_text permission = or_dash (λ it. worded (permission_name it)) permis
 
 -- RESOURCE NAME PATTERN
 abbrev pub asked_target : BindingFilter → List ℕ
-asked_target f = resource_text f.resource ++ or_dash spaced f.name ++ pattern_text f.pattern
+asked_target f = resource_text f.resource ++ or_dash asked_text f.name ++ pattern_text f.pattern
 
 -- PRINCIPAL HOST OPERATION PERMISSION
 abbrev pub asked_grant : BindingFilter → List ℕ
 asked_grant f =
-    or_dash spaced f.principal ++ or_dash spaced f.host ++ operation_text f.operation
+    or_dash spaced f.principal ++ or_dash asked_text f.host ++ operation_text f.operation
     ++ permission_text f.permission
 
 abbrev pub filter_text : BindingFilter → List ℕ

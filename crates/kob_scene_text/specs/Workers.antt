@@ -58,11 +58,12 @@ is_keyword name =
 abbrev pub is_name_byte : ℕ → Bool
 is_name_byte byte = is_ascii_alphanumeric byte || byte == 45 || byte == 95
 
--- 1 to 64 of them, and no keyword
+-- 1 to 64 of them, no keyword, and not `-`, by which the journal names whom a scene's own requests
+-- are from
 abbrev pub is_name : List ℕ → Bool
 is_name name =
     not (length name == 0) && nat_le (length name) 64 && not (is_keyword name)
-    && list_all is_name_byte name
+    && not (bytes_eq name (codes "-")) && list_all is_name_byte name
 
 -- a name that is declared now
 abbrev pub new_name : List Service → List Consumer → Word → Result (List ℕ) SceneFaultKind

@@ -14,7 +14,7 @@ pub enum SceneFaultKind {
     Script(FaultKind),
     #[error("unknown worker")]
     UnknownWorker,
-    #[error("invalid worker name: 1 to 64 letters, digits, `-` and `_`, and no keyword")]
+    #[error("invalid worker name: 1 to 64 letters, digits, `-` and `_`, neither `-` nor a keyword")]
     BadWorkerName,
     #[error("duplicate worker name")]
     NameTaken,

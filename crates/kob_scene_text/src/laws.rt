@@ -5,12 +5,22 @@ ghost use Rattle.kob_script.specs.declared.fault.Fault.{Fault};
 ghost use Rattle.kob_script.specs.declared.script.Script.{Script};
 ghost use Rattle.kob_script.specs.Script.{ReadsAs as ReadsAsScript};
 ghost use Rattle.kob_scene_text.specs.Scenes.{ReadsAs, HasNoWorkerLine, as_scene};
+ghost use Rattle.kob_rights.specs.declared.event.Event.{Event};
+ghost use Rattle.kob_scene_text.specs.Rereading.{IsLine, ReadsBack};
 
 /// What a text without lines of workers may be read as by `kob_script`, a script or its first fault,
 /// it may be read as by `read_scene`.
 pub fn scripts_are_scenes()
     ensures { (text : List ℕ) (read : Result Script Fault)
         → HasNoWorkerLine text → ReadsAsScript text read → ReadsAs text (as_scene read) }
+{
+    // By the definitions.
+}
+
+/// What the journal prints of an event that a script can write is read back as that event, and as
+/// nothing else: the line has neither the entry's place and worker before it nor its outcome behind.
+pub fn entries_read_back()
+    ensures { (event : Event) → IsLine event → ReadsBack event }
 {
     // By the definitions.
 }

@@ -21,7 +21,7 @@ mod word_faults;
 mod workers_before;
 
 pub use fault::{SceneError, SceneFault, SceneFaultKind};
-pub use laws::scripts_are_scenes;
+pub use laws::{entries_read_back, scripts_are_scenes};
 pub use place::fault_place;
 pub use printed_fault::print_scene_fault;
 pub use printed_request::print_entry;

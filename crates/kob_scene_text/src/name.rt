@@ -1,6 +1,6 @@
 //! Names of workers, the words that cannot be names, and who works under a name.
 
-ghost use Rattle.std.specs.Prelude.{◌≡◌};
+ghost use Rattle.std.specs.Prelude.{◌≡◌, bytes_eq, codes};
 ghost use Rattle.kob_script.specs.Words.{Gives as ScriptGives};
 ghost use Rattle.kob_scene_text.specs.Workers.{consumer_named, is_keyword, is_name, is_name_byte};
 ghost use Rattle.kob_scene_text.specs.Workers.{new_name, service_named, who_of, worker_named};
@@ -85,10 +85,21 @@ fn has_name_bytes(name: &[u8]) -> bool
     name.iter().all(|byte| is_name_byte(*byte))
 }
 
+/// The journal names by `-` whom a scene's own requests are from, so that no worker has that name.
+fn is_dash(name: &[u8]) -> bool
+    ensures { result ≡ bytes_eq name.now (codes "-") }
+{
+    name == b"-".as_slice()
+}
+
 pub(crate) fn is_name(name: &[u8]) -> bool
     ensures { result ≡ is_name name.now }
 {
-    !name.is_empty() && name.len() <= 64 && !is_keyword(name) && has_name_bytes(name)
+    !name.is_empty()
+        && name.len() <= 64
+        && !is_keyword(name)
+        && !is_dash(name)
+        && has_name_bytes(name)
 }
 
 /// A name that is declared now. `BadWorkerName` comes before `NameTaken`.

@@ -1,8 +1,9 @@
 //! How the bindings of a creation and the filters of bindings are printed.
 
 ghost use Rattle.std.specs.Prelude.{◌≡◌, ◌++◌, OnOk, flat_map};
-ghost use Rattle.kob_scene_text.specs.PrintedRequest.{asked_grant, asked_target, draft_text};
-ghost use Rattle.kob_scene_text.specs.PrintedRequest.{filter_text, grant_text, operation_text};
+ghost use Rattle.kob_scene_text.specs.PrintedRequest.{asked_grant, asked_target, asked_text};
+ghost use Rattle.kob_scene_text.specs.PrintedRequest.{draft_text, filter_text, grant_text};
+ghost use Rattle.kob_scene_text.specs.PrintedRequest.{operation_text};
 ghost use Rattle.kob_scene_text.specs.PrintedRequest.{or_dash, pattern_text, permission_text};
 ghost use Rattle.kob_scene_text.specs.PrintedRequest.{resource_text, target_text, worded};
 ghost use Rattle.kob_scene_text.specs.PrintedRows.{spaced};
@@ -89,11 +90,24 @@ fn push_asked_grant(out: &mut Vec<u8>, filter: &BindingFilter) -> Result<(), All
 
 #[tactic(auto, using(kob_words::proofs::Appending::appending))]
 fn push_text(out: &mut Vec<u8>, text: &Option<Text>) -> Result<(), AllocError>
-    ensures { OnOk result (out.new.items ≡ out.old.items ++ or_dash spaced text.now) }
+    ensures { OnOk result (out.new.items ≡ out.old.items ++ or_dash asked_text text.now) }
 {
     match text {
         None => out.extend_from_slice(b" -"),
-        Some(text) => push_spaced(out, text.as_str().as_bytes()),
+        Some(text) => push_asked_text(out, text.as_str()),
+    }
+}
+
+/// A text of a filter after a space. The text `-` is printed with an escape, since the word `-`
+/// stands for any.
+#[tactic(auto, using(kob_words::proofs::Appending::appending))]
+fn push_asked_text(out: &mut Vec<u8>, text: &str) -> Result<(), AllocError>
+    ensures { OnOk result (out.new.items ≡ out.old.items ++ asked_text text.now) }
+{
+    if text == "-" {
+        out.extend_from_slice(b" %2d")
+    } else {
+        push_spaced(out, text.as_bytes())
     }
 }
 
@@ -109,11 +123,11 @@ fn push_principal(out: &mut Vec<u8>, principal: &Option<Principal>) -> Result<()
 
 #[tactic(auto, using(kob_words::proofs::Appending::appending))]
 fn push_host(out: &mut Vec<u8>, host: &Option<Host>) -> Result<(), AllocError>
-    ensures { OnOk result (out.new.items ≡ out.old.items ++ or_dash spaced host.now) }
+    ensures { OnOk result (out.new.items ≡ out.old.items ++ or_dash asked_text host.now) }
 {
     match host {
         None => out.extend_from_slice(b" -"),
-        Some(host) => push_spaced(out, host.as_str().as_bytes()),
+        Some(host) => push_asked_text(out, host.as_str()),
     }
 }
 
