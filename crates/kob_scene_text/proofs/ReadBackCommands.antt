@@ -39,7 +39,7 @@ pub no_fault : {A : Type 0} (read : Result A FaultKind) (x : A) → read ≡ Ok 
 no_fault read x is = ap result_err is
 
 pub name_read : (name : List ℕ) → IsName name → text_of (text_word name) ≡ Ok name
-name_read name is = text_read (text_word name) is.is
+name_read name is = text_read (text_word name) is.utf8
 
 -- commands without words
 

@@ -13,6 +13,7 @@ use Rattle.kob_scene_text.proofs.ReadBackBindings.{IsKnown, operation_known, per
 use Rattle.kob_scene_text.proofs.ReadBackCommands.{fine, no_fault}
 use Rattle.kob_scene_text.proofs.ReadBackEvents.{IsAsked, begins}
 use Rattle.kob_scene_text.proofs.ReadBackLine.{AreWords, IsWord, line_of}
+use Rattle.kob_scene_text.proofs.ReadBackTexts.{utf8_bytes}
 use Rattle.kob_scene_text.proofs.ReadBackWords.{host_read, host_some, plain_is_word, plain_word, principal_is_word, principal_read, text_is_word, text_read, text_word}
 use Rattle.kob_scene_text.specs.PrintedRequest.{asked_text, filter_text, operation_text, or_dash, pattern_text, permission_text, resource_text, worded}
 use Rattle.kob_scene_text.specs.PrintedRows.{spaced}
@@ -120,15 +121,15 @@ name_text_part : (name : Option (List ℕ)) → IfGiven IsName name
     → IsPart (or_dash asked_text name) (text_word_of name) slot.Text (text_of (text_word_of name)) name
 name_text_part None is = no_part slot.Text _
 name_text_part (Some name) is =
-    let read = text_read (asked_word name) is.is in
-    text_part name is.is.bytes is.some slot.Text (text_of (asked_word name)) name (ap result_err read) read
+    let read = text_read (asked_word name) is.utf8 in
+    text_part name (utf8_bytes name is.utf8) is.some slot.Text (text_of (asked_word name)) name (ap result_err read) read
 
 host_part : (host : Option (List ℕ)) → IfGiven IsHost host
     → IsPart (or_dash asked_text host) (text_word_of host) slot.Host (named_host (text_word_of host)) host
 host_part None is = no_part slot.Host _
 host_part (Some host) is =
     let read = host_read (asked_word host) is in
-    text_part host is.is.bytes (host_some host is.valid) slot.Host (named_host (asked_word host)) host (ap result_err read) read
+    text_part host (utf8_bytes host is.utf8) (host_some host is.valid) slot.Host (named_host (asked_word host)) host (ap result_err read) read
 
 abbrev principal_word_of : Option (List ℕ) → Word
 principal_word_of None = plain_word (codes "-")

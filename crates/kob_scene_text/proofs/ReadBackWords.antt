@@ -10,7 +10,8 @@ use Rattle.std.specs.List.{list_all}
 use Rattle.std.specs.Str.{all_ascii_digits, is_utf8}
 use Rattle.kob_names.specs.TextRules.{host_fault, principal_fault}
 use Rattle.kob_scene_text.proofs.ReadBackLine.{IsWord, no_blank}
-use Rattle.kob_scene_text.specs.Rereading.{AreBytes, IsHost, IsName, IsNumber, IsPrincipal, IsText}
+use Rattle.kob_scene_text.proofs.ReadBackTexts.{utf8_bytes}
+use Rattle.kob_scene_text.specs.Rereading.{AreBytes, IsHost, IsName, IsNumber, IsPrincipal}
 use Rattle.kob_script.specs.Words.{host_of, named_host, named_principal, number_of, principal_of, text_of}
 use Rattle.kob_script.specs.declared.fault.FaultKind.{FaultKind}
 use Rattle.kob_script.specs.declared.fault.FaultKind.TheVariants.{BadNumber, BadText}
@@ -61,13 +62,13 @@ text_is_word text bytes some =
     record { some = bytes_some text some; whole = bytes_letters text; stands = bytes_read_back text bytes }
 
 pub name_is_word : (text : List ℕ) → IsName text → IsWord (text_word text)
-name_is_word text is = text_is_word text is.is.bytes is.some
+name_is_word text is = text_is_word text (utf8_bytes text is.utf8) is.some
 
 -- what a word for a text reads as
 
-pub text_read : (word : Word) → IsText word.decoded → text_of word ≡ Ok word.decoded
+pub text_read : (word : Word) → is_utf8 word.decoded ≡ true → text_of word ≡ Ok word.decoded
 text_read word is =
-    chosen_true {A = Result (List ℕ) FaultKind} (is_utf8 word.decoded) (Ok word.decoded) (Err BadText) is.utf8
+    chosen_true {A = Result (List ℕ) FaultKind} (is_utf8 word.decoded) (Ok word.decoded) (Err BadText) is
 
 principal_known : (text : List ℕ) → principal_fault text ≡ None → principal_of text ≡ Ok text
 unfolding principal_of
@@ -78,24 +79,24 @@ unfolding host_of
 host_known text valid = rw valid refl
 
 pub principal_read : (word : Word) → IsPrincipal word.decoded → named_principal word ≡ Ok word.decoded
-principal_read word is = ap (λ read. read >>= principal_of) (text_read word is.is) ∙ principal_known word.decoded is.valid
+principal_read word is = ap (λ read. read >>= principal_of) (text_read word is.utf8) ∙ principal_known word.decoded is.valid
 
 pub host_read : (word : Word) → IsHost word.decoded → named_host word ≡ Ok word.decoded
-host_read word is = ap (λ read. read >>= host_of) (text_read word is.is) ∙ host_known word.decoded is.valid
+host_read word is = ap (λ read. read >>= host_of) (text_read word is.utf8) ∙ host_known word.decoded is.valid
 
 pub host_some : (text : List ℕ) → host_fault text ≡ None → 0 < length text
 host_some [] valid = absurd cc
 host_some (byte ∷ text) valid = omega arith
 
 pub host_is_word : (text : List ℕ) → IsHost text → IsWord (text_word text)
-host_is_word text is = text_is_word text is.is.bytes (host_some text is.valid)
+host_is_word text is = text_is_word text (utf8_bytes text is.utf8) (host_some text is.valid)
 
 principal_some : (text : List ℕ) → principal_fault text ≡ None → 0 < length text
 principal_some [] valid = absurd cc
 principal_some (byte ∷ text) valid = omega arith
 
 pub principal_is_word : (text : List ℕ) → IsPrincipal text → IsWord (text_word text)
-principal_is_word text is = text_is_word text is.is.bytes (principal_some text is.valid)
+principal_is_word text is = text_is_word text (utf8_bytes text is.utf8) (principal_some text is.valid)
 
 -- numbers
 

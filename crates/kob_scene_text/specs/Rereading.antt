@@ -1,6 +1,7 @@
 -- Which events a script can write, so that what a journal prints of one is read back as that event.
--- Headers of records aren't printed. A script has no line for a creation of several bindings or of
--- none but `acl`, whose options name no single binding, and no word for a text without a byte.
+-- Not among them are a batch with headers, which aren't printed; a creation of several bindings or
+-- of none, whose printed form no line has (an `acl` line asks for several by its options); and a
+-- name without a byte, since each word has one.
 use Rattle.std.specs.Prelude.{◌≡◌, ◌⊎◌, ◌<◌, ◌^◌, ℕ, List, [], ◌∷◌, Option, None, Some, Ok, length, nat_lt, true, is_some}
 use Rattle.std.specs.List.{AllByRecursion, list_all}
 use Rattle.std.specs.Str.{is_utf8}
@@ -31,21 +32,17 @@ AreBytes bytes = list_all (λ byte. nat_lt byte 256) bytes ≡ true
 abbrev pub IsNumber : ℕ → Type 0
 IsNumber number = number < 2 ^ 64
 
--- a text in UTF-8; a word for it needs a byte
-pub record IsText (text : List ℕ) : Type 0 where
-  pub bytes : AreBytes text
-  pub utf8 : is_utf8 text ≡ true
-
+-- names in UTF-8: a word has a byte, and a text that is a principal or a host has one
 pub record IsName (text : List ℕ) : Type 0 where
-  pub is : IsText text
+  pub utf8 : is_utf8 text ≡ true
   pub some : 0 < length text
 
 pub record IsPrincipal (text : List ℕ) : Type 0 where
-  pub is : IsText text
+  pub utf8 : is_utf8 text ≡ true
   pub valid : principal_fault text ≡ None
 
 pub record IsHost (text : List ℕ) : Type 0 where
-  pub is : IsText text
+  pub utf8 : is_utf8 text ≡ true
   pub valid : host_fault text ≡ None
 
 -- what holds of a part that is there

@@ -17,8 +17,8 @@ pub fn scripts_are_scenes()
     // By the definitions.
 }
 
-/// What the journal prints of an event that a script can write is read back as that event, and as
-/// nothing else: the line has neither the entry's place and worker before it nor its outcome behind.
+/// What an entry of a journal prints between its worker and its outcome is, as a line of a script,
+/// read as the entry's event and as nothing else, if a script can write that event.
 pub fn entries_read_back()
     ensures { (event : Event) → IsLine event → ReadsBack event }
 {
