@@ -136,7 +136,8 @@ hexadecimal digits stand for a byte. A line that begins with # is a comment.
     create-acl PERMISSION PRINCIPAL HOST OPERATION RESOURCE PATTERN NAME
     describe-acls or delete-acls RESOURCE NAME PATTERN PRINCIPAL HOST OPERATION PERMISSION
     acl OPTION ..                           with the options of kafka-acls
-  service NAME PRINCIPAL HOST partitions N [by COLUMN] [replacement TEXT] [placement TEXT]
+  service NAME PRINCIPAL HOST partitions N [retries new|deletes first|not idempotent]
+          [by COLUMN] [replacement TEXT] [placement TEXT]
     NAME record ID AGGREGATETYPE AGGREGATEID TYPE PAYLOAD KIND KEY STATE    NAME business KIND KEY
     NAME tick [lose-request|lose-reply]     NAME run    NAME restart    NAME sweep    NAME outbox
   consumer NAME PRINCIPAL HOST group GROUP max N [start latest] reads TOPIC:PARTITION ..

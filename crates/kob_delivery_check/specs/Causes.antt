@@ -7,7 +7,7 @@ use Rattle.kob_delivery_check.specs.Journaled.{log_by}
 use Rattle.kob_delivery_check.specs.Logs.{Log, is_on, number_of}
 use Rattle.kob_delivery_check.specs.Sent.{is_number, sent_at}
 use Rattle.kob_delivery_check.specs.declared.cause.Cause.{Cause}
-use Rattle.kob_delivery_check.specs.declared.cause.Cause.TheVariants.{Unknown, Unread, OutOfReach}
+use Rattle.kob_delivery_check.specs.declared.cause.Cause.TheVariants.{Unknown, Unsent, Unread, OutOfReach}
 use Rattle.kob_delivery_check.specs.declared.cause.Loss.{Loss}
 use Rattle.kob_delivery_check.specs.declared.fate.Fate.{Fate}
 use Rattle.kob_inbox.specs.declared.fetcher.Subscription.{Subscription}
@@ -84,7 +84,7 @@ cause_by reader journal event sent (Some entry) =
     cause_to reader journal event sent (assigned_to reader.assignment entry.event.request)
 
 abbrev pub cause_sent : Subscription → List Entry → ℕ → Option ℕ → Cause
-cause_sent reader journal event None = Unknown
+cause_sent reader journal event None = Unsent
 cause_sent reader journal event (Some sent) =
     cause_by reader journal event sent (slice_get journal sent)
 

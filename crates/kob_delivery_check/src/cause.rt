@@ -26,6 +26,8 @@ use std::alloc::{AllocError, Global};
 pub enum Cause {
     /// No entry of the journal sent it to where its record would be.
     Unknown,
+    /// No entry of the journal sent it at all.
+    Unsent,
     /// This entry sent it to a partition that the consumer does not read.
     Unread {
         sent: usize,
@@ -141,7 +143,7 @@ fn cause_of(
     ensures { IfOk result (λ cause. cause ≡ cause_of reader.now journal.now event) }
 {
     match sent_at(journal, event) {
-        None => Ok(Cause::Unknown),
+        None => Ok(Cause::Unsent),
         Some(sent) => cause_by(alloc, reader, journal, event, sent, journal.get(sent)),
     }
 }

@@ -129,6 +129,7 @@ fn push_cause(
 {
     match cause {
         Cause::Unknown => Ok(()),
+        Cause::Unsent => out.extend_from_slice(b", no entry sent it"),
         Cause::Unread { sent } => push_unread_at(out, journal.get(sent)),
         Cause::OutOfReach {
             assigned,

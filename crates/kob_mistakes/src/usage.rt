@@ -55,7 +55,7 @@ static LINES: [(&str, &str); 8] = [
     ("everyone", "everyone on|off"),
     (
         "service",
-        "service NAME PRINCIPAL HOST partitions N [by COLUMN] [replacement TEXT] [placement TEXT]",
+        "service NAME PRINCIPAL HOST partitions N [retries new|deletes first|not idempotent] [by COLUMN] [replacement TEXT] [placement TEXT]",
     ),
     (
         "consumer",
@@ -140,8 +140,14 @@ static WORDS: [&str; 50] = [
 ];
 
 /// The words of declarations and steps behind their first two.
-static PARTS: [&str; 15] = [
+static PARTS: [&str; 21] = [
     "partitions",
+    "retries",
+    "new",
+    "deletes",
+    "first",
+    "not",
+    "idempotent",
     "by",
     "replacement",
     "placement",

@@ -7,6 +7,7 @@ pub mod Listed
 pub mod Places
 pub mod Played
 pub mod Running
+pub mod Services
 pub mod Ticking
 mod Words
 pub mod Written

@@ -1,5 +1,5 @@
 -- Ticks over a line of their own.
-use Rattle.kob_scene_play.proofs.Words.{ArePassedOn, AreServed, Call, Consumer, IsOwnTick, IsJournaled, IsSameConsumer, IsSameService, IsServiceTick, Journals, List, LosesFirst, Loss, PassesCallsOn, Record, Served, Service, Ticks, [], inl, inr, point_of, served_in, subst, sym, ℕ, map, ◌++◌, ◌∙◌, ◌∷◌, ◌≡◌, ap, Err, IfOk, IsConsumerTick, None, Ok, Option, Result, Some}
+use Rattle.kob_scene_play.proofs.Words.{ArePassedOn, AreServed, Call, Consumer, IsOwnTick, IsJournaled, IsSameConsumer, IsSameService, IsRouterTick, Journals, List, LosesFirst, Loss, PassesCallsOn, Record, Served, Service, Ticks, [], inl, inr, point_of, served_in, subst, sym, ℕ, map, ◌++◌, ◌∙◌, ◌∷◌, ◌≡◌, ap, Err, IfOk, IsConsumerTick, None, Ok, Option, Result, Some}
 use Rattle.kob_inbox.specs.declared.tick.Tick.{Tick as ConsumerAnswer}
 use Rattle.kob_rights.specs.declared.event.Event.{Event}
 use Rattle.kob_router.specs.Run.{dispatch_of}
@@ -55,15 +55,15 @@ journaled_below worker own_worker principal own_principal host own_host calls th
           passes.are_passed (subst (λ made_calls. AreServed made_calls served) passed journals.journaled.served));
     }
 
--- a tick over a line that had made no call is one of the service
-pub service_ticked : (loss : Loss) (old new : Service) (tick : ServiceAnswer) (before now : List Call) (unmade then_unmade : ℕ)
+-- a tick over a line that had made no call is one of the service's router
+pub service_ticked : (sent : List Call → List Call) (loss : Loss) (old new : Service) (tick : ServiceAnswer) (before now : List Call) (unmade then_unmade : ℕ)
     (recorded then_recorded : Record) → LosesFirst loss now → IsSameService old new → new.recorded ≡ old.recorded
-    → before ≡ [] → unmade ≡ 0 → IsJournaled old.worker old.principal old.host now recorded then_recorded
+    → before ≡ [] → unmade ≡ 0 → IsJournaled old.worker old.principal old.host (sent now) recorded then_recorded
     → router_ticks.Ticks router_ticks.IsOneTick (dispatch_of old.sender.target)
     (router_ticks.point_of old.sender old.outbox before unmade)
     (router_ticks.point_of new.sender new.outbox now then_unmade) tick
-    → IsServiceTick loss old new recorded then_recorded tick
-service_ticked loss old new tick before now unmade then_unmade recorded then_recorded lost same events none all journaled ticks =
+    → IsRouterTick sent loss old new recorded then_recorded tick
+service_ticked sent loss old new tick before now unmade then_unmade recorded then_recorded lost same events none all journaled ticks =
     let Begun : List Call → ℕ → Type 0 =
     λ calls count. router_ticks.Ticks router_ticks.IsOneTick (dispatch_of old.sender.target)
     (router_ticks.point_of old.sender old.outbox calls count)

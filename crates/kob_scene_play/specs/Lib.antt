@@ -7,5 +7,6 @@ pub mod Json
 pub mod Laws
 pub mod Needs
 pub mod Scenes
+pub mod Services
 pub mod Stages
 pub mod Steps

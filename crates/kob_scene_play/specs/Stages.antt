@@ -38,6 +38,7 @@ declared_service declared = record {
         worker = declared.worker;
         principal = declared.principal;
         host = declared.host;
+        sending = declared.sending;
         sender = record { target = declared.routed; producer = None; sequences = []; hand = None };
         outbox = empty;
         recorded = [];

@@ -8,10 +8,8 @@ use Rattle.kob_inbox.specs.declared.fetcher.Fetcher.{Fetcher}
 use Rattle.kob_inbox.specs.declared.tick.Tick.{Tick as ConsumerAnswer}
 use Rattle.kob_lines.specs.Calls.{IsJournaled}
 use Rattle.kob_lines.specs.declared.lossy.Loss.{Loss}
-use Rattle.kob_outbox.specs.Contents.{Contents as OutboxContents, id_text, stored_row, first_bad, first_after, state_at, up_to, is_recorded, next_seq}
-use Rattle.kob_router.specs.Run.{dispatch_of}
+use Rattle.kob_outbox.specs.Contents.{id_text, stored_row, first_bad, first_after, state_at, up_to, is_recorded, next_seq}
 use Rattle.kob_router.specs.declared.line.Call.{Call}
-use Rattle.kob_router.specs.declared.sender.Sender.{Sender}
 use Rattle.kob_router.specs.declared.tick.Tick.{Tick as RouterAnswer}
 use Rattle.std.specs.Fmt.{decimal}
 use Rattle.std.specs.List.{enumerate_from}
@@ -29,6 +27,7 @@ use Rattle.kob_scene_text.specs.declared.scene.Start.{Start}
 use Rattle.kob_shared.specs.Journals.{Record}
 use Rattle.kob_rights.specs.declared.event.Event.{Event}
 use Rattle.kob_scene_play.specs.Begins.{IsBegun, start_event}
+pub use Rattle.kob_scene_play.specs.Services.{Does, IsRouterTick, IsSameService, IsServiceTick, LosesFirst, Service, recorded_after, service_state}
 use Rattle.kob_scene_play.specs.Forms.{last_needs}
 use Rattle.kob_scene_play.specs.Needs.{behind}
 use Rattle.kob_inbox.specs.Run as consuming
@@ -36,7 +35,6 @@ use Rattle.kob_inbox.specs.Tick as consumer_ticks
 use Rattle.kob_inbox.specs.declared.tick.Tick.TheVariants as readings
 use Rattle.kob_lines.specs.declared.lossy.Loss.TheVariants as losses
 use Rattle.kob_router.specs.Run as routing
-use Rattle.kob_router.specs.Tick as router_ticks
 use Rattle.kob_outbox.specs.declared.fault.RecordFault.TheVariants as faults
 use Rattle.kob_router.specs.declared.tick.Tick.TheVariants as answers
 use Rattle.kob_scene_play.specs.declared.consumer_steps.Left.TheVariants as left
@@ -59,60 +57,6 @@ Writes before held now then_held text =
     (written : List ℕ) × (held ++ text ≡ written ++ then_held) × Appends before now written
 
 -- Workers of a scene, and what their steps do.
-
--- where a message of the first call is lost, no reply to it is heard
-abbrev pub LosesFirst : Loss → List Call → Type 0
-LosesFirst loss [] = Unit {0}
-LosesFirst losses.None (call ∷ calls) = Unit {0}
-LosesFirst losses.BeforeServe (call ∷ calls) = call.heard ≡ None
-LosesFirst losses.AfterServe (call ∷ calls) = call.heard ≡ None
-
--- a service: its number in the journal, who it is, its router, its outbox, and the events that it
--- recorded, swept ones included
-pub record Service : Type 0 where
-  pub worker : ℕ
-  pub principal : List ℕ
-  pub host : List ℕ
-  pub sender : Sender
-  pub outbox : OutboxContents
-  pub recorded : List OutboxEvent
-
-abbrev pub service_state : Service → routing.State
-service_state service = router_ticks.state_of service.sender service.outbox
-
--- its number, who it is and how it routes stay
-pub record IsSameService (old new : Service) : Type 0 where
-  pub worker : new.worker ≡ old.worker
-  pub principal : new.principal ≡ old.principal
-  pub host : new.host ≡ old.host
-  pub target : new.sender.target ≡ old.sender.target
-
--- the events that were recorded, after a move
-abbrev pub recorded_after : routing.Move → List OutboxEvent → List OutboxEvent
-recorded_after (routing.Move.Recorded change event) events = events ++ event ∷ []
-recorded_after move events = events
-
--- a move of a router's run that may be made, and that is
-pub record Does (move : routing.Move) (old new : Service) : Type 0 where
-  pub same : IsSameService old new
-  pub recorded : new.recorded ≡ recorded_after move old.recorded
-  pub may : routing.May (dispatch_of old.sender.target) (service_state old) move
-  pub done : service_state new ≡ routing.after (service_state old) move
-
--- the moves of one tick of its router, over a line of its own that loses the first call so; its
--- calls that were served are the journal's new entries
-pub record IsServiceTick (loss : Loss) (old new : Service) (before after : Record)
-    (tick : RouterAnswer) : Type 0 where
-  pub same : IsSameService old new
-  pub recorded : new.recorded ≡ old.recorded
-  pub calls : List Call
-  pub lost : LosesFirst loss calls
-  pub journaled : IsJournaled old.worker old.principal old.host calls before after
-  pub unmade : ℕ
-  pub ticks :
-      router_ticks.Ticks router_ticks.IsOneTick (dispatch_of old.sender.target)
-      (router_ticks.point_of old.sender old.outbox [] 0)
-      (router_ticks.point_of new.sender new.outbox calls unmade) tick
 
 -- a consumer: its number in the journal, who it is, where it begins on a partition without a commit,
 -- how far it has come, and its inbox

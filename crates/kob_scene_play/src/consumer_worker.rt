@@ -175,7 +175,7 @@ impl ConsumerWorker {
         let calls = Calls::new(alloc);
         let mut line = Lossy { line, loss, calls };
         let tick = take_over(&mut self.consumer, alloc, &mut self.inbox, &mut line);
-        let fault = stopped_by(&tick).or(line_fault(&line));
+        let fault = stopped_by(&tick).or(line_fault(line.calls.fault, line.line.calls.fault));
         let is_lost = loses_first(loss, &line.calls.made);
         let Lossy {
             line,

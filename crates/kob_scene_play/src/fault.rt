@@ -4,7 +4,7 @@ ghost use Rattle.std.specs.Prelude.{◌≡◌, IfOk, IsTrue, OnOk, true};
 ghost use Rattle.kob_scene_play.specs.Steps.{LosesFirst};
 
 use kob_inbox::InboxFault;
-use kob_lines::{Loss, Lossy, RecordedLine};
+use kob_lines::Loss;
 use kob_outbox::OutboxFault;
 use kob_router::Call;
 use kob_shared::CallFault;
@@ -99,9 +99,10 @@ impl From<InboxFault> for PlayFault {
     }
 }
 
-/// Why the last call of a line has no reply, if no loss was set for it.
-pub(crate) fn line_fault(line: &Lossy<RecordedLine<'_>>) -> Option<PlayFault> {
-    match line.calls.fault.or(line.line.calls.fault) {
+/// Why the last call of a line has no reply, if no loss was set for it, by what it says itself and
+/// what the line below it says.
+pub(crate) fn line_fault(own: Option<CallFault>, below: Option<CallFault>) -> Option<PlayFault> {
+    match own.or(below) {
         Some(fault) => Some(fault.into()),
         None => None,
     }

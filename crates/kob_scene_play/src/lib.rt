@@ -2,6 +2,7 @@
 //! journal, in the order of the scene.
 #![tactic(auto)]
 
+mod bare_line;
 mod check;
 mod consumer_steps;
 mod consumer_worker;
@@ -18,6 +19,7 @@ mod page;
 mod playing;
 mod service_steps;
 mod service_worker;
+mod skip;
 mod stage;
 mod text;
 

@@ -6,25 +6,30 @@ ghost use Rattle.kob_outbox.specs.Contents.{empty, id_text, stored_row, first_ba
 ghost use Rattle.kob_outbox.specs.Contents.{first_after, state_at, up_to, is_recorded, next_seq};
 ghost use Rattle.kob_router.specs.Run.Move.{Recorded as RecordedMove, Restarted, Swept};
 ghost use Rattle.kob_scene_play.specs.Faults.{stop_of_service};
-ghost use Rattle.kob_scene_play.specs.Steps.{Does, IsServiceTick};
+ghost use Rattle.kob_scene_play.specs.Services.{Does, GivesUp, GoesOn, IsRouterTick, IsServiceTick};
+ghost use Rattle.kob_scene_play.specs.Services.{Skips, StartsAgain, sent_bare, sent_by, sent_whole};
 
+use crate::bare_line::BareLine;
 use crate::fault::{PlayFault, line_fault, loses_first, unless};
-use crate::line::send_over;
+use crate::line::{send_bare_over, send_over};
+use crate::skip::skip_first;
 use kob_lines::{Calls, Loss, Lossy, RecordedLine};
 use kob_names::{Host, PlainValue, Principal};
 use kob_outbox::{Change, Outbox, OutboxEvent, OutboxFault, RecordFault, Row};
 use kob_router::{Router, StopReason, Target, Tick};
+use kob_scene_text::Sending;
 use kob_shared::Recorded;
 use std::alloc::Global;
 use std::marker::Model;
 
-/// A service: its number in the journal, who it is, its router and its outbox, and the events of
-/// its scene that it recorded.
+/// A service: its number in the journal, who it is, how it sends, its router and its outbox, and
+/// the events of its scene that it recorded.
 #[derive(Drop)]
 pub struct ServiceWorker<'s> {
     worker: usize,
     principal: Principal,
     host: Host,
+    sending: Sending,
     router: Router,
     outbox: Outbox,
     recorded: Vec<&'s OutboxEvent>,
@@ -35,7 +40,7 @@ impl<'s> Model for ServiceWorker<'s> {
     ghost use Rattle.std.specs.Prelude.{map, option_map};
     ghost use Rattle.kob_outbox.specs.Contents.{contents_code};
     ghost use Rattle.kob_router.specs.Tick.{IsFirst, hand_of};
-    ghost use Rattle.kob_scene_play.specs.Steps.{Service};
+    ghost use Rattle.kob_scene_play.specs.Services.{Service};
 
     ghost Value = { Service };
 
@@ -45,6 +50,7 @@ impl<'s> Model for ServiceWorker<'s> {
       worker = w.worker;
       principal = w.principal;
       host = w.host;
+      sending = w.sending;
       sender = w.router;
       outbox = w.outbox;
       recorded = map (λ event. event.now) w.recorded.items;
@@ -60,6 +66,7 @@ impl<'s> ServiceWorker<'s> {
         worker: usize,
         principal: Principal,
         host: Host,
+        sending: Sending,
         target: Target,
     ) -> Result<ServiceWorker<'s>, PlayFault>
         requires some { 1 ≤ target.partitions }
@@ -68,6 +75,7 @@ impl<'s> ServiceWorker<'s> {
           worker = worker;
           principal = principal;
           host = host;
+          sending = sending;
           sender = record { target = target; producer = None; sequences = []; hand = None };
           outbox = empty;
           recorded = [];
@@ -79,6 +87,7 @@ impl<'s> ServiceWorker<'s> {
             worker,
             principal,
             host,
+            sending,
             router: Router::new(alloc, route, partitions),
             outbox,
             recorded: Vec::new(alloc),
@@ -121,8 +130,15 @@ impl<'s> ServiceWorker<'s> {
         }
     }
 
-    /// One step of the router over the broker, whose first call has this loss. Its calls get their
-    /// entries in the journal under its number, its principal and its host.
+    fn sending(&self) -> Sending
+        ensures { result ≡ self.now.sending }
+    {
+        self.sending
+    }
+
+    /// One step over the broker, whose first call has this loss. Its calls get their entries in the
+    /// journal under its number, its principal and its host. A variant then does what it does after
+    /// such a step.
     pub fn tick(
         &mut self,
         alloc: Global,
@@ -131,13 +147,53 @@ impl<'s> ServiceWorker<'s> {
     ) -> Result<Tick, PlayFault>
         ensures { IfOk result (IsServiceTick loss self.old self.new recorded.old recorded.new) }
     {
+        let sending = self.sending();
+        let tick = self.send(alloc, recorded, sending, loss)?;
+        match self.go_on(sending, &tick) {
+            Ok(()) => Ok(tick),
+            Err(fault) => {
+                drop(tick);
+                Err(fault)
+            }
+        }
+    }
+
+    /// One step of the router.
+    fn send(
+        &mut self,
+        alloc: Global,
+        recorded: &mut Recorded,
+        sending: Sending,
+        loss: Loss,
+    ) -> Result<Tick, PlayFault>
+        ensures { IfOk result (IsRouterTick (sent_by sending) loss self.old self.new recorded.old
+            recorded.new) }
+    {
+        match sending {
+            Sending::Proved => self.send_whole(alloc, recorded, loss),
+            Sending::RetriesNew => self.send_whole(alloc, recorded, loss),
+            Sending::DeletesFirst => self.send_whole(alloc, recorded, loss),
+            Sending::NotIdempotent => self.send_bare(alloc, recorded, loss),
+        }
+    }
+
+    /// One step of the router, whose calls are served as they are.
+    fn send_whole(
+        &mut self,
+        alloc: Global,
+        recorded: &mut Recorded,
+        loss: Loss,
+    ) -> Result<Tick, PlayFault>
+        ensures { IfOk result (IsRouterTick sent_whole loss self.old self.new recorded.old
+            recorded.new) }
+    {
         let principal = self.principal.copy(alloc)?;
         let host = self.host.copy(alloc)?;
         let line = RecordedLine::open(alloc, recorded, self.worker, principal, host);
         let calls = Calls::new(alloc);
         let mut line = Lossy { line, loss, calls };
         let tick = send_over(&mut self.router, alloc, &mut self.outbox, &mut line);
-        let fault = stopped_by(&tick).or(line_fault(&line));
+        let fault = stopped_by(&tick).or(line_fault(line.calls.fault, line.line.calls.fault));
         let is_lost = loses_first(loss, &line.calls.made);
         let Lossy {
             line,
@@ -156,6 +212,100 @@ impl<'s> ServiceWorker<'s> {
         let _ = *recorded;
         let tick = unless(fault, is_lost, tick)?;
         Ok(tick)
+    }
+
+    /// One step of the router, whose calls are served without producer ids.
+    fn send_bare(
+        &mut self,
+        alloc: Global,
+        recorded: &mut Recorded,
+        loss: Loss,
+    ) -> Result<Tick, PlayFault>
+        ensures { IfOk result (IsRouterTick sent_bare loss self.old self.new recorded.old
+            recorded.new) }
+    {
+        let principal = self.principal.copy(alloc)?;
+        let host = self.host.copy(alloc)?;
+        let line = RecordedLine::open(alloc, recorded, self.worker, principal, host);
+        let between = Calls::new(alloc);
+        let line = BareLine {
+            line,
+            calls: between,
+        };
+        let calls = Calls::new(alloc);
+        let mut line = Lossy { line, loss, calls };
+        let tick = send_bare_over(&mut self.router, alloc, &mut self.outbox, &mut line);
+        let fault = stopped_by(&tick).or(line_fault(line.calls.fault, line.line.calls.fault));
+        let is_lost = loses_first(loss, &line.calls.made);
+        let Lossy {
+            line,
+            loss: _,
+            calls,
+        } = line;
+        let BareLine {
+            line,
+            calls: between,
+        } = line;
+        let RecordedLine {
+            recorded,
+            worker: _,
+            principal,
+            host,
+            calls: below,
+        } = line;
+        drop((calls, between, below));
+        drop((principal, host));
+        let _ = *recorded;
+        let tick = unless(fault, is_lost, tick)?;
+        Ok(tick)
+    }
+
+    /// What is done after a step of the router.
+    fn go_on(&mut self, sending: Sending, tick: &Tick) -> Result<(), PlayFault>
+        ensures { OnOk result (GoesOn sending tick.now self.old self.new) }
+    {
+        match sending {
+            Sending::Proved => Ok(()),
+            Sending::RetriesNew => self.start_again(tick),
+            Sending::DeletesFirst => self.give_up(tick),
+            Sending::NotIdempotent => Ok(()),
+        }
+    }
+
+    /// Restarts the router after a call that was lost.
+    fn start_again(&mut self, tick: &Tick) -> Result<(), PlayFault>
+        ensures { OnOk result (StartsAgain tick.now self.old self.new) }
+    {
+        match tick {
+            Tick::Moved(_) => Ok(()),
+            Tick::Idle => Ok(()),
+            Tick::Repeat => {
+                self.restart();
+                Ok(())
+            }
+            Tick::Stopped(_) => Ok(()),
+        }
+    }
+
+    /// Gives a row up that was not acknowledged.
+    fn give_up(&mut self, tick: &Tick) -> Result<(), PlayFault>
+        ensures { OnOk result (GivesUp tick.now self.old self.new) }
+    {
+        match tick {
+            Tick::Moved(_) => Ok(()),
+            Tick::Idle => Ok(()),
+            Tick::Repeat => self.skip(),
+            Tick::Stopped(_) => self.skip(),
+        }
+    }
+
+    /// Restarts the router, and moves the mark past the first row after it.
+    fn skip(&mut self) -> Result<(), PlayFault>
+        ensures { OnOk result (Skips self.old self.new) }
+    {
+        self.router.restart();
+        skip_first(&mut self.outbox)?;
+        Ok(())
     }
 
     /// Restarts the router. The outbox is unchanged. Does not allocate.

@@ -190,9 +190,11 @@ fn add_service<'s>(
         principal,
         host,
         routed,
+        sending,
         settings: _,
     } = service;
-    match ServiceWorker::open(alloc, worker, principal, host, routed.into_target()) {
+    let target = routed.into_target();
+    match ServiceWorker::open(alloc, worker, principal, host, sending, target) {
         Ok(service) => {
             all.push_reserved(PlayedService { name, service });
             Ok(())

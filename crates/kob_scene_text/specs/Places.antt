@@ -1,7 +1,7 @@
 -- Which word of a line has the fault that its scene has.
 use Rattle.std.specs.Prelude.{◌≡◌, ℕ, nat_eq, Bool, true, false, not, is_none, ◌&&◌, ◌||◌, List, [], ◌∷◌, Option, Some, None, codes, map, if◌then◌else◌}
 use Rattle.std.specs.List.{list_any, position}
-use Rattle.std.specs.Option.{option_map}
+use Rattle.std.specs.Option.{is_some, option_map}
 use Rattle.std.specs.Result.{result_err}
 use Rattle.std.specs.Str.{bytes_eq}
 use Rattle.kob_router.specs.declared.settings.RouteBy.TheVariants.{AggregateType}
@@ -12,7 +12,7 @@ use Rattle.kob_script.specs.declared.fault.FaultKind.{FaultKind}
 use Rattle.kob_scene_text.specs.Reading.{◌>>>◌, as_scripts, bad_line}
 use Rattle.kob_scene_text.specs.Scenes.{is_request}
 use Rattle.kob_scene_text.specs.Steps.{head_of, id_of}
-use Rattle.kob_scene_text.specs.Workers.{by_named, start_named, is_name, max_of, partitions_of, place_of, route_of}
+use Rattle.kob_scene_text.specs.Workers.{by_named, sending_of, start_named, is_name, max_of, partitions_of, place_of, route_of}
 use Rattle.kob_scene_text.specs.declared.fault.SceneFaultKind.{SceneFaultKind}
 use Rattle.kob_scene_text.specs.declared.fault.SceneFaultKind.TheVariants.{Script, UnknownWorker, BadWorkerName, NameTaken, BadPartitions, BadMax, BadRoute, BadId, NoLaw}
 use Rattle.kob_scene_text.specs.declared.forms.Keyword.{Keyword}
@@ -54,12 +54,29 @@ are_of first name _ = false
 abbrev pub is_declared : List ℕ → List (List ℕ) → List ℕ → Bool
 is_declared first lines name = list_any (λ line. are_of first name (line_words line)) lines
 
+-- two words name a variant of a service
+unfoldable pub names_variant : Word → Word → Bool
+names_variant one other = is_some (sending_of one other)
+
+-- words declare a service of this name that sends otherwise than the proved router
+abbrev pub are_of_variant_service : List ℕ → List Word → Bool
+are_of_variant_service name
+    (first ∷ own ∷ principal ∷ host ∷ keyword ∷ number ∷ one ∷ other ∷ words) =
+    bytes_eq first.decoded (codes "service") && bytes_eq own.decoded name
+    && names_variant one other
+are_of_variant_service name _ = false
+
 -- words declare a consumer of this name that begins at the end
-abbrev pub are_of_variant : List ℕ → List Word → Bool
-are_of_variant name (first ∷ own ∷ principal ∷ host ∷ group ∷ its ∷ max ∷ most ∷ keyword ∷ words) =
+abbrev pub are_of_variant_consumer : List ℕ → List Word → Bool
+are_of_variant_consumer name
+    (first ∷ own ∷ principal ∷ host ∷ group ∷ its ∷ max ∷ most ∷ keyword ∷ words) =
     bytes_eq first.decoded (codes "consumer") && bytes_eq own.decoded name
     && bytes_eq keyword.decoded (codes "start")
-are_of_variant name _ = false
+are_of_variant_consumer name _ = false
+
+-- words declare a worker of this name that is a variant
+abbrev pub are_of_variant : List ℕ → List Word → Bool
+are_of_variant name words = are_of_variant_service name words || are_of_variant_consumer name words
 
 abbrev pub is_variant : List (List ℕ) → List ℕ → Bool
 is_variant lines name = list_any (λ line. are_of_variant name (line_words line)) lines
@@ -74,6 +91,12 @@ worker_in lines name =
 
 abbrev pub keyword_text : Keyword → List ℕ
 keyword_text keyword.Partitions = codes "partitions"
+keyword_text keyword.Retries = codes "retries"
+keyword_text keyword.New = codes "new"
+keyword_text keyword.Deletes = codes "deletes"
+keyword_text keyword.First = codes "first"
+keyword_text keyword.Not = codes "not"
+keyword_text keyword.Idempotent = codes "idempotent"
 keyword_text keyword.By = codes "by"
 keyword_text keyword.Replacement = codes "replacement"
 keyword_text keyword.Placement = codes "placement"
@@ -95,13 +118,41 @@ route_words =
     ∷ After keyword.Placement slot.Placement ∷ []
 
 -- behind the name of a service
-abbrev pub service_words : List Part
-service_words =
-    One slot.Principal ∷ One slot.Host ∷ One (slot.Keyword keyword.Partitions)
-    ∷ One slot.Partitions ∷ route_words
+abbrev pub service_words : List Part → List Part
+service_words more =
+    One slot.NewName ∷ One slot.Principal ∷ One slot.Host
+    ∷ One (slot.Keyword keyword.Partitions) ∷ One slot.Partitions ∷ more
 
-abbrev pub service_form : List Part
-service_form = One slot.NewName ∷ service_words
+-- of a service with the proved router, and of each variant
+abbrev pub proved_form : List Part
+proved_form = service_words route_words
+
+abbrev pub retries_form : List Part
+retries_form =
+    service_words
+    (One (slot.Keyword keyword.Retries) ∷ One (slot.Keyword keyword.New) ∷ route_words)
+
+abbrev pub deletes_form : List Part
+deletes_form =
+    service_words
+    (One (slot.Keyword keyword.Deletes) ∷ One (slot.Keyword keyword.First) ∷ route_words)
+
+abbrev pub not_form : List Part
+not_form =
+    service_words
+    (One (slot.Keyword keyword.Not) ∷ One (slot.Keyword keyword.Idempotent) ∷ route_words)
+
+abbrev pub service_form_by : List ℕ → List Part
+service_form_by variant =
+    if bytes_eq variant (codes "retries") then retries_form
+    else (if bytes_eq variant (codes "deletes") then deletes_form
+    else (if bytes_eq variant (codes "not") then not_form else proved_form))
+
+-- of service, by the word behind the number of partitions
+abbrev pub service_form : List Word → List Part
+service_form (name ∷ principal ∷ host ∷ keyword ∷ number ∷ variant ∷ words) =
+    service_form_by variant.decoded
+service_form words = proved_form
 
 -- behind the name of a consumer
 abbrev pub consumer_words : List Part
@@ -115,7 +166,7 @@ consumer_form = One slot.NewName ∷ consumer_words
 
 -- of law
 abbrev pub law_form : List Part
-law_form = One slot.ServiceName ∷ One slot.LawConsumer ∷ []
+law_form = One slot.LawService ∷ One slot.LawConsumer ∷ []
 
 -- of check
 abbrev pub pair_form : List Part
@@ -184,11 +235,15 @@ name_fault lines name =
     if is_name name then fault_unless (is_none (worker_in lines name)) NameTaken
     else Some BadWorkerName
 
--- the name of a consumer of which the laws speak
-abbrev pub law_fault : List (List ℕ) → List ℕ → Option SceneFaultKind
-law_fault lines name =
-    if is_declared (codes "consumer") lines name
-    then fault_unless (not (is_variant lines name)) NoLaw else Some UnknownWorker
+-- the name of a worker that a line before declares by a keyword
+abbrev pub known_fault : List ℕ → List (List ℕ) → List ℕ → Option SceneFaultKind
+known_fault first lines name = fault_unless (is_declared first lines name) UnknownWorker
+
+-- and of which the laws speak
+abbrev pub law_fault : List ℕ → List (List ℕ) → List ℕ → Option SceneFaultKind
+law_fault first lines name =
+    if is_declared first lines name then fault_unless (not (is_variant lines name)) NoLaw
+    else Some UnknownWorker
 
 -- a route with this replacement, and one with this placement
 abbrev pub replacement_fault : Word → Option SceneFaultKind
@@ -205,11 +260,10 @@ placement_fault word = result_err (as_scripts (text_of word) >>> λ text. route_
 -- the fault that a word has in a slot, behind these lines
 abbrev pub slot_fault : List (List ℕ) → Slot → Word → Option SceneFaultKind
 slot_fault lines slot.NewName word = name_fault lines word.decoded
-slot_fault lines slot.ServiceName word =
-    fault_unless (is_declared (codes "service") lines word.decoded) UnknownWorker
-slot_fault lines slot.ConsumerName word =
-    fault_unless (is_declared (codes "consumer") lines word.decoded) UnknownWorker
-slot_fault lines slot.LawConsumer word = law_fault lines word.decoded
+slot_fault lines slot.ServiceName word = known_fault (codes "service") lines word.decoded
+slot_fault lines slot.ConsumerName word = known_fault (codes "consumer") lines word.decoded
+slot_fault lines slot.LawService word = law_fault (codes "service") lines word.decoded
+slot_fault lines slot.LawConsumer word = law_fault (codes "consumer") lines word.decoded
 slot_fault lines slot.Text word = script_fault (result_err (text_of word))
 slot_fault lines slot.Principal word = script_fault (result_err (named_principal word))
 slot_fault lines slot.Host word = script_fault (result_err (named_host word))
@@ -265,7 +319,7 @@ worker_faults worker (name ∷ words) = step_faults (step_form worker name.decod
 -- the faults of the words of a line that begins so, behind these lines
 abbrev pub word_faults : List (List ℕ) → Head → Word → List Word → List (Option SceneFaultKind)
 word_faults lines Setting first rest = None ∷ faults_in lines (setting_form first) rest
-word_faults lines Service first rest = None ∷ faults_in lines service_form rest
+word_faults lines Service first rest = None ∷ faults_in lines (service_form rest) rest
 word_faults lines Consumer first rest = None ∷ faults_in lines consumer_form rest
 word_faults lines Journal first rest = None ∷ faults_in lines [] rest
 word_faults lines Law first rest = None ∷ faults_in lines law_form rest

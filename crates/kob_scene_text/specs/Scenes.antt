@@ -1,5 +1,5 @@
 -- A scene: settings, workers, and steps, a line each.
-use Rattle.std.specs.Prelude.{ℕ, ◌+◌, ◌-◌, Bool, ◌&&◌, ◌==◌, List, [], ◌∷◌, ◌++◌, Option, Some, Result, Ok, Err, length, map, replicate, slice_get, if◌then◌else◌, ◌≡◌, true, false, None}
+use Rattle.std.specs.Prelude.{ℕ, ◌+◌, ◌-◌, Bool, ◌&&◌, ◌||◌, ◌==◌, List, [], ◌∷◌, ◌++◌, Option, Some, Result, Ok, Err, length, map, replicate, slice_get, if◌then◌else◌, ◌≡◌, true, false, None}
 use Rattle.kob_acl_cli.specs.declared.args.CliArgs.{CliArgs}
 use Rattle.kob_names.specs.declared.settings.Settings.{Settings}
 use Rattle.kob_rights.specs.declared.event.Event.{Event}
@@ -14,6 +14,8 @@ use Rattle.kob_scene_text.specs.declared.line.Head.{Head}
 use Rattle.kob_scene_text.specs.declared.reading.Reading.{Reading}
 use Rattle.kob_scene_text.specs.declared.scene.Consumer.{Consumer}
 use Rattle.kob_scene_text.specs.declared.scene.Scene.{Scene}
+use Rattle.kob_scene_text.specs.declared.scene.Sending.{Sending}
+use Rattle.kob_scene_text.specs.declared.scene.Sending.TheVariants as sendings
 use Rattle.kob_scene_text.specs.declared.scene.Service.{Service}
 use Rattle.kob_scene_text.specs.declared.scene.Start.{Start}
 use Rattle.kob_scene_text.specs.declared.scene.Start.TheVariants as starts
@@ -102,6 +104,7 @@ service_at number name declared = record {
   host = declared.who.host;
   settings = declared.route.settings;
   routed = declared.route.routed;
+  sending = declared.route.sending;
 }
 
 -- service NAME and its declaration
@@ -147,23 +150,44 @@ abbrev pub pair_of : Seen → List Word → Result (ℕ × ℕ) SceneFaultKind
 pair_of s (service ∷ consumer ∷ []) = pair_named s service consumer
 pair_of s _ = Err bad_line
 
+-- Variants, of which the laws of delivery do not speak.
+
 abbrev pub is_latest : Start → Bool
 is_latest starts.Earliest = false
 is_latest starts.Latest = true
 
-abbrev pub is_variant_by : Option Consumer → Bool
-is_variant_by None = false
-is_variant_by (Some consumer) = is_latest consumer.start
+abbrev pub is_variant_sending : Sending → Bool
+is_variant_sending sendings.Proved = false
+is_variant_sending sendings.RetriesNew = true
+is_variant_sending sendings.DeletesFirst = true
+is_variant_sending sendings.NotIdempotent = true
+
+abbrev pub is_variant_service : Option Service → Bool
+is_variant_service None = false
+is_variant_service (Some service) = is_variant_sending service.sending
+
+abbrev pub is_variant_consumer : Option Consumer → Bool
+is_variant_consumer None = false
+is_variant_consumer (Some consumer) = is_latest consumer.start
+
+-- the service at this place sends otherwise than the proved router
+abbrev pub is_variant_service_at : List Service → ℕ → Bool
+is_variant_service_at services place = is_variant_service (slice_get services place)
 
 -- the consumer at this place begins at the end
-abbrev pub is_variant_at : List Consumer → ℕ → Bool
-is_variant_at consumers place = is_variant_by (slice_get consumers place)
+abbrev pub is_variant_consumer_at : List Consumer → ℕ → Bool
+is_variant_consumer_at consumers place = is_variant_consumer (slice_get consumers place)
 
--- law SERVICE CONSUMER, of a consumer that does not begin at the end
+-- one of the two is a variant
+abbrev pub has_variant : List Service → ℕ → List Consumer → ℕ → Bool
+has_variant services service consumers consumer =
+    is_variant_service_at services service || is_variant_consumer_at consumers consumer
+
+-- law SERVICE CONSUMER, of which none is a variant
 abbrev pub with_law : Seen → List Word → Result Seen SceneFaultKind
 with_law s words =
     pair_of s words >>> λ pair.
-    if is_variant_at s.consumers pair.1 then Err kinds.NoLaw
+    if has_variant s.services pair.0 s.consumers pair.1 then Err kinds.NoLaw
     else Ok (with_steps s (Plain (step_forms.Law pair.0 pair.1) ∷ []))
 
 -- check SERVICE CONSUMER

@@ -11,6 +11,8 @@ use Rattle.kob_scene_text.specs.declared.fault.SceneFaultKind.TheVariants.{BadWo
 use Rattle.kob_scene_text.specs.declared.name.Who.{Who}
 use Rattle.kob_scene_text.specs.declared.name.Worker.{Worker}
 use Rattle.kob_scene_text.specs.declared.scene.Consumer.{Consumer}
+use Rattle.kob_scene_text.specs.declared.scene.Sending.{Sending}
+use Rattle.kob_scene_text.specs.declared.scene.Sending.TheVariants.{Proved, RetriesNew, DeletesFirst, NotIdempotent}
 use Rattle.kob_scene_text.specs.declared.scene.Service.{Service}
 use Rattle.kob_scene_text.specs.declared.scene.Start.{Start}
 use Rattle.kob_scene_text.specs.declared.scene.Start.TheVariants.{Earliest, Latest}
@@ -131,19 +133,42 @@ partitions_of word =
     as_scripts (number_of word) >>> λ number.
     if nat_le 1 number && nat_le number 1000 then Ok number else Err BadPartitions
 
--- so many partitions, and a route
+-- the variant that two words name
+abbrev pub sending_of : Word → Word → Option Sending
+sending_of one other =
+    if bytes_eq one.decoded (codes "retries") && bytes_eq other.decoded (codes "new")
+    then Some RetriesNew
+    else (if bytes_eq one.decoded (codes "deletes") && bytes_eq other.decoded (codes "first")
+    then Some DeletesFirst
+    else (if bytes_eq one.decoded (codes "not") && bytes_eq other.decoded (codes "idempotent")
+    then Some NotIdempotent else None))
+
+abbrev pub sending_by : Option Sending → List Word → List Word → Sending × List Word
+sending_by None all rest = (Proved, all)
+sending_by (Some sending) all rest = (sending, rest)
+
+-- a variant where the words begin with its name, else the proved router, and the words behind it
+abbrev pub sending_first : List Word → Sending × List Word
+sending_first (one ∷ other ∷ rest) = sending_by (sending_of one other) (one ∷ other ∷ rest) rest
+sending_first words = (Proved, words)
+
+-- so many partitions, how rows are sent, and a route
 abbrev pub declared_route : Word → List Word → Result DeclaredRoute SceneFaultKind
 declared_route partitions words =
-    partitions_of partitions >>> λ number. as_scripts (settings_of words) >>> λ settings.
-    route_of settings >>> λ route.
-    Ok (record { settings = settings; routed = record { route = route; partitions = number } })
+    partitions_of partitions >>> λ number.
+    as_scripts (settings_of (sending_first words).1) >>> λ settings.
+    route_of settings >>> λ route. Ok (record {
+      settings = settings;
+      routed = record { route = route; partitions = number };
+      sending = (sending_first words).0;
+    })
 
 abbrev pub service_with : Word → Word → Word → List Word → Result DeclaredService SceneFaultKind
 service_with principal host partitions words =
     as_scripts (who_of principal host) >>> λ who. declared_route partitions words >>> λ route.
     Ok (record { who = who; route = route })
 
--- PRINCIPAL HOST partitions N and the words of a route
+-- PRINCIPAL HOST partitions N, a variant or not, and the words of a route
 abbrev pub service_of : List Word → Result DeclaredService SceneFaultKind
 service_of (principal ∷ host ∷ keyword ∷ partitions ∷ words) =
     if bytes_eq keyword.decoded (codes "partitions")

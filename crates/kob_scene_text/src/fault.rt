@@ -26,7 +26,7 @@ pub enum SceneFaultKind {
     BadRoute,
     #[error("invalid UUID")]
     BadId,
-    #[error("the laws of delivery do not speak of a consumer that begins at the end")]
+    #[error("the laws of delivery do not speak of a variant")]
     NoLaw,
 }
 

@@ -4,8 +4,10 @@ ghost use Rattle.std.specs.Prelude.{◌≡◌};
 ghost use Rattle.std.specs.Option.{option_map};
 ghost use Rattle.kob_scene_text.specs.Places.{bare_form, consumer_form, consumer_step_form};
 ghost use Rattle.kob_scene_text.specs.Places.{expect_form, expect_form_by, law_form};
-ghost use Rattle.kob_scene_text.specs.Places.{keyword_text, pair_form, record_form, service_form};
-ghost use Rattle.kob_scene_text.specs.Places.{service_step_form, setting_form, step_form, tick_form};
+ghost use Rattle.kob_scene_text.specs.Places.{deletes_form, keyword_text, not_form, pair_form};
+ghost use Rattle.kob_scene_text.specs.Places.{proved_form, record_form, retries_form, service_form};
+ghost use Rattle.kob_scene_text.specs.Places.{service_form_by, service_step_form, setting_form};
+ghost use Rattle.kob_scene_text.specs.Places.{step_form, tick_form};
 
 use crate::name::Worker;
 use kob_script::{Word, is_super};
@@ -23,6 +25,8 @@ pub(crate) enum Slot {
     Text,
     Principal,
     Host,
+    /// The name of a service that a line before declares, and of which the laws speak.
+    LawService,
     /// The name of a consumer that a line before declares, and of which the laws speak.
     LawConsumer,
     /// A number from 1 on.
@@ -50,6 +54,12 @@ pub(crate) enum Slot {
 #[derive(Clone, Copy, Debug, PartialEq, Eq)]
 pub(crate) enum Keyword {
     Partitions,
+    Retries,
+    New,
+    Deletes,
+    First,
+    Not,
+    Idempotent,
     By,
     Replacement,
     Placement,
@@ -80,6 +90,12 @@ pub(crate) fn keyword_text(keyword: Keyword) -> &'static str
 {
     match keyword {
         Keyword::Partitions => "partitions",
+        Keyword::Retries => "retries",
+        Keyword::New => "new",
+        Keyword::Deletes => "deletes",
+        Keyword::First => "first",
+        Keyword::Not => "not",
+        Keyword::Idempotent => "idempotent",
         Keyword::By => "by",
         Keyword::Replacement => "replacement",
         Keyword::Placement => "placement",
@@ -105,9 +121,32 @@ pub(crate) fn setting_form(first: &Word<'_>) -> &'static [Part]
     }
 }
 
-/// The words behind `service`.
-pub(crate) fn service_form() -> &'static [Part]
-    ensures { result.now ≡ service_form }
+/// The words behind `service`, of which the sixth says whether it is a variant.
+pub(crate) fn service_form(words: &[Word<'_>]) -> &'static [Part]
+    ensures { result.now ≡ service_form words.now }
+{
+    match words {
+        [_, _, _, _, _, variant, ..] => service_form_by(variant.decoded()),
+        _ => proved_form(),
+    }
+}
+
+fn service_form_by(variant: &[u8]) -> &'static [Part]
+    ensures { result.now ≡ service_form_by variant.now }
+{
+    if variant == b"retries".as_slice() {
+        retries_form()
+    } else if variant == b"deletes".as_slice() {
+        deletes_form()
+    } else if variant == b"not".as_slice() {
+        not_form()
+    } else {
+        proved_form()
+    }
+}
+
+fn proved_form() -> &'static [Part]
+    ensures { result.now ≡ proved_form }
 {
     &[
         Part::One(Slot::NewName),
@@ -115,6 +154,57 @@ pub(crate) fn service_form() -> &'static [Part]
         Part::One(Slot::Host),
         Part::One(Slot::Keyword(Keyword::Partitions)),
         Part::One(Slot::Partitions),
+        Part::After(Keyword::By, Slot::Column),
+        Part::After(Keyword::Replacement, Slot::Replacement),
+        Part::After(Keyword::Placement, Slot::Placement),
+    ]
+}
+
+fn retries_form() -> &'static [Part]
+    ensures { result.now ≡ retries_form }
+{
+    &[
+        Part::One(Slot::NewName),
+        Part::One(Slot::Principal),
+        Part::One(Slot::Host),
+        Part::One(Slot::Keyword(Keyword::Partitions)),
+        Part::One(Slot::Partitions),
+        Part::One(Slot::Keyword(Keyword::Retries)),
+        Part::One(Slot::Keyword(Keyword::New)),
+        Part::After(Keyword::By, Slot::Column),
+        Part::After(Keyword::Replacement, Slot::Replacement),
+        Part::After(Keyword::Placement, Slot::Placement),
+    ]
+}
+
+fn deletes_form() -> &'static [Part]
+    ensures { result.now ≡ deletes_form }
+{
+    &[
+        Part::One(Slot::NewName),
+        Part::One(Slot::Principal),
+        Part::One(Slot::Host),
+        Part::One(Slot::Keyword(Keyword::Partitions)),
+        Part::One(Slot::Partitions),
+        Part::One(Slot::Keyword(Keyword::Deletes)),
+        Part::One(Slot::Keyword(Keyword::First)),
+        Part::After(Keyword::By, Slot::Column),
+        Part::After(Keyword::Replacement, Slot::Replacement),
+        Part::After(Keyword::Placement, Slot::Placement),
+    ]
+}
+
+fn not_form() -> &'static [Part]
+    ensures { result.now ≡ not_form }
+{
+    &[
+        Part::One(Slot::NewName),
+        Part::One(Slot::Principal),
+        Part::One(Slot::Host),
+        Part::One(Slot::Keyword(Keyword::Partitions)),
+        Part::One(Slot::Partitions),
+        Part::One(Slot::Keyword(Keyword::Not)),
+        Part::One(Slot::Keyword(Keyword::Idempotent)),
         Part::After(Keyword::By, Slot::Column),
         Part::After(Keyword::Replacement, Slot::Replacement),
         Part::After(Keyword::Placement, Slot::Placement),
@@ -144,7 +234,7 @@ pub(crate) fn consumer_form() -> &'static [Part]
 pub(crate) fn law_form() -> &'static [Part]
     ensures { result.now ≡ law_form }
 {
-    &[Part::One(Slot::ServiceName), Part::One(Slot::LawConsumer)]
+    &[Part::One(Slot::LawService), Part::One(Slot::LawConsumer)]
 }
 
 /// The words behind `check`.

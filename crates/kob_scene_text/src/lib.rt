@@ -17,6 +17,7 @@ mod reading;
 mod scene;
 mod service_lines;
 mod step_lines;
+mod variants;
 mod word_faults;
 mod workers_before;
 
@@ -31,5 +32,6 @@ pub use printed_tick::{
 };
 pub use reading::read_scene;
 pub use scene::{
-    Consumer, ConsumerStep, Expected, Lost, Routed, Scene, Service, ServiceStep, Start, Step,
+    Consumer, ConsumerStep, Expected, Lost, Routed, Scene, Sending, Service, ServiceStep, Start,
+    Step,
 };

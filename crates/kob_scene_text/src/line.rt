@@ -3,7 +3,7 @@
 ghost use Rattle.std.specs.Prelude.{◌≡◌, ◌++◌, map, IfOk, OnOk};
 ghost use Rattle.kob_scene_text.specs.Steps.{asks_step, head_by, head_by_word, head_named, head_of};
 ghost use Rattle.kob_scene_text.specs.Scenes.{ReadsLine, ReadsNext};
-ghost use Rattle.kob_scene_text.specs.Scenes.{asked, is_early, is_variant_at};
+ghost use Rattle.kob_scene_text.specs.Scenes.{asked, is_early};
 ghost use Rattle.kob_scene_text.specs.Scenes.{next_worker, so_far, told};
 ghost use Rattle.kob_scene_text.specs.Scenes.{consumer_at, service_at};
 ghost use Rattle.kob_scene_text.specs.Reading.{Gives};
@@ -21,6 +21,7 @@ use crate::reading::Reading;
 use crate::scene::{Consumer, Service, Step};
 use crate::service_lines::{DeclaredService, service_of};
 use crate::step_lines::{begins_step, consumer_step, expected_of, service_step};
+use crate::variants::has_variant;
 use kob_acl_cli::CliArgs;
 use kob_names::{Text, sum_of};
 use kob_rights::Event;
@@ -243,6 +244,7 @@ impl Reading {
             host: declared.who.host,
             settings: declared.route.settings,
             routed: declared.route.routed,
+            sending: declared.route.sending,
         })?;
         Ok(())
     }
@@ -301,12 +303,12 @@ impl Reading {
         }
     }
 
-    /// `law SERVICE CONSUMER`, of a consumer that does not begin at the end
+    /// `law SERVICE CONSUMER`, of which none is a variant
     fn add_law(&mut self, words: &[Word<'_>]) -> Result<(), StepError>
         ensures { ReadsNext self.new result (with_law (so_far self.old) words.now) }
     {
         let (service, consumer) = self.pair_of(words)?;
-        if is_variant_at(&self.consumers, consumer) {
+        if has_variant(&self.services, service, &self.consumers, consumer) {
             return Err(StepError::Fault(SceneFaultKind::NoLaw));
         }
         self.push_step(Step::Law { service, consumer })
@@ -393,15 +395,5 @@ impl Reading {
         let asked = events_of(alloc, words, answer)?;
         push_asked(&mut self.steps, asked)?;
         Ok(())
-    }
-}
-
-/// Whether the consumer at this place begins at the end.
-fn is_variant_at(consumers: &[Consumer], place: usize) -> bool
-    ensures { result ≡ is_variant_at consumers.now place }
-{
-    match consumers.get(place) {
-        Some(consumer) => consumer.start.is_latest(),
-        None => false,
     }
 }

@@ -143,7 +143,7 @@ fn word_faults(
 {
     match head {
         Head::Setting => faults_by(alloc, before, setting_form(first), rest),
-        Head::Service => faults_by(alloc, before, service_form(), rest),
+        Head::Service => faults_by(alloc, before, service_form(rest), rest),
         Head::Consumer => faults_by(alloc, before, consumer_form(), rest),
         Head::Journal => faults_by(alloc, before, &[], rest),
         Head::Law => faults_by(alloc, before, law_form(), rest),

@@ -71,8 +71,37 @@ impl Routed {
     }
 }
 
-/// A service: its name in the text, its worker number, who it is, and how its rows are routed, as it
-/// is set and as it is read.
+/// How a service sends its rows.
+#[derive(Clone, Copy, Debug, PartialEq, Eq)]
+pub enum Sending {
+    /// By the router as it is proved. The others are variants, of which the laws of delivery do not
+    /// speak.
+    Proved,
+    /// With a new router after each tick whose call was lost.
+    RetriesNew,
+    /// Each row once, acknowledged or not.
+    DeletesFirst,
+    /// In batches without a producer id.
+    NotIdempotent,
+}
+
+impl Sending {
+    ghost use Rattle.kob_scene_text.specs.Scenes.{is_variant_sending};
+
+    pub fn is_variant(self) -> bool
+        ensures { result ≡ is_variant_sending self }
+    {
+        match self {
+            Sending::Proved => false,
+            Sending::RetriesNew => true,
+            Sending::DeletesFirst => true,
+            Sending::NotIdempotent => true,
+        }
+    }
+}
+
+/// A service: its name in the text, its worker number, who it is, how its rows are routed, as it is
+/// set and as it is read, and how it sends them.
 #[derive(Drop)]
 pub struct Service {
     pub name: Text,
@@ -81,6 +110,7 @@ pub struct Service {
     pub host: Host,
     pub settings: RouteSettings,
     pub routed: Routed,
+    pub sending: Sending,
 }
 
 /// Where a consumer begins on a partition without a commit of its group.

@@ -1,15 +1,15 @@
 //! Lines that declare a service, after its name.
 
-ghost use Rattle.std.specs.Prelude.{◌≤◌, IfOk};
+ghost use Rattle.std.specs.Prelude.{◌≡◌, ◌≤◌, IfOk};
 ghost use Rattle.kob_script.specs.Words.{Gives as ScriptGives, GivesSeen as ScriptGivesSeen};
 ghost use Rattle.kob_scene_text.specs.Reading.{Gives};
 ghost use Rattle.kob_scene_text.specs.Workers.{by_first, by_named, declared_route, partitions_of};
-ghost use Rattle.kob_scene_text.specs.Workers.{route_of, service_of, service_with, settings_of};
-ghost use Rattle.kob_scene_text.specs.Workers.{text_first};
+ghost use Rattle.kob_scene_text.specs.Workers.{route_of, sending_first, sending_of, service_of};
+ghost use Rattle.kob_scene_text.specs.Workers.{service_with, settings_of, text_first};
 
 use crate::fault::{SceneFaultKind, StepError};
 use crate::name::{Who, who_of};
-use crate::scene::Routed;
+use crate::scene::{Routed, Sending};
 use kob_names::Text;
 use kob_router::{Route, RouteBy, RouteFault, RouteSettings};
 use kob_script::{FaultKind, LineError, Word, number_of, text_of};
@@ -22,15 +22,16 @@ pub(crate) struct DeclaredService {
     pub(crate) route: DeclaredRoute,
 }
 
-/// A route as it is set, and as it is read, to a number of partitions.
+/// A route as it is set, and as it is read, to a number of partitions, and how rows are sent.
 #[derive(Drop)]
 pub(crate) struct DeclaredRoute {
     pub(crate) settings: RouteSettings,
     pub(crate) routed: Routed,
+    pub(crate) sending: Sending,
 }
 
-/// `PRINCIPAL HOST partitions N [by COLUMN] [replacement TEXT] [placement TEXT]`. The words are
-/// checked from left to right.
+/// `PRINCIPAL HOST partitions N`, then a variant or not, then `[by COLUMN] [replacement TEXT]
+/// [placement TEXT]`. The words are checked from left to right.
 pub(crate) fn service_of(alloc: Global, words: &[Word<'_>]) -> Result<DeclaredService, StepError>
     ensures { Gives result (service_of words.now) }
 {
@@ -57,7 +58,7 @@ fn service_with(
     Ok(DeclaredService { who, route })
 }
 
-/// The number of partitions, and the route that the words after it say.
+/// The number of partitions, and how rows are sent and routed by the words after it.
 fn declared_route(
     alloc: Global,
     partitions: &Word<'_>,
@@ -66,12 +67,43 @@ fn declared_route(
     ensures { Gives result (declared_route partitions.now words.now) }
 {
     let partitions = partitions_of(partitions)?;
+    let (sending, words) = sending_first(words);
     let settings = settings_of(alloc, words)?;
     let route = route_of(alloc, &settings)?;
     Ok(DeclaredRoute {
         settings,
         routed: Routed::new(route, partitions),
+        sending,
     })
+}
+
+/// How rows are sent, and the words after that.
+fn sending_first<'w, 'l>(words: &'w [Word<'l>]) -> (Sending, &'w [Word<'l>])
+    ensures sending { result.0 ≡ (sending_first words.entry.now).0 }
+    ensures rest { result.1.now ≡ (sending_first words.entry.now).1 }
+{
+    match words {
+        [one, other, rest @ ..] => match sending_of(one, other) {
+            Some(sending) => (sending, rest),
+            None => (Sending::Proved, words),
+        },
+        _ => (Sending::Proved, words),
+    }
+}
+
+/// The variant that two words name.
+pub(crate) fn sending_of(one: &Word<'_>, other: &Word<'_>) -> Option<Sending>
+    ensures { result ≡ sending_of one.now other.now }
+{
+    if one.decoded() == b"retries".as_slice() && other.decoded() == b"new".as_slice() {
+        Some(Sending::RetriesNew)
+    } else if one.decoded() == b"deletes".as_slice() && other.decoded() == b"first".as_slice() {
+        Some(Sending::DeletesFirst)
+    } else if one.decoded() == b"not".as_slice() && other.decoded() == b"idempotent".as_slice() {
+        Some(Sending::NotIdempotent)
+    } else {
+        None
+    }
 }
 
 /// From 1 to 1,000. `BadNumber` comes before `BadPartitions`.

@@ -4,7 +4,7 @@ ghost use Rattle.std.specs.Prelude.{◌≡◌, ◌++◌, IfOk, OnOk, Result, map
 ghost use Rattle.std.specs.Result.{result_err};
 ghost use Rattle.kob_script.specs.Words.{Gives as ScriptGives};
 ghost use Rattle.kob_script.specs.declared.fault.FaultKind as script_kinds;
-ghost use Rattle.kob_scene_text.specs.Places.{fault_unless, faults_in, is_declared, law_fault};
+ghost use Rattle.kob_scene_text.specs.Places.{fault_unless, faults_in, known_fault, law_fault};
 ghost use Rattle.kob_scene_text.specs.Places.{name_fault};
 ghost use Rattle.kob_scene_text.specs.Places.{placement_fault, replacement_fault, script_fault};
 ghost use Rattle.kob_scene_text.specs.Places.{slot_fault};
@@ -110,15 +110,10 @@ fn slot_fault(
 {
     match slot {
         Slot::NewName => name_fault(alloc, before, word.decoded()),
-        Slot::ServiceName => {
-            let is_known = is_declared(alloc, b"service", before, word.decoded())?;
-            Ok(fault_unless(is_known, SceneFaultKind::UnknownWorker))
-        }
-        Slot::ConsumerName => {
-            let is_known = is_declared(alloc, b"consumer", before, word.decoded())?;
-            Ok(fault_unless(is_known, SceneFaultKind::UnknownWorker))
-        }
-        Slot::LawConsumer => law_fault(alloc, before, word.decoded()),
+        Slot::ServiceName => known_fault(alloc, b"service", before, word.decoded()),
+        Slot::ConsumerName => known_fault(alloc, b"consumer", before, word.decoded()),
+        Slot::LawService => law_fault(alloc, b"service", before, word.decoded()),
+        Slot::LawConsumer => law_fault(alloc, b"consumer", before, word.decoded()),
         Slot::Text => line_fault(text_of(alloc, word)),
         Slot::Principal => line_fault(principal_in(alloc, word)),
         Slot::Host => line_fault(host_in(alloc, word)),
@@ -182,16 +177,31 @@ fn step_fault<T: Drop>(read: Result<T, StepError>) -> Result<Option<SceneFaultKi
     }
 }
 
-/// The fault of the name of a consumer of which the laws speak.
-fn law_fault(
+/// The fault of the name of a worker that a line before declares by a keyword.
+fn known_fault(
     alloc: Global,
+    keyword: &[u8],
     before: &[&[u8]],
     name: &[u8],
 ) -> Result<Option<SceneFaultKind>, AllocError>
     ensures { IfOk result (λ fault.
-        fault ≡ law_fault (map (λ line. line.now) before.now) name.now) }
+        fault ≡ known_fault keyword.now (map (λ line. line.now) before.now) name.now) }
 {
-    if !is_declared(alloc, b"consumer", before, name)? {
+    let is_known = is_declared(alloc, keyword, before, name)?;
+    Ok(fault_unless(is_known, SceneFaultKind::UnknownWorker))
+}
+
+/// The fault of the name of such a worker of which the laws speak.
+fn law_fault(
+    alloc: Global,
+    keyword: &[u8],
+    before: &[&[u8]],
+    name: &[u8],
+) -> Result<Option<SceneFaultKind>, AllocError>
+    ensures { IfOk result (λ fault.
+        fault ≡ law_fault keyword.now (map (λ line. line.now) before.now) name.now) }
+{
+    if !is_declared(alloc, keyword, before, name)? {
         return Ok(Some(SceneFaultKind::UnknownWorker));
     }
     let is_variant = is_variant(alloc, before, name)?;

@@ -3,9 +3,11 @@
 ghost use Rattle.std.specs.Prelude.{◌≡◌, IfOk, map};
 ghost use Rattle.kob_script.specs.Script.{line_words};
 ghost use Rattle.kob_scene_text.specs.Places.{are_of, are_of_variant, is_declared, is_variant};
-ghost use Rattle.kob_scene_text.specs.Places.{worker_in};
+ghost use Rattle.kob_scene_text.specs.Places.{are_of_variant_consumer, are_of_variant_service};
+ghost use Rattle.kob_scene_text.specs.Places.{names_variant, worker_in};
 
 use crate::name::Worker;
+use crate::service_lines::sending_of;
 use kob_script::{LineError, Word, words_of};
 use std::alloc::{AllocError, Global};
 
@@ -43,7 +45,7 @@ pub(crate) fn is_declared(
     Ok(false)
 }
 
-/// Whether one of these lines declares a consumer of this name that begins at the end.
+/// Whether one of these lines declares a worker of this name that is a variant.
 pub(crate) fn is_variant(alloc: Global, before: &[&[u8]], name: &[u8]) -> Result<bool, AllocError>
     ensures { IfOk result (λ is.
         is ≡ is_variant (map (λ line. line.now) before.now) name.now) }
@@ -68,6 +70,33 @@ fn is_of_variant(alloc: Global, line: &[u8], name: &[u8]) -> Result<bool, AllocE
 
 fn are_of_variant(name: &[u8], words: &[Word<'_>]) -> bool
     ensures { result ≡ are_of_variant name.now words.now }
+{
+    are_of_variant_service(name, words) || are_of_variant_consumer(name, words)
+}
+
+fn are_of_variant_service(name: &[u8], words: &[Word<'_>]) -> bool
+    ensures { result ≡ are_of_variant_service name.now words.now }
+{
+    match words {
+        [first, own, _, _, _, _, one, other, ..] => {
+            first.decoded() == b"service".as_slice()
+                && own.decoded() == name
+                && names_variant(one, other)
+        }
+        _ => false,
+    }
+}
+
+/// Whether two words name a variant of a service.
+#[tactic(auto, unfolding(crate::specs::Places::names_variant))]
+fn names_variant(one: &Word<'_>, other: &Word<'_>) -> bool
+    ensures { result ≡ names_variant one.now other.now }
+{
+    sending_of(one, other).is_some()
+}
+
+fn are_of_variant_consumer(name: &[u8], words: &[Word<'_>]) -> bool
+    ensures { result ≡ are_of_variant_consumer name.now words.now }
 {
     match words {
         [first, own, _, _, _, _, _, _, keyword, ..] => {

@@ -10,13 +10,14 @@ returns c =
       worker = was.worker;
       principal = was.principal;
       host = was.host;
+      sending = was.sending;
       sender = c.restart.new.self;
       outbox = was.outbox;
       recorded = map (λ event. event.now) was.recorded.items;
     } in
     let made = c.restart.ensures in
     subst (λ (old : Service). Does Restarted old new) c.self.view_is (record {
-      same = record { worker = refl; principal = refl; host = refl; target = made.same };
+      same = record { worker = refl; principal = refl; host = refl; sending = refl; target = made.same };
       recorded = refl;
       may = tt;
       done = made.done was.outbox;

@@ -1,48 +1,8 @@
-use Rattle.kob_scene_play.proofs.Words.{IsServiceTick, LosesFirst, Record, Service, map, refl, rules, subst, sym, ◌≡◌}
-use Rattle.kob_scene_play.proofs.Ticking.{journaled_below, service_ticked}
-use Rattle.kob_router.specs.declared.tick.Tick.{Tick as ServiceAnswer}
+use Rattle.kob_scene_play.proofs.Services.{tick_done}
 use Rattle.kob_scene_play.proofs.service_worker.ServiceWorker.tick.Goals as goal
 
-pub returns : goal.returns
-returns c =
-    let was = c.self.inside in
-    let ticked = c.send_over-tick in
-    let opened = c.open-line in
-    let events = map (λ event. event.now) was.recorded.items in
-    let old : Service =
-    record {
-      worker = was.worker;
-      principal = was.principal;
-      host = was.host;
-      sender = was.router;
-      outbox = was.outbox;
-      recorded = events;
-    } in
-    let new : Service =
-    record {
-      worker = was.worker;
-      principal = was.principal;
-      host = was.host;
-      sender = ticked.new.router;
-      outbox = ticked.new.outbox;
-      recorded = events;
-    } in
-    let calls = ticked.new.line.calls.made.items in
-    let after = ticked.new.line.line.recorded.now in
-    let lost = subst (λ all. LosesFirst c.args.loss all) c.deref.ensures.value (c.loses_first-is_lost.ensures c.in_ok-tick.ensures.lost) in
-    let journaled =
-    journaled_below was.worker opened.result.worker was.principal opened.result.principal was.host opened.result.host
-    c.new-calls.result.made.items calls opened.result.calls.made.items ticked.new.line.line.calls.made.items
-    c.args.recorded.now opened.result.recorded.now after opened.ensures.worker
-    (rw c.in_ok-principal.ensures at opened.ensures.asker.0) (rw c.in_ok-host.ensures at opened.ensures.asker.1)
-    opened.ensures.recorded c.new-calls.ensures.made opened.ensures.made ticked.ensures.passed ticked.ensures.journaled in
-    let done =
-    service_ticked c.args.loss old new ticked.result c.new-calls.result.made.items calls c.new-calls.result.unmade
-    ticked.new.line.calls.unmade c.args.recorded.now after lost
-    (record { worker = refl; principal = refl; host = refl; target = ticked.ensures.same }) refl c.new-calls.ensures.made
-    c.new-calls.ensures.unmade journaled ticked.ensures.done in
-    let ends : after ≡ c.recorded-1.given.0 = search rules in
-    subst (λ (r : Record). IsServiceTick c.args.loss c.args.self.now new c.args.recorded.now r c.in_ok-tick.tick) ends
-    (subst (λ (from : Service). IsServiceTick c.args.loss from new c.args.recorded.now after c.in_ok-tick.tick) c.self.view_is
-    (subst (λ (told : ServiceAnswer). IsServiceTick c.args.loss old new c.args.recorded.now after told)
-    (sym c.in_ok-tick.ensures.same) done))
+pub returns-in-Ok : goal.returns-in-Ok
+returns-in-Ok c =
+    tick_done c.args.loss c.sending-sending.result c.args.self.now c.send-tick.new.self c.go_on.new.self
+    c.args.recorded.now c.send-tick.new.recorded c.in_ok-tick.tick c.sending-sending.ensures c.in_ok-tick.ensures
+    c.in-Ok.ensures

@@ -1,0 +1,39 @@
+//! Workers of which the laws of delivery do not speak.
+
+ghost use Rattle.std.specs.Prelude.{◌≡◌};
+ghost use Rattle.kob_scene_text.specs.Scenes.{has_variant, is_variant_consumer_at};
+ghost use Rattle.kob_scene_text.specs.Scenes.{is_variant_service_at};
+
+use crate::scene::{Consumer, Service};
+
+/// Whether the service or the consumer at its place is a variant.
+pub(crate) fn has_variant(
+    services: &[Service],
+    service: usize,
+    consumers: &[Consumer],
+    consumer: usize,
+) -> bool
+    ensures { result ≡ has_variant services.now service consumers.now consumer }
+{
+    is_variant_service_at(services, service) || is_variant_consumer_at(consumers, consumer)
+}
+
+/// Whether the service at this place sends otherwise than the proved router.
+fn is_variant_service_at(services: &[Service], place: usize) -> bool
+    ensures { result ≡ is_variant_service_at services.now place }
+{
+    match services.get(place) {
+        Some(service) => service.sending.is_variant(),
+        None => false,
+    }
+}
+
+/// Whether the consumer at this place begins at the end.
+fn is_variant_consumer_at(consumers: &[Consumer], place: usize) -> bool
+    ensures { result ≡ is_variant_consumer_at consumers.now place }
+{
+    match consumers.get(place) {
+        Some(consumer) => consumer.start.is_latest(),
+        None => false,
+    }
+}
