@@ -10,8 +10,8 @@ of the first part alone. COLUMN is one or more of (none: seconds and memory)
   memory        bytes by which the most memory grows for one more of the work, from n to 2n; bytes of script and of output for it
   instructions  instructions of the work at n and their growth, by `valgrind --tool=callgrind`: the same on each run
   allocations   allocations and reallocations for one more of the work, by `valgrind --trace-malloc=yes`
-  plain         beside bench/plain, an unproved Rust program that prints the same for these workloads and is built here by `rustc -O`:
-                its seconds at 4n, and how many times those the proved program takes; nothing where it has not the command
+  peer          beside bench/peer, an unproved Rust program that prints the same and is built here by `cargo build --release`: its seconds at
+                4n, and how many times those the proved program takes; instructions for one more of the work, ours and its, and how many times
 
 --only takes the workloads with WORD in their name. PROGRAM is crates/kob_run/out/kob_run if none is given, as `rt run` in
 crates/kob_run builds it. --jobs measures N kinds of work side by side, which changes no count of instructions, bytes or allocations. --write puts the table into bench/README.md, with the commit, the date and the machine.
@@ -21,6 +21,7 @@ import argparse
 import concurrent.futures
 import datetime
 import itertools
+import math
 import os
 import pathlib
 import platform
@@ -33,7 +34,7 @@ import time
 TOP = pathlib.Path(__file__).resolve().parent.parent
 README = TOP / "bench" / "README.md"
 BEGIN, END = "<!-- begin: bench/measure.py --write -->\n", "<!-- end -->\n"
-COLUMNS = ("seconds", "memory", "instructions", "allocations", "plain")
+COLUMNS = ("seconds", "memory", "instructions", "allocations", "peer")
 RUNS, SECONDS = 5, 2
 ROOT = "User:root h"
 # 24 bytes behind which any eight bytes hash alike under a hasher with a fixed seed, and 24 others.
@@ -201,13 +202,15 @@ def valgrind(options, program, script):
     return subprocess.run(words, input=script, stdout=subprocess.DEVNULL, stderr=subprocess.PIPE, check=True).stderr
 
 
-def instructions(programs, workload):
-    def of_work(n):
-        options = ["--tool=callgrind", "--callgrind-out-file=/dev/null"]
-        counts = [int(re.search(rb"Collected : (\d+)", valgrind(options, programs[0], it))[1]) for it in texts(workload, n)]
-        return counts[1] - counts[0]
+def collected(program, workload, n):
+    """The instructions of the work alone."""
+    options = ["--tool=callgrind", "--callgrind-out-file=/dev/null"]
+    before, whole = (int(re.search(rb"Collected : (\d+)", valgrind(options, program, it))[1]) for it in texts(workload, n))
+    return whole - before
 
-    once, twice = of_work(workload[1]), of_work(2 * workload[1])
+
+def instructions(programs, workload):
+    once, twice = (collected(programs[0], workload, times * workload[1]) for times in (1, 2))
     return [f"{once:,}", f"{twice / once:.2f}"]
 
 
@@ -222,16 +225,26 @@ def allocations(programs, workload):
     return [f"{(more - less) / n:,.2f}" for less, more in zip(once, twice)]
 
 
-def plain(programs, workload):
+def peer(programs, workload):
     before, whole = texts(workload, 4 * workload[1])
-    ours, other = (subprocess.run([it], input=whole, capture_output=True, check=False) for it in programs)
-    if other.returncode:
-        return ["", ""]
-    if ours.stdout != other.stdout:
+    printed = [subprocess.run([it], input=whole, capture_output=True, check=True).stdout for it in programs]
+    if printed[0] != printed[1]:
         sys.exit(f"{workload[0]}: the programs print different replies")
     (ready, *_), (other_ready, *_), (ours, *_), (other, *_) = least([(it, script) for script in (before, whole) for it in programs])
     ours, other = ours - ready, other - other_ready
-    return [f"{other:.3f}", f"{ours / other:.2f}" if other > 0 else ""]
+    n = max(1, workload[1] // 10)
+    counts = [collected(it, workload, n) / n for it in programs]
+    return [f"{other:.3f}", times(ours, other), *(f"{it:,.0f}" for it in counts), times(*counts)]
+
+
+def times(ours, other):
+    return f"{ours / other:.2f}" if ours > 0 and other > 0 else ""
+
+
+def mean(cells):
+    """The geometric mean of the numbers among cells."""
+    numbers = [float(it) for it in cells if it]
+    return f"{math.prod(numbers) ** (1 / len(numbers)):.2f}" if numbers else ""
 
 
 HEADS = {
@@ -239,15 +252,15 @@ HEADS = {
     "memory": ["bytes of script", "of memory", "of output"],
     "instructions": ["instructions at n", "growth"],
     "allocations": ["allocations", "reallocations"],
-    "plain": ["plain, seconds at 4n", "times"],
+    "peer": ["peer, seconds at 4n", "times", "instructions of one, ours", "the peer's", "times as many"],
 }
 
 
 def built(folder):
-    """The plain program."""
-    program = pathlib.Path(folder) / "plain"
-    subprocess.run(["rustc", "--edition", "2021", "-O", "-o", program, TOP / "bench" / "plain" / "main.rs"], check=True)
-    return program
+    """The peer."""
+    words = ["cargo", "build", "--release", "--offline", "--quiet", "--target-dir", folder]
+    subprocess.run(words, cwd=TOP / "bench" / "peer", check=True)
+    return pathlib.Path(folder) / "release" / "peer"
 
 
 def head():
@@ -270,7 +283,7 @@ def main():
     table = [["work", "n", *(it for column in columns for it in HEADS[column])]]
     table.append(["---"] * len(table[0]))
     with tempfile.TemporaryDirectory() as folder, concurrent.futures.ThreadPoolExecutor(given.jobs) as pool:
-        programs = [given.program, *([built(folder)] if "plain" in columns else [])]
+        programs = [given.program, *([built(folder)] if "peer" in columns else [])]
 
         def row(workload):
             cells = [cell for column in columns for cell in globals()[column](programs, workload)]
@@ -278,6 +291,11 @@ def main():
             return [workload[0], f"{workload[1]:,}", *cells]
 
         table.extend(pool.map(row, (it for it in WORKLOADS if given.only in it[0])))
+    if "peer" in columns:
+        cells = [""] * len(table[0])
+        for at, name in enumerate(table[0]):
+            cells[at] = mean(row[at] for row in table[2:]) if name.startswith("times") else ""
+        table.append(["geometric mean", *cells[1:]])
     text = head() + "\n" + "".join("| " + " | ".join(row) + " |\n" for row in table)
     if given.write:
         page = README.read_text()

@@ -11,6 +11,7 @@ use Rattle.kob_policy_rows.specs.Csv.{answers_csv, table_text}
 use Rattle.kob_policy_rows.specs.Json.{answers_json, lines_text}
 use Rattle.kob_policy_rows.specs.Logs.{log_line}
 use Rattle.kob_policy_text.specs.LogAnswers.{log_text}
+use Rattle.kob_policy_text.specs.Moved.{moved_text}
 use Rattle.kob_policy_text.specs.Policy.{Policy}
 use Rattle.kob_policy_text.specs.Review.{answers_text, changes_text}
 use Rattle.kob_policy_text.specs.declared.question.Query.{Query}
@@ -21,7 +22,7 @@ answers_in form.Json policy topics queries = answers_json policy topics 1 querie
 answers_in form.Csv policy topics queries = answers_csv policy topics queries
 
 abbrev pub changes_in : AnswerForm → Policy → Policy → List ℕ
-changes_in form.Words before after = changes_text before after
+changes_in form.Words before after = moved_text before after ++ changes_text before after
 changes_in form.Json before after = lines_text change_columns (change_rows before after)
 changes_in form.Csv before after = table_text change_columns (change_rows before after)
 

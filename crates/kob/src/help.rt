@@ -79,7 +79,7 @@ create-acl and acl of scripts, rows of CSV with seven columns, super USER, every
 kafka VERSION, and the lines of a broker's server.properties; or it is what confluent kafka acl list
 -o json prints. Lines that begin with # are skipped.
 
-Questions, each one word of the command line or one line:
+Questions, each one word of the command line or one line; a name with a blank stands in quotes:
   may PRINCIPAL HOST OPERATION RESOURCE NAME
   may PRINCIPAL HOST produce TOPIC [idempotent|transactional ID]
   may PRINCIPAL HOST consume TOPIC GROUP

@@ -8,6 +8,7 @@ ghost use Rattle.kob_policy_rows.specs.Columns.{change_columns};
 ghost use Rattle.kob_policy_rows.specs.Csv.{table_text};
 ghost use Rattle.kob_policy_rows.specs.Json.{lines_text};
 ghost use Rattle.kob_policy_text.specs.Access.{any_fails};
+ghost use Rattle.kob_policy_text.specs.Moved.{moved_text};
 ghost use Rattle.kob_policy_text.specs.Review.{changes_text};
 
 use crate::commands::push_commands;
@@ -21,7 +22,7 @@ use kob_policy_rows::{
     print_csv, print_csv_answers, print_json, print_json_answers, print_json_files,
 };
 use kob_policy_text::{
-    Judge, Policy, Questions, any_fails, print_answers, print_changes, print_omissions,
+    Judge, Policy, Questions, any_fails, print_answers, print_changes, print_moved, print_omissions,
 };
 use kob_script::{Fault, print_fault};
 use std::alloc::{AllocError, Global};
@@ -212,6 +213,22 @@ fn push_changes(
 }
 
 fn push_words(
+    alloc: Global,
+    out: &mut Vec<u8>,
+    before: &Judge,
+    after: &Judge,
+) -> Result<Ending, AllocError>
+    ensures printed { OnOk result (out.new.items ≡ out.old.items
+        ++ (moved_text before.now after.now ++ changes_text before.now after.now)) }
+    ensures ending { IfOk result (λ ending. ending
+        ≡ ending_of_changes (changes_text before.now after.now)) }
+{
+    print_moved(alloc, out, before, after)?;
+    push_answered(alloc, out, before, after)
+}
+
+/// The answers that change.
+fn push_answered(
     alloc: Global,
     out: &mut Vec<u8>,
     before: &Judge,

@@ -163,10 +163,11 @@ fn push_note(out: &mut Vec<u8>, what: &str, text: &str) -> Result<(), AllocError
     out.extend_from_slice(b"\n")
 }
 
-/// The bytes of a word as they stand in the line; a byte that no terminal shows is written `%xx`.
+/// The bytes of a word as they stand in the line, blanks between quotes included; a byte that no
+/// terminal shows is written `%xx`.
 fn push_shown(out: &mut Vec<u8>, word: &[u8]) -> Result<(), AllocError> {
     for byte in word {
-        if byte.is_ascii_graphic() {
+        if byte.is_ascii_graphic() || *byte == b' ' {
             out.push(*byte)?;
         } else {
             push_bytes(out, &[*byte])?;

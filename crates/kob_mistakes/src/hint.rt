@@ -1,5 +1,6 @@
 //! What people often do, and what to do in its place.
 
+use crate::quotes::{Unread, unread_in};
 use crate::words::is_blank;
 use bstr::ByteSlice;
 
@@ -34,13 +35,34 @@ pub(crate) fn hint_on_bytes(text: &[u8]) -> Option<&'static str> {
     }
 }
 
-/// A hint on a line of so many words with a fault, if it looks like a common mistake. `text` is the
-/// whole text.
-pub fn hint_on(text: &[u8], line: &[u8], words: usize) -> Option<&'static str> {
+/// A hint on a text that is not what is asked for, by its first bytes or those of a line.
+fn hint_on_beginning(text: &[u8], line: &[u8]) -> Option<&'static str> {
     for (beginning, hint) in BEGINNINGS {
         if text.starts_with(beginning) || line.starts_with(beginning) {
             return Some(hint);
         }
+    }
+    None
+}
+
+/// A hint on a line of questions with a fault.
+pub(crate) fn hint_on_question(text: &[u8], line: &[u8]) -> Option<&'static str> {
+    hint_on_beginning(text, line).or(match unread_in(line) {
+        Some(Unread::Open) => Some("a quote does not end, or nothing stands behind a backslash"),
+        Some(Unread::Replaced) => {
+            Some(
+                "a dollar or a backquote would be replaced by a shell: write it between single quotes",
+            )
+        }
+        None => None,
+    })
+}
+
+/// A hint on a line of so many words with a fault, if it looks like a common mistake. `text` is the
+/// whole text.
+pub fn hint_on(text: &[u8], line: &[u8], words: usize) -> Option<&'static str> {
+    if let Some(hint) = hint_on_beginning(text, line) {
+        return Some(hint);
     }
     if line.contains(&b'{') && words > 10 {
         return Some("a blank inside a word is written %20, as in {\"total\":%2010}");

@@ -3,10 +3,12 @@
 #![tactic(auto)]
 
 mod hint;
+mod listed;
 mod mistake;
 mod option;
 mod place;
 mod question;
+mod quotes;
 mod rows;
 mod spelling;
 mod usage;

@@ -1,16 +1,16 @@
 //! A fault of a question or of a list of bindings, as a person is told of it.
 
-use crate::hint::{hint_on, hint_on_bytes};
+use crate::hint::hint_on_question;
+use crate::listed::{binding_place, hint_on_list, value_in};
 use crate::mistake::Mistake;
-use crate::option::option_place;
+use crate::quotes::{each_unquoted, quoted_words, read_each, unread_in, unread_place};
 use crate::rows::{Fit, misfit};
 use crate::spelling::nearest;
-use crate::usage::{is_command, is_step};
 use crate::words::{escape_place, raw_words};
 use bstr::ByteSlice;
 use kob_names::Text;
-use kob_script::{FaultKind, LineError, Word, fault_place, words_of};
-use kob_words::{operation_named, pattern_named, permission_named, resource_named};
+use kob_script::{FaultKind, LineError, Word, fault_place};
+use kob_words::operation_named;
 use std::alloc::{AllocError, Global};
 
 /// What a text has on its lines.
@@ -140,7 +140,10 @@ pub fn line_mistake<'a>(
 ) -> Result<Mistake<'a>, AllocError> {
     let before = line.saturating_sub(1) as usize;
     let line = text.lines().nth(before).unwrap_or(b"".as_slice());
-    let words = raw_words(alloc, line)?;
+    let words = match lines {
+        Lines::Questions => quoted_words(alloc, line)?,
+        Lines::Bindings => raw_words(alloc, line)?,
+    };
     let place = match lines {
         Lines::Questions => question_place(alloc, line, &words, kind)?,
         Lines::Bindings => binding_place(alloc, line, &words, kind)?,
@@ -157,7 +160,7 @@ pub fn line_mistake<'a>(
     Ok(Mistake {
         form: form_of(&words, lines),
         hint: match lines {
-            Lines::Questions => hint_on(text, line, words.len()),
+            Lines::Questions => hint_on_question(text, line),
             Lines::Bindings => hint_on_list(text, &words),
         },
         words,
@@ -207,7 +210,11 @@ fn question_place(
     if let Some(place) = escape_place(alloc, raw)? {
         return Ok(place);
     }
-    match words_of(alloc, line) {
+    if unread_in(line).is_some() {
+        return Ok(unread_place(raw));
+    }
+    let texts = each_unquoted(alloc, raw)?;
+    match read_each(alloc, &texts) {
         Ok(words) => place_by_name(alloc, &words, kind),
         Err(LineError::Memory(refused)) => Err(refused),
         Err(LineError::Fault(_)) => Ok(0),
@@ -306,93 +313,4 @@ fn right_row(words: &[Word<'_>]) -> &'static [Fit] {
     } else {
         &[Fit::Operation, Fit::Resource, Fit::Any, Fit::Host]
     }
-}
-
-/// The place of the word of a line of bindings that is wrong: the part of a listed binding, the
-/// option of `kafka-acls`, or the first word.
-fn binding_place(
-    alloc: Global,
-    line: &[u8],
-    words: &[&[u8]],
-    kind: FaultKind,
-) -> Result<usize, AllocError> {
-    let first = words.first().copied().unwrap_or(b"".as_slice());
-    if first.starts_with(b"kafka-acls") {
-        return match words_of(alloc, line) {
-            Ok(words) => Ok(option_place(alloc, &words, 1, kind)),
-            Err(LineError::Memory(refused)) => Err(refused),
-            Err(LineError::Fault(_)) => Ok(0),
-        };
-    }
-    let part: &[u8] = match kind {
-        FaultKind::BadPrincipal => b"principal=",
-        FaultKind::BadHost => b"host=",
-        _ => b"=",
-    };
-    let is_wrong = |word: &&[u8]| match kind {
-        FaultKind::BadWord => has_unknown_value(word),
-        _ => word.find(part).is_some(),
-    };
-    Ok(words.iter().position(|word| is_wrong(word)).unwrap_or(0))
-}
-
-/// The value of a part `NAME=VALUE` of a listed binding or of a heading; a whole word without `=`.
-fn value_in(word: &[u8]) -> &[u8] {
-    let is_end = |byte: u8| byte == b',' || byte == b')' || byte == b'`' || byte == b':';
-    let value = match word.iter().position(|byte| *byte == b'=') {
-        Some(at) => word.get(at + 1..).unwrap_or(word),
-        None => return word,
-    };
-    let end = value
-        .iter()
-        .position(|byte| is_end(*byte))
-        .unwrap_or(value.len());
-    value.get(..end).unwrap_or(value)
-}
-
-/// Whether a part `NAME=VALUE` has an unknown word for a value.
-fn has_unknown_value(word: &[u8]) -> bool {
-    let name = word
-        .split(|byte| *byte == b'=')
-        .next()
-        .unwrap_or(b"".as_slice());
-    let value = value_in(word);
-    // (lists write DESCRIBE_CONFIGS for DescribeConfigs)
-    let is_listed = value.contains(&b'_');
-    if name == b"operation".as_slice() {
-        !is_listed && operation_named(value).is_none()
-    } else if name == b"permissionType".as_slice() {
-        permission_named(value).is_none()
-    } else if name.ends_with(b"resourceType") {
-        !is_listed && resource_named(value).is_none()
-    } else {
-        name == b"patternType".as_slice() && pattern_named(value).is_none()
-    }
-}
-
-/// A hint on a line that is not one of a list, but one of a scene.
-fn hint_on_list(text: &[u8], words: &[&[u8]]) -> Option<&'static str> {
-    if is_of_scene(words) {
-        Some("this looks like a scene: kob play plays it")
-    } else {
-        hint_on_bytes(text)
-    }
-}
-
-/// Whether a line looks like a declaration, a step of a worker, or a request that lists do not have.
-fn is_of_scene(words: &[&[u8]]) -> bool {
-    match words {
-        [who, _, command, ..] if who.contains(&b':') => is_played(command),
-        [first, second, ..] => is_declaration(first) || is_step(second),
-        _ => false,
-    }
-}
-
-/// Whether a word is the name of a command other than those that lists may have.
-fn is_played(command: &[u8]) -> bool {
-    is_command(command) && command != b"create-acl".as_slice() && command != b"acl".as_slice()
-}
-
-fn is_declaration(first: &[u8]) -> bool {
-    first == b"service".as_slice() || first == b"consumer".as_slice()
 }

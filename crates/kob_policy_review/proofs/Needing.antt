@@ -16,7 +16,7 @@ use Rattle.kob_policy_review.proofs.Marks.{askable_marked, in_sum, stands_for, s
 use Rattle.kob_policy_review.proofs.Standing.{all_named, hosts_are, none_passes, only_named, party_for, party_there, principals_are, target_for, target_there}
 use Rattle.kob_policy_review.specs.Alike.{AnswerAlike, hosts_of, is_yes, principals_of, spare, weight, without}
 use Rattle.kob_policy_review.specs.Classes.{hosts_named, is_for, is_on, open_targets, operations, principals_named, representative, targets, targets_named}
-use Rattle.kob_policy_review.specs.Needed.{closing, is_super_party, needed, needed_by, needed_from, needed_on, needed_to}
+use Rattle.kob_policy_review.specs.Needed.{closing, is_super_party, needed, needed_among, needed_by, needed_from, needed_on, needed_to}
 use Rattle.kob_policy_review.specs.declared.class.Class.{Class}
 use Rattle.kob_policy_review.specs.declared.class.Target.{Target}
 
@@ -98,12 +98,12 @@ module _ (serial : ℕ) where
       → needed_by supers everyone matching principal
       ≡ flat_map (needed_from (closing everyone matching) (filter (is_for principal) matching))
       (hosts_named (filter (is_for principal) matching))
-  unfolding needed_by
+  unfolding needed_by needed_among
   unfolded_by supers everyone matching principal plain = rw plain refl
 
   pub super_by : (supers : List (List ℕ)) (everyone : Bool) (matching : List (ℕ × Binding)) (principal : Option (List ℕ))
       → is_super_party supers principal ≡ true → list_any is_it (needed_by supers everyone matching principal) ≡ false
-  unfolding needed_by
+  unfolding needed_by needed_among
   super_by supers everyone matching principal super = rw super refl
 
   pub unfolded_from : (alone : Option ℕ) (asking : List (ℕ × Binding)) (host : Option (List ℕ))

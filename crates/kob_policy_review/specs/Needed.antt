@@ -48,12 +48,17 @@ abbrev pub is_super_party : List (List ℕ) → Option (List ℕ) → Bool
 is_super_party supers (Some principal) = is_super supers principal
 is_super_party supers None = false
 
--- those that are needed for what a principal asks: only bindings for it, or for all, count
+-- those that are needed for what a principal asks, of the bindings for it and for all
+unfoldable pub needed_among : List (List ℕ) → Option ℕ → List (ℕ × Binding) → Option (List ℕ)
+    → List ℕ
+needed_among supers alone asking principal =
+    if is_super_party supers principal then []
+    else flat_map (needed_from alone asking) (hosts_named asking)
+
+-- only bindings for the principal, or for all, count
 unfoldable pub needed_by : List (List ℕ) → Bool → List (ℕ × Binding) → Option (List ℕ) → List ℕ
 needed_by supers everyone matching principal =
-    if is_super_party supers principal then []
-    else (let asking : List (ℕ × Binding) = filter (is_for principal) matching in
-    flat_map (needed_from (closing everyone matching) asking) (hosts_named asking))
+    needed_among supers (closing everyone matching) (filter (is_for principal) matching) principal
 
 -- those that are needed on some names: only bindings whose patterns match these count
 unfoldable pub needed_on : Contents → Target → List ℕ

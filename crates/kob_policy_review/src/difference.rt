@@ -11,7 +11,7 @@ use crate::class::{Class, Target, copied_names};
 use crate::finder::Finder;
 use crate::matching::OPERATIONS;
 use crate::needed::is_super_party;
-use crate::sides::{Sides, sides_on};
+use crate::sides::{Asked, Sides, sides_on};
 use crate::targets::Targets;
 use kob_authorizer::Authorizer;
 use kob_names::{Operation, PlainValue, Principal, Text};
@@ -191,7 +191,7 @@ fn push_by(
     out: &mut Vec<Change>,
     supers_before: &[Principal],
     supers_after: &[Principal],
-    sides: &Sides,
+    sides: &Asked<'_>,
     target: &Target,
     principal: &Option<Text>,
 ) -> Result<(), AllocError>
@@ -204,8 +204,8 @@ fn push_by(
     {
         return Ok(());
     }
-    let asked = sides.asked_by(alloc, principal)?;
-    let others = sides.asked_by(alloc, &None)?;
+    let asked = sides.by(alloc, principal)?;
+    let others = sides.by(alloc, &None)?;
     let hosts = asked.hosts(alloc)?;
     push_hosts(
         alloc,
@@ -223,7 +223,7 @@ fn push_principals(
     out: &mut Vec<Change>,
     supers_before: &[Principal],
     supers_after: &[Principal],
-    sides: &Sides,
+    sides: &Asked<'_>,
     target: &Target,
     principals: &[Option<Text>],
 ) -> Result<(), AllocError>
@@ -258,12 +258,13 @@ fn push_on(
 {
     let sides = sides_on(alloc, before, after, target)?;
     let principals = sides.principals(alloc)?;
+    let asked = Asked::of(alloc, &sides)?;
     push_principals(
         alloc,
         out,
         before.rules().supers(),
         after.rules().supers(),
-        &sides,
+        &asked,
         target,
         principals.as_slice(),
     )

@@ -54,14 +54,15 @@ impl<'a> Finder<'a> {
     }
 
     /// Copies of the bindings whose patterns match the names. Of the others only those are looked at
-    /// that match the name, or the text that the names begin with.
+    /// that match the name, or the text that the names begin with. By rising serial.
     #[tactic(auto, using(kob_authorizer::proofs::Entries::are_rising))]
     pub fn matching(
         &self,
         alloc: Global,
         target: &Target,
     ) -> Result<Vec<(u64, Binding)>, AllocError>
-        ensures { IfOk result (λ made. made.items ≡ filter (is_on target.now) self.now.entries) }
+        ensures on { IfOk result (λ made. made.items ≡ filter (is_on target.now) self.now.entries) }
+        ensures rising { IfOk result (λ made. AreRising made.items) }
     {
         let walked = walked(alloc, &self.names, text_of(&target.names))?;
         let serials = in_order(walked);

@@ -1,12 +1,15 @@
 //! The bindings without which an answer changes.
 
-ghost use Rattle.std.specs.Prelude.{◌≡◌, ◌++◌, ◌∷◌, [], IfOk, OnOk, if◌then◌else◌};
+ghost use Rattle.std.specs.Prelude.{◌≡◌, ◌++◌, ◌∷◌, [], IfOk, OnOk, flat_map, if◌then◌else◌};
 ghost use Rattle.kob_names.specs.Same.{same_text};
 ghost use Rattle.kob_authorizer.specs.Decide.{is_super};
-ghost use Rattle.kob_policy_review.specs.Needed.{closing, is_super_party, met, needed, needed_by};
+ghost use Rattle.kob_policy_review.specs.Classes.{principals_named};
+ghost use Rattle.kob_policy_review.specs.Needed.{closing, is_super_party, met, needed, needed_among};
+ghost use Rattle.kob_policy_review.specs.Needed.{needed_by};
 ghost use Rattle.kob_policy_review.specs.Needed.{needed_for, needed_from, needed_on, needed_to};
 ghost use Rattle.kob_policy_review.specs.Needed.{only_one, unless_allowed};
 
+use crate::askers::Askers;
 use crate::class::{Target, is_met};
 use crate::finder::Finder;
 use crate::matching::{OPERATIONS, asking, hosts_of};
@@ -146,6 +149,29 @@ fn push_needed_from(
     Ok(())
 }
 
+#[tactic(auto, unfolding(crate::specs::Needed::needed_among))]
+fn push_needed_among(
+    alloc: Global,
+    out: &mut Vec<u64>,
+    supers: &[Principal],
+    alone: Option<u64>,
+    asking: &[(u64, Binding)],
+    principal: &Option<Text>,
+) -> Result<(), AllocError>
+    ensures { OnOk result (out.new.items ≡ out.old.items
+        ++ needed_among supers.now alone asking.now principal.now) }
+{
+    if is_super_party(supers, principal) {
+        return Ok(());
+    }
+    let hosts = hosts_of(alloc, asking)?;
+    for host in hosts.as_slice() {
+        push_needed_from(alloc, out, alone, asking, host)?;
+    }
+    Ok(())
+}
+
+/// Looks at each binding that matches the names.
 #[tactic(auto, unfolding(crate::specs::Needed::needed_by))]
 pub fn push_needed_by(
     alloc: Global,
@@ -157,14 +183,55 @@ pub fn push_needed_by(
     ensures { OnOk result (out.new.items ≡ out.old.items ++ needed_by rules.now.contents.supers
         rules.now.contents.everyone matching.now principal.now) }
 {
-    if is_super_party(rules.supers(), principal) {
-        return Ok(());
-    }
     let alone = closing(rules.everyone(), matching);
     let asking = asking(alloc, matching, principal)?;
-    let hosts = hosts_of(alloc, asking.as_slice())?;
-    for host in hosts.as_slice() {
-        push_needed_from(alloc, out, alone, asking.as_slice(), host)?;
+    push_needed_among(
+        alloc,
+        out,
+        rules.supers(),
+        alone,
+        asking.as_slice(),
+        principal,
+    )
+}
+
+/// The same, by a look-up.
+#[tactic(auto, unfolding(crate::specs::Needed::needed_by))]
+fn push_needed_of(
+    alloc: Global,
+    out: &mut Vec<u64>,
+    rules: &Authorizer,
+    matching: &Askers<'_>,
+    principal: &Option<Text>,
+) -> Result<(), AllocError>
+    ensures { OnOk result (out.new.items ≡ out.old.items ++ needed_by rules.now.contents.supers
+        rules.now.contents.everyone matching.now principal.now) }
+{
+    let alone = closing(rules.everyone(), matching.entries());
+    let asking = matching.asking(alloc, principal)?;
+    push_needed_among(
+        alloc,
+        out,
+        rules.supers(),
+        alone,
+        asking.as_slice(),
+        principal,
+    )
+}
+
+fn push_needed_to_each(
+    alloc: Global,
+    out: &mut Vec<u64>,
+    rules: &Authorizer,
+    matching: &Askers<'_>,
+) -> Result<(), AllocError>
+    ensures { OnOk result (out.new.items ≡ out.old.items
+        ++ flat_map (needed_by rules.now.contents.supers rules.now.contents.everyone matching.now)
+        (principals_named matching.now)) }
+{
+    let principals = principals_of(alloc, matching.entries())?;
+    for principal in principals.as_slice() {
+        push_needed_of(alloc, out, rules, matching, principal)?;
     }
     Ok(())
 }
@@ -179,11 +246,8 @@ fn push_needed_on(
     ensures { OnOk result (out.new.items ≡ out.old.items ++ needed_on finder.now target.now) }
 {
     let matching = finder.matching(alloc, target)?;
-    let principals = principals_of(alloc, matching.as_slice())?;
-    for principal in principals.as_slice() {
-        push_needed_by(alloc, out, finder.rules(), matching.as_slice(), principal)?;
-    }
-    Ok(())
+    let askers = Askers::of(alloc, matching.as_slice())?;
+    push_needed_to_each(alloc, out, finder.rules(), &askers)
 }
 
 /// The serials of the bindings that are needed, each at least once.

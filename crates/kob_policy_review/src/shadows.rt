@@ -1,17 +1,18 @@
 //! Allows that a deny always beats.
 
-ghost use Rattle.std.specs.Prelude.{◌≡◌, ◌==◌, ◌++◌, ℕ, IfOk, OnOk, filter, map, nat_eq};
+ghost use Rattle.std.specs.Prelude.{◌≡◌, ◌==◌, ◌++◌, ℕ, IfOk, OnOk, filter, flat_map, map, nat_eq};
 ghost use Rattle.std.specs.HashSet.{contains};
 ghost use Rattle.std.specs.List.{list_any};
 ghost use Rattle.kob_names.specs.declared.kinds.Permission.TheVariants.{Deny};
-ghost use Rattle.kob_policy_review.specs.Classes.{is_met};
+ghost use Rattle.kob_policy_review.specs.Classes.{is_met, principals_named};
 ghost use Rattle.kob_policy_review.specs.Shadows.{ListsShadowed, bearing, bearing_by, bearing_from};
 ghost use Rattle.kob_policy_review.specs.Shadows.{bearing_on, bearing_to, is_between, serial_of_entry};
 ghost use Rattle.kob_policy_review.specs.Shadows.{shadowed_in};
 
+use crate::askers::Askers;
 use crate::class::{Target, is_met};
 use crate::finder::Finder;
-use crate::matching::{OPERATIONS, asking, hosts_of};
+use crate::matching::{OPERATIONS, hosts_of};
 use crate::needed::{is_super_party, met};
 use crate::parties::principals_of;
 use crate::redundant::set_of;
@@ -71,7 +72,7 @@ fn push_by(
     out: &mut Vec<u64>,
     beaten: bool,
     supers: &[Principal],
-    matching: &[(u64, Binding)],
+    matching: &Askers<'_>,
     principal: &Option<Text>,
 ) -> Result<(), AllocError>
     ensures { OnOk result (out.new.items ≡ out.old.items
@@ -80,10 +81,27 @@ fn push_by(
     if is_super_party(supers, principal) {
         return Ok(());
     }
-    let asking = asking(alloc, matching, principal)?;
+    let asking = matching.asking(alloc, principal)?;
     let hosts = hosts_of(alloc, asking.as_slice())?;
     for host in hosts.as_slice() {
         push_from(alloc, out, beaten, asking.as_slice(), host)?;
+    }
+    Ok(())
+}
+
+fn push_each(
+    alloc: Global,
+    out: &mut Vec<u64>,
+    beaten: bool,
+    supers: &[Principal],
+    matching: &Askers<'_>,
+) -> Result<(), AllocError>
+    ensures { OnOk result (out.new.items ≡ out.old.items
+        ++ flat_map (bearing_by beaten supers.now matching.now) (principals_named matching.now)) }
+{
+    let principals = principals_of(alloc, matching.entries())?;
+    for principal in principals.as_slice() {
+        push_by(alloc, out, beaten, supers, matching, principal)?;
     }
     Ok(())
 }
@@ -100,18 +118,8 @@ fn push_on(
         ++ bearing_on beaten finder.now target.now) }
 {
     let matching = finder.matching(alloc, target)?;
-    let principals = principals_of(alloc, matching.as_slice())?;
-    for principal in principals.as_slice() {
-        push_by(
-            alloc,
-            out,
-            beaten,
-            finder.rules().supers(),
-            matching.as_slice(),
-            principal,
-        )?;
-    }
-    Ok(())
+    let askers = Askers::of(alloc, matching.as_slice())?;
+    push_each(alloc, out, beaten, finder.rules().supers(), &askers)
 }
 
 /// The serials of the allows that bear on a question of one who is no super user: with `beaten`, on

@@ -2,14 +2,16 @@
 
 ghost use Rattle.std.specs.Prelude.{◌≡◌, IfOk, not};
 ghost use Rattle.std.specs.List.{list_any};
+ghost use Rattle.kob_authorizer.specs.Index.{AreRising};
 ghost use Rattle.kob_policy_review.specs.Classes.{is_met};
 ghost use Rattle.kob_policy_review.specs.Difference.{asked_by, hosts_in, outcome_of, outcome_to};
 ghost use Rattle.kob_policy_review.specs.Difference.{principals_in, sides_on, some_in, yes_to};
 
+use crate::askers::Askers;
 use crate::class::{Target, is_met};
 use crate::difference::Outcome;
 use crate::finder::Finder;
-use crate::matching::{add_hosts, asking, hosts_of};
+use crate::matching::{add_hosts, hosts_of};
 use crate::parties::principals_of_both;
 use kob_names::{Binding, Operation, Permission, Text};
 use std::alloc::{AllocError, Global};
@@ -44,7 +46,9 @@ pub fn sides_on(
     after: &Finder<'_>,
     target: &Target,
 ) -> Result<Sides, AllocError>
-    ensures { IfOk result (λ sides. sides ≡ sides_on before.now after.now target.now) }
+    ensures on { IfOk result (λ sides. sides ≡ sides_on before.now after.now target.now) }
+    ensures before { IfOk result (λ sides. AreRising sides.before) }
+    ensures after { IfOk result (λ sides. AreRising sides.after) }
 {
     let on_before = before.matching(alloc, target)?;
     let on_after = after.matching(alloc, target)?;
@@ -66,20 +70,6 @@ pub fn is_nothing(entries: &[(u64, Binding)]) -> bool
 }
 
 impl Sides {
-    /// Those that cover the principal.
-    pub fn asked_by(&self, alloc: Global, principal: &Option<Text>) -> Result<Sides, AllocError>
-        ensures { IfOk result (λ sides. sides ≡ asked_by principal.now self.now) }
-    {
-        let before = asking(alloc, self.before.as_slice(), principal)?;
-        let after = asking(alloc, self.after.as_slice(), principal)?;
-        Ok(Sides {
-            before,
-            after,
-            open_before: self.open_before,
-            open_after: self.open_after,
-        })
-    }
-
     /// The hosts that they name, after all others.
     #[tactic(auto, unfolding(crate::specs::Difference::hosts_in))]
     pub fn hosts(&self, alloc: Global) -> Result<Vec<Option<Text>>, AllocError>
@@ -105,6 +95,60 @@ impl Sides {
         let before = yes_to(self.open_before, self.before.as_slice(), host, operation);
         let after = yes_to(self.open_after, self.after.as_slice(), host, operation);
         outcome_of(before, after)
+    }
+}
+
+/// The bindings that count before and after, looked up by the principals that they name.
+#[derive(Drop)]
+pub struct Asked<'a> {
+    before: Askers<'a>,
+    after: Askers<'a>,
+    open_before: bool,
+    open_after: bool,
+}
+
+impl<'a> Model for Asked<'a> {
+    ghost use Rattle.kob_policy_review.specs.Difference as seen;
+
+    ghost Value = { seen.Sides };
+
+    ghost view = { λ asked. record {
+      before = asked.before;
+      after = asked.after;
+      open_before = asked.open_before;
+      open_after = asked.open_after;
+    } };
+}
+
+impl<'a> Asked<'a> {
+    /// The same bindings.
+    pub fn of(alloc: Global, sides: &'a Sides) -> Result<Asked<'a>, AllocError>
+        requires before { AreRising sides.now.before }
+        requires after { AreRising sides.now.after }
+        ensures { IfOk result (λ asked. asked ≡ sides.entry.now) }
+    {
+        let before = Askers::of(alloc, sides.before.as_slice())?;
+        let after = Askers::of(alloc, sides.after.as_slice())?;
+        Ok(Asked {
+            before,
+            after,
+            open_before: sides.open_before,
+            open_after: sides.open_after,
+        })
+    }
+
+    /// Those that cover the principal.
+    pub fn by(&self, alloc: Global, principal: &Option<Text>) -> Result<Sides, AllocError>
+        ensures { IfOk result (λ sides. sides ≡ asked_by principal.now self.now) }
+    {
+        let before = self.before.asking(alloc, principal)?;
+        let after = self.after.asking(alloc, principal)?;
+        Ok(Sides {
+            before,
+            after,
+            open_before: self.open_before,
+            open_after: self.open_after,
+        })
     }
 }
 

@@ -8,7 +8,7 @@ use Rattle.kob_names.specs.declared.kinds.Operation.TheVariants.{Describe}
 use Rattle.kob_names.specs.declared.kinds.ResourceKind.TheVariants.{Topic}
 use Rattle.kob_names.specs.declared.verdict.Verdict.{Verdict}
 use Rattle.kob_script.specs.Printed.{verdict_text}
-use Rattle.kob_words.specs.Words.{operation_name, resource_name, bytes_text, binding_text}
+use Rattle.kob_words.specs.Words.{operation_name, resource_name, bytes_text}
 use Rattle.kob_policy_text.specs.AtHand.{principals_at_hand, topics_named}
 use Rattle.kob_policy_text.specs.declared.item.LeftOut.{LeftOut}
 use Rattle.kob_policy_text.specs.declared.item.LeftOut.TheVariants as left_out
@@ -16,6 +16,7 @@ use Rattle.kob_policy_text.specs.declared.origin.Omission.{Omission}
 use Rattle.kob_policy_text.specs.declared.origin.Origin.{Origin}
 use Rattle.kob_policy_text.specs.declared.question.Asker.{Asker}
 use Rattle.kob_policy_text.specs.declared.question.Right.{Right}
+use Rattle.kob_policy_text.specs.Quoted.{binding_text, name_text}
 use Rattle.kob_policy_text.specs.Policy.{deciding, is_yes, may, place_of, serials_of, Policy}
 
 -- FILE:LINE
@@ -78,11 +79,11 @@ may_text policy verdict =
 abbrev pub right_text : authorizer.Question → List ℕ
 right_text asked =
     operation_name asked.operation ++ codes " " ++ resource_name asked.resource ++ codes " "
-    ++ bytes_text asked.name
+    ++ name_text asked.name
 
 unfoldable pub who_line : Policy → Right → List ℕ → List ℕ → List ℕ
 who_line policy right host principal =
-    codes "  " ++ bytes_text principal ++ codes " " ++ reason_text policy
+    codes "  " ++ name_text principal ++ codes " " ++ reason_text policy
     (may policy (question_of principal host right.operation right.resource right.name))
     ++ codes "\n"
 
@@ -97,7 +98,7 @@ is_seen policy asker topic =
     is_yes policy (question_of asker.principal asker.host Describe Topic topic)
 
 abbrev pub topic_text : List ℕ → List ℕ
-topic_text topic = codes " " ++ bytes_text topic
+topic_text topic = codes " " ++ name_text topic
 
 -- a topic that a principal may describe, and nothing for another one
 abbrev pub seen_text : Policy → Asker → List ℕ → List ℕ

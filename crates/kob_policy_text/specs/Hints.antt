@@ -7,7 +7,7 @@ use Rattle.kob_names.specs.Same.{same_resource, same_text}
 use Rattle.kob_names.specs.declared.verdict.Verdict.{Verdict}
 use Rattle.kob_names.specs.declared.verdict.Verdict.TheVariants.{AllowedBy, DeniedBy, NoAclFound, NoAllow, Super}
 use Rattle.kob_policy_text.specs.Policy.{Policy}
-use Rattle.kob_words.specs.Words.{bytes_text}
+use Rattle.kob_policy_text.specs.Quoted.{name_text}
 
 abbrev pub names : List ℕ → Binding → Bool
 names principal binding = same_text binding.principal principal
@@ -25,7 +25,7 @@ is_taken policy asked =
     list_any (takes asked) policy.bindings || list_any (takes asked) policy.closings
 
 unfoldable pub told_text : List ℕ → List ℕ → List ℕ
-told_text what name = what ++ bytes_text name ++ codes "\n"
+told_text what name = what ++ name_text name ++ codes "\n"
 
 -- a deny that decides is on the name
 abbrev pub untaken_text : Policy → Verdict → authorizer.Question → List ℕ

@@ -10,12 +10,14 @@ pub mod Lines
 pub mod Listing
 pub mod LogAnswers
 pub mod LogLines
+pub mod Moved
 pub mod Objects
 pub mod Options
 pub mod Outcomes
 pub mod Parties
 pub mod Policy
 pub mod Questions
+pub mod Quoted
 pub mod Reaches
 pub mod Releases
 pub mod Removable

@@ -5,7 +5,7 @@ use Rattle.std.specs.List.{list_any}
 use Rattle.kob_authorizer.specs.Decide as authorizer
 use Rattle.kob_names.specs.Binding.{is_granted}
 use Rattle.kob_names.specs.declared.verdict.Verdict.{Verdict}
-use Rattle.kob_words.specs.Words.{bytes_text}
+use Rattle.kob_policy_text.specs.Quoted.{name_text}
 use Rattle.kob_policy_text.specs.Access.{check_of, is_other_answer, question_on}
 use Rattle.kob_policy_text.specs.Answers.{answer_text, line_at, right_text}
 use Rattle.kob_policy_text.specs.LogLines.{Log, log_of}
@@ -35,8 +35,8 @@ was_text false = codes " was denied, now "
 unfoldable pub place_text : Entry → List ℕ
 place_text entry =
     codes "  line " ++ decimal entry.line ++ codes " "
-    ++ bytes_text entry.recorded.asker.principal ++ codes " "
-    ++ bytes_text entry.recorded.asker.host ++ codes " "
+    ++ name_text entry.recorded.asker.principal ++ codes " "
+    ++ name_text entry.recorded.asker.host ++ codes " "
 
 unfoldable pub otherwise_line : Policy → Entry → List ℕ
 otherwise_line policy entry =

@@ -1,5 +1,6 @@
 -- Questions, a line each.
-use Rattle.std.specs.Prelude.{◌+◌, ℕ, List, [], ◌∷◌, ◌++◌, Bool, true, false, not, ◌&&◌, is_some, Option, Some, None, Result, Ok, Err, codes, if◌then◌else◌, ok_or}
+use Rattle.std.specs.List.{list_any}
+use Rattle.std.specs.Prelude.{◌+◌, ◌==◌, ◌||◌, ℕ, List, [], ◌∷◌, ◌++◌, Bool, true, false, not, ◌&&◌, is_some, Option, Some, None, Result, Ok, Err, codes, if◌then◌else◌, ok_or}
 use Rattle.std.specs.Str.{bytes_eq}
 use Rattle.kob_rights.specs.declared.event.Event.{Event}
 use Rattle.kob_rights.specs.declared.request.Request.TheVariants.{Produce, OffsetCommit}
@@ -7,7 +8,7 @@ use Rattle.kob_script.specs.CommandLines.{events_of}
 use Rattle.kob_script.specs.declared.fault.FaultKind.{FaultKind}
 use Rattle.kob_script.specs.declared.fault.FaultKind.TheVariants.{BadLine, BadWord}
 use Rattle.kob_script.specs.declared.fault.Fault.{Fault}
-use Rattle.kob_script.specs.Words.{◌>>=◌, text_of, principal_of, host_of, Word, words_of}
+use Rattle.kob_script.specs.Words.{◌>>=◌, each, text_of, principal_of, host_of, Word, word_of, words_of}
 use Rattle.kob_script.specs.Script.{lines_in}
 use Rattle.kob_names.specs.Same.{same_resource, same_text}
 use Rattle.kob_names.specs.declared.kinds.ResourceKind.{ResourceKind}
@@ -23,6 +24,7 @@ use Rattle.kob_policy_text.specs.declared.question.Question.TheVariants.{May, Ex
 use Rattle.kob_policy_text.specs.declared.question.Right.{Right}
 use Rattle.kob_policy_text.specs.Lines.{only_event}
 use Rattle.kob_policy_text.specs.Listing.{known_operation, known_resource, trimmed}
+use Rattle.kob_policy_text.specs.Shell.{shell_words}
 
 unfoldable pub host_in : Word → Result (List ℕ) FaultKind
 host_in word = text_of word >>= host_of
@@ -266,8 +268,40 @@ with_words are_names line so_far (first ∷ words) =
     else (if is_word first (codes "topic") then topic_words so_far words
     else with_question line so_far first words)
 
+-- a quote or a backslash
+abbrev pub is_quoting : ℕ → Bool
+is_quoting byte = byte == 34 || byte == 39 || byte == 92
+
+abbrev pub has_quotes : List ℕ → Bool
+has_quotes line = list_any is_quoting line
+
+-- a line of questions is no options of a tool
+abbrev pub or_bad_line : Result (List (List ℕ)) FaultKind → Result (List (List ℕ)) FaultKind
+or_bad_line (Ok texts) = Ok texts
+or_bad_line (Err kind) = Err BadLine
+
+-- the words of a line as a shell cuts it, and then with their escapes read
+unfoldable pub unquoted_words : List ℕ → Result (List Word) FaultKind
+unquoted_words line = or_bad_line (shell_words line) >>= λ texts. each word_of texts
+
+-- a line of which nothing is between its blanks, or that is skipped, has no words
+abbrev pub unquoted : List ℕ → List Word → Result (List Word) FaultKind
+unquoted line [] = Ok []
+unquoted line (word ∷ words) = unquoted_words line
+
+-- the words of a line, in which quotes are read as a shell reads them
+abbrev pub words_in : Bool → List ℕ → Result (List Word) FaultKind
+words_in true line = words_of line >>= unquoted line
+words_in false line = words_of line
+
+-- what the words of a line add, once they are read
+abbrev pub with_read : Bool → List ℕ → Questions → Result (List Word) FaultKind
+    → Result Questions FaultKind
+with_read are_names line so_far read = read >>= with_words are_names line so_far
+
 unfoldable pub with_line : Bool → Questions → List ℕ → Result Questions FaultKind
-with_line are_names so_far line = words_of line >>= with_words are_names line so_far
+with_line are_names so_far line =
+    with_read are_names line so_far (words_in (has_quotes line) line)
 
 abbrev pub then_lines : ℕ → Result Questions FaultKind → (Questions → Result Questions Fault)
     → Result Questions Fault

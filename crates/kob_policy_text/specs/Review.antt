@@ -32,7 +32,8 @@ use Rattle.kob_policy_text.specs.declared.question.Query.{Query}
 use Rattle.kob_policy_text.specs.declared.question.Question.{Question}
 use Rattle.kob_policy_text.specs.declared.question.Question.TheVariants.{May, Expect, Who, WhoConsumes, WhoBelow, Rights, Sees, Summary, Unused, Shadowed, Removable}
 use Rattle.kob_policy_text.specs.declared.question.Right.{Right}
-use Rattle.kob_words.specs.Words.{bytes_text, operation_name, resource_name}
+use Rattle.kob_words.specs.Words.{operation_name, resource_name}
+use Rattle.kob_policy_text.specs.Quoted.{name_text}
 
 -- why no answer needs a binding
 abbrev pub why_text : Reason → List ℕ
@@ -96,7 +97,7 @@ who_text policy right None = granted_text policy right
 unfoldable pub right_line : Right → List ℕ
 right_line right =
     codes "  " ++ operation_name right.operation ++ codes " " ++ resource_name right.resource
-    ++ codes " " ++ bytes_text right.name ++ codes "\n"
+    ++ codes " " ++ name_text right.name ++ codes "\n"
 
 abbrev pub grants_text : Policy → Right → List ℕ
 grants_text policy right = right_line right ++ granted_text policy right
@@ -129,7 +130,7 @@ change_line change =
 -- a super user on one side alone
 unfoldable pub super_line : List ℕ → List (List ℕ) → List ℕ → List ℕ
 super_line what others user =
-    if is_super others user then [] else codes "super " ++ bytes_text user ++ what
+    if is_super others user then [] else codes "super " ++ name_text user ++ what
 
 abbrev pub supers_text : Policy → Policy → List ℕ
 supers_text before after =

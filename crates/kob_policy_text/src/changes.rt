@@ -8,9 +8,10 @@ ghost use Rattle.kob_policy_text.specs.Review.{super_line, supers_text, target_t
 ghost use Rattle.kob_authorizer.specs.Decide.{is_super};
 
 use crate::judge::Judge;
+use crate::quoted::push_name;
 use kob_names::{Principal, Text};
 use kob_policy_review::{Change, Class, Names, Outcome, changes};
-use kob_words::{operation_name, push_bytes, resource_name};
+use kob_words::{operation_name, resource_name};
 use std::alloc::{AllocError, Global};
 
 /// A principal or a host, or the word for all others.
@@ -19,7 +20,7 @@ pub fn push_party(out: &mut Vec<u8>, all: &[u8], party: &Option<Text>) -> Result
 {
     match party {
         None => out.extend_from_slice(all),
-        Some(party) => push_bytes(out, party.as_str().as_bytes()),
+        Some(party) => push_name(out, party.as_str()),
     }
 }
 
@@ -29,9 +30,9 @@ pub fn push_names(out: &mut Vec<u8>, names: &Names) -> Result<(), AllocError>
     ensures { OnOk result (out.new.items ≡ out.old.items ++ names_text names.now) }
 {
     match names {
-        Names::Exactly(name) => push_bytes(out, name.as_str().as_bytes()),
+        Names::Exactly(name) => push_name(out, name.as_str()),
         Names::Below(start) => {
-            push_bytes(out, start.as_str().as_bytes())?;
+            push_name(out, start.as_str())?;
             out.extend_from_slice(b"* (others)")
         }
     }
@@ -107,7 +108,7 @@ fn push_super(
         return Ok(());
     }
     out.extend_from_slice(b"super ")?;
-    push_bytes(out, user.as_str().as_bytes())?;
+    push_name(out, user.as_str())?;
     out.extend_from_slice(what)
 }
 

@@ -56,7 +56,7 @@ fn exactly(alloc: Global, binding: &Binding) -> Result<BindingFilter, AllocError
 
 /// Whether an equal binding is in force.
 #[tactic(auto, using(crate::proofs::Doing::found_among))]
-fn is_among(alloc: Global, rules: &Authorizer, binding: &Binding) -> Result<bool, AllocError>
+pub fn is_among(alloc: Global, rules: &Authorizer, binding: &Binding) -> Result<bool, AllocError>
     ensures { IfOk result (λ is. is ≡ is_among rules.now.contents.entries binding.now) }
 {
     let filter = exactly(alloc, binding)?;

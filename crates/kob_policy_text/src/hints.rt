@@ -5,8 +5,8 @@ ghost use Rattle.kob_policy_text.specs.Hints.{told_text, unnamed_text, untaken_t
 
 use crate::asked::Asked;
 use crate::judge::Judge;
+use crate::quoted::push_name;
 use kob_names::{Principal, Verdict};
-use kob_words::push_bytes;
 use std::alloc::AllocError;
 
 #[tactic(auto, using(kob_words::proofs::Appending::appending), unfolding(crate::specs::Hints::told_text))]
@@ -14,7 +14,7 @@ fn push_told(out: &mut Vec<u8>, what: &[u8], name: &str) -> Result<(), AllocErro
     ensures { OnOk result (out.new.items ≡ out.old.items ++ told_text what.now name.now) }
 {
     out.extend_from_slice(what)?;
-    push_bytes(out, name.as_bytes())?;
+    push_name(out, name)?;
     out.extend_from_slice(b"\n")
 }
 

@@ -22,6 +22,7 @@ mod listing;
 mod log_answer;
 mod log_line;
 mod log_reading;
+mod moved;
 mod objects;
 mod options;
 mod origin;
@@ -33,6 +34,7 @@ mod printed;
 mod properties;
 mod question;
 mod question_words;
+mod quoted;
 mod reaches;
 mod reading;
 mod release;
@@ -67,6 +69,7 @@ pub use log_answer::{
 };
 pub use log_line::Recorded;
 pub use log_reading::{Entry, Log, read_log};
+pub use moved::print_moved;
 pub use origin::{Omission, Origin};
 pub use policy::Policy;
 pub use question::{

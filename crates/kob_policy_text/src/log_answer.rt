@@ -18,10 +18,11 @@ use crate::judge::{Judge, deciding};
 use crate::log_line::Recorded;
 use crate::log_reading::{Entry, Log, read_log};
 use crate::printed::{push_answer, push_line_at, push_right};
+use crate::quoted::push_name;
 use crate::rights::{check_of, on};
 use crate::summary::push_count;
 use kob_names::Verdict;
-use kob_words::{push_bytes, push_number};
+use kob_words::push_number;
 use std::alloc::{AllocError, Global};
 use std::collections::HashSet;
 
@@ -65,9 +66,9 @@ fn push_place(out: &mut Vec<u8>, entry: &Entry) -> Result<(), AllocError>
     out.extend_from_slice(b"  line ")?;
     push_number(out, entry.line)?;
     out.extend_from_slice(b" ")?;
-    push_bytes(out, entry.recorded.asker.principal.as_str().as_bytes())?;
+    push_name(out, entry.recorded.asker.principal.as_str())?;
     out.extend_from_slice(b" ")?;
-    push_bytes(out, entry.recorded.asker.host.as_str().as_bytes())?;
+    push_name(out, entry.recorded.asker.host.as_str())?;
     out.extend_from_slice(b" ")
 }
 

@@ -12,8 +12,9 @@ use crate::asked::Asked;
 use crate::item::LeftOut;
 use crate::judge::{Judge, deciding};
 use crate::origin::{Omission, Origin};
+use crate::quoted::{push_binding, push_name};
 use kob_names::{Binding, Verdict};
-use kob_words::{operation_name, print_binding, push_bytes, push_number, resource_name};
+use kob_words::{operation_name, push_bytes, push_number, resource_name};
 use std::alloc::AllocError;
 
 #[tactic(auto, using(kob_words::proofs::Appending::appending))]
@@ -107,7 +108,7 @@ fn push_binding_line(
         ++ binding_line serial binding.now (option_copied origin.entry)) }
 {
     out.extend_from_slice(b"  ")?;
-    print_binding(out, serial, binding)?;
+    push_binding(out, serial, binding)?;
     push_origin_behind(out, origin)?;
     out.extend_from_slice(b"\n")
 }
@@ -157,7 +158,7 @@ pub fn push_right(out: &mut Vec<u8>, asked: &Asked<'_>) -> Result<(), AllocError
     out.extend_from_slice(b" ")?;
     out.extend_from_slice(resource_name(asked.resource).as_bytes())?;
     out.extend_from_slice(b" ")?;
-    push_bytes(out, asked.name.as_bytes())
+    push_name(out, asked.name)
 }
 
 fn left_out_word(what: LeftOut) -> &'static str

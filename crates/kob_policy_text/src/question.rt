@@ -1,14 +1,20 @@
 //! Questions, a line each.
 
-ghost use Rattle.std.specs.Prelude.{◌≡◌, []};
+ghost use Rattle.std.specs.Prelude.{◌≡◌, [], false, true};
 ghost use Rattle.kob_policy_text.specs.Policy.{IsRead};
-ghost use Rattle.kob_policy_text.specs.Questions.{topic_words, with_line, with_lines, with_question};
-ghost use Rattle.kob_policy_text.specs.Questions.{with_questions, with_topics, with_words};
-ghost use Rattle.kob_script.specs.Words.{GivesSeen};
+ghost use Rattle.kob_policy_text.specs.Questions.{has_quotes, is_quoting, topic_words};
+ghost use Rattle.kob_policy_text.specs.Questions.{unquoted_words, with_line, with_lines};
+ghost use Rattle.kob_policy_text.specs.Questions.{with_question, with_questions, with_topics};
+ghost use Rattle.kob_policy_text.specs.Questions.{with_words, words_in};
+ghost use Rattle.kob_policy_text.specs.Questions.{or_bad_line, with_read};
+ghost use Rattle.kob_policy_text.specs.Shell as shells;
+ghost use Rattle.kob_script.specs.Words.{GivesSeen, each, word_of};
+ghost use Rattle.std.specs.List.{list_any};
 
 use crate::pieces::trimmed;
 use crate::question_words::{is_word, question_by};
 use crate::reading::fault_at;
+use crate::shell::shell_words;
 use bstr::ByteSlice;
 use kob_names::{Bytes, Host, Operation, Principal, ResourceKind, Text};
 use kob_rights::Request;
@@ -182,6 +188,84 @@ fn add_words(
     }
 }
 
+fn is_quoting(byte: u8) -> bool
+    ensures { result ≡ is_quoting byte }
+{
+    byte == b'"' || byte == b'\'' || byte == b'\\'
+}
+
+fn has_quotes(line: &[u8]) -> bool
+    ensures { result ≡ has_quotes line.now }
+{
+    line.iter().any(|byte| is_quoting(*byte))
+}
+
+fn each_word(alloc: Global, texts: &[Bytes]) -> Result<Vec<Word<'_>>, LineError>
+    ensures { GivesSeen (λ words. words.items) result (each word_of texts.entry.now) }
+{
+    let mut words = Vec::with_capacity(alloc, texts.len())?;
+    for text in texts {
+        let word = Word::read(alloc, text.as_slice())?;
+        words.push(word)?;
+    }
+    Ok(words)
+}
+
+/// The words of a line as a shell cuts it.
+fn texts_of(alloc: Global, line: &[u8]) -> Result<Vec<Bytes>, LineError>
+    ensures { GivesSeen (λ texts. texts.items) result (or_bad_line (shells.shell_words line.now)) }
+{
+    match shell_words(alloc, line) {
+        Err(LineError::Fault(_)) => Err(LineError::Fault(FaultKind::BadLine)),
+        read => read,
+    }
+}
+
+/// The line is cut as a shell cuts it.
+#[tactic(auto, unfolding(crate::specs::Questions::unquoted_words))]
+fn add_unquoted(
+    alloc: Global,
+    questions: &mut Questions,
+    line: &[u8],
+    are_names: bool,
+) -> Result<(), LineError>
+    ensures { GivesSeen (λ _. questions.new) result
+        (with_read are_names line.now questions.old (unquoted_words line.now)) }
+{
+    let texts = texts_of(alloc, line)?;
+    let words = each_word(alloc, texts.as_slice())?;
+    add_words(alloc, questions, line, &words, are_names)
+}
+
+fn add_quoted(
+    alloc: Global,
+    questions: &mut Questions,
+    line: &[u8],
+    are_names: bool,
+) -> Result<(), LineError>
+    ensures { GivesSeen (λ _. questions.new) result
+        (with_read are_names line.now questions.old (words_in true line.now)) }
+{
+    let words = words_of(alloc, line)?;
+    match words.as_slice() {
+        [] => Ok(()),
+        [_, ..] => add_unquoted(alloc, questions, line, are_names),
+    }
+}
+
+fn add_plain(
+    alloc: Global,
+    questions: &mut Questions,
+    line: &[u8],
+    are_names: bool,
+) -> Result<(), LineError>
+    ensures { GivesSeen (λ _. questions.new) result
+        (with_read are_names line.now questions.old (words_in false line.now)) }
+{
+    let words = words_of(alloc, line)?;
+    add_words(alloc, questions, line, &words, are_names)
+}
+
 #[tactic(auto, unfolding(crate::specs::Questions::with_line))]
 fn add_line(
     alloc: Global,
@@ -192,8 +276,11 @@ fn add_line(
     ensures { GivesSeen (λ _. questions.new) result
         (with_line are_names questions.old line.now) }
 {
-    let words = words_of(alloc, line)?;
-    add_words(alloc, questions, line, &words, are_names)
+    if has_quotes(line) {
+        add_quoted(alloc, questions, line, are_names)
+    } else {
+        add_plain(alloc, questions, line, are_names)
+    }
 }
 
 /// Reads lines of names or of questions.
@@ -218,8 +305,10 @@ fn read_lines(
 }
 
 /// Reads questions, a line each, after those that were read before: `may`, `expect`, `who`, `rights`,
-/// `sees`, `summary`, `unused`, `shadowed` and `removable`, and `topic` with a name that is given. The error is
-/// the first line with a fault, or out of memory.
+/// `sees`, `summary`, `unused`, `shadowed` and `removable`, and `topic` with a name that is given. Quotes and
+/// backslashes are read as a POSIX shell reads them, and then `%` and two hexadecimal digits as a
+/// byte. The error is the first line with a fault, or out of memory: `BadLine` is also a quote that
+/// does not end, or a dollar or a backquote outside single quotes on a line that has quotes.
 pub fn read_questions(
     alloc: Global,
     questions: &mut Questions,

@@ -1,12 +1,12 @@
 //! Who may do what, and which topics a principal sees.
 
 ghost use Rattle.std.specs.Prelude.{◌≡◌, ◌++◌, IfOk, OnOk, codes, flat_map};
-ghost use Rattle.kob_words.specs.Words.{bytes_text};
 ghost use Rattle.kob_policy_review.specs.Difference.{names_all};
 ghost use Rattle.kob_policy_text.specs.Answers.{from_text, is_seen, seen_text, sees_text};
 ghost use Rattle.kob_policy_text.specs.Answers.{topic_text, topics_asked, who_line};
 ghost use Rattle.kob_policy_text.specs.Review.{grant_if_told, grant_line, granted_text, is_told};
 ghost use Rattle.kob_policy_text.specs.Parties.{super_grant};
+ghost use Rattle.kob_policy_text.specs.Quoted.{name_text};
 ghost use Rattle.kob_policy_text.specs.Review.{target_at, who_text};
 ghost use Rattle.kob_policy_text.specs.Review.{consumers_text, grants_text, right_line};
 
@@ -16,9 +16,10 @@ use crate::changes::push_party;
 use crate::judge::Judge;
 use crate::printed::push_reason;
 use crate::question::{Asker, Right};
+use crate::quoted::push_name;
 use kob_names::{Host, Operation, PlainValue, Principal, ResourceKind, Text};
 use kob_policy_review::{Answer, Names, Target, who};
-use kob_words::{operation_name, push_bytes, resource_name};
+use kob_words::{operation_name, resource_name};
 use std::alloc::{AllocError, Global};
 
 #[tactic(auto, using(kob_words::proofs::Appending::appending), unfolding(crate::specs::Answers::who_line))]
@@ -40,7 +41,7 @@ fn push_who_line(
         name: right.name.as_str(),
     };
     out.extend_from_slice(b"  ")?;
-    push_bytes(out, principal.as_str().as_bytes())?;
+    push_name(out, principal.as_str())?;
     out.extend_from_slice(b" ")?;
     push_reason(out, judge, judge.verdict(&asked))?;
     out.extend_from_slice(b"\n")
@@ -79,10 +80,10 @@ fn push_from(
 #[tactic(auto, using(kob_words::proofs::Appending::appending))]
 fn push_user(out: &mut Vec<u8>, user: &Principal, what: &[u8]) -> Result<(), AllocError>
     ensures { OnOk result (out.new.items
-        ≡ out.old.items ++ (codes "  " ++ bytes_text user.now ++ what.now)) }
+        ≡ out.old.items ++ (codes "  " ++ name_text user.now ++ what.now)) }
 {
     out.extend_from_slice(b"  ")?;
-    push_bytes(out, user.as_str().as_bytes())?;
+    push_name(out, user.as_str())?;
     out.extend_from_slice(what)
 }
 
@@ -201,7 +202,7 @@ fn push_right_line(out: &mut Vec<u8>, right: &Right) -> Result<(), AllocError>
     out.extend_from_slice(b" ")?;
     out.extend_from_slice(resource_name(right.resource).as_bytes())?;
     out.extend_from_slice(b" ")?;
-    push_bytes(out, right.name.as_str().as_bytes())?;
+    push_name(out, right.name.as_str())?;
     out.extend_from_slice(b"\n")
 }
 
@@ -252,7 +253,7 @@ fn push_topic(out: &mut Vec<u8>, topic: &Text) -> Result<(), AllocError>
     ensures { OnOk result (out.new.items ≡ out.old.items ++ topic_text topic.now) }
 {
     out.extend_from_slice(b" ")?;
-    push_bytes(out, topic.as_str().as_bytes())
+    push_name(out, topic.as_str())
 }
 
 fn push_topics(
