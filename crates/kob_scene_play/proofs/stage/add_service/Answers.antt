@@ -6,7 +6,7 @@ pub returns-in-Ok : goal.returns-in-Ok
 returns-in-Ok c =
     let all = c.args.all.now.items in
     let played : PlayedService = record { name = c.args.service.name; service = c.in-Ok.service } in
-    let opened : c.in-Ok.service ≡ (declared_service c.args.service).service = rw c.into_target.ensures.value at c.in-Ok.ensures in
+    let opened : c.in-Ok.service ≡ (declared_service c.args.service).service = rw c.into_target-target.ensures.value at c.in-Ok.ensures in
     let named : Service → NamedService = λ service. record { name = c.args.service.name; service = service } in
     ap (map named_service) (c.push_reserved.ensures.items ∙ ap (λ xs. xs ++ played ∷ []) c.reserve.ensures.items)
     ∙ map-append named_service all (played ∷ []) ∙ ap (λ service. map named_service all ++ named service ∷ []) opened
