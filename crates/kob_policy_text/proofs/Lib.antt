@@ -12,4 +12,5 @@ pub mod Passing
 pub mod Placing
 pub mod Recording
 pub mod Stages
+pub mod Standing
 pub mod Taken

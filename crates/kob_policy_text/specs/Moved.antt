@@ -1,9 +1,14 @@
 -- How the bindings are printed that one policy has and another lacks.
-use Rattle.std.specs.Prelude.{ℕ, List, [], ◌∷◌, ◌++◌, Some, codes, flat_map, if◌then◌else◌}
-use Rattle.kob_names.specs.Binding.{Binding}
+use Rattle.std.specs.Prelude.{ℕ, Bool, false, List, [], ◌∷◌, ◌++◌, Option, None, Some, codes, flat_map, if◌then◌else◌}
+use Rattle.kob_names.specs.Binding.{Binding, same_binding}
 use Rattle.kob_policy_text.specs.Answers.{line_by}
 use Rattle.kob_policy_text.specs.Policy.{Policy, contents_of}
 use Rattle.kob_policy_text.specs.Steps.{is_among}
+
+-- what stands at a place is equal to a binding
+abbrev pub is_equal : Binding → Option (ℕ × Binding) → Bool
+is_equal binding None = false
+is_equal binding (Some entry) = same_binding binding entry.1
 
 -- the line of a binding, unless the others have an equal one
 unfoldable pub moved_line : Policy → List (ℕ × Binding) → ℕ × Binding → List ℕ

@@ -39,7 +39,7 @@ fn pattern_of(kind: PatternKind) -> FilterPattern
 }
 
 /// A filter that takes equal bindings alone.
-fn exactly(alloc: Global, binding: &Binding) -> Result<BindingFilter, AllocError>
+pub fn exactly(alloc: Global, binding: &Binding) -> Result<BindingFilter, AllocError>
     ensures { IfOk result (λ filter. filter ≡ exactly binding.now) }
 {
     let parts = binding.parts();
@@ -56,7 +56,7 @@ fn exactly(alloc: Global, binding: &Binding) -> Result<BindingFilter, AllocError
 
 /// Whether an equal binding is in force.
 #[tactic(auto, using(crate::proofs::Doing::found_among))]
-pub fn is_among(alloc: Global, rules: &Authorizer, binding: &Binding) -> Result<bool, AllocError>
+fn is_among(alloc: Global, rules: &Authorizer, binding: &Binding) -> Result<bool, AllocError>
     ensures { IfOk result (λ is. is ≡ is_among rules.now.contents.entries binding.now) }
 {
     let filter = exactly(alloc, binding)?;

@@ -1,32 +1,109 @@
 //! The bindings that one policy has and another lacks.
 
-ghost use Rattle.std.specs.Prelude.{◌≡◌, ◌++◌, OnOk, flat_map};
-ghost use Rattle.kob_policy_text.specs.Moved.{alone_text, headed, moved_line, moved_text};
+ghost use Rattle.std.specs.Prelude.{◌≡◌, ◌==◌, ◌++◌, IfOk, OnOk, flat_map, is_some, length, not};
+ghost use Rattle.std.specs.Prelude.{slice_get};
+ghost use Rattle.kob_policy_text.specs.Moved.{alone_text, headed, is_equal, moved_line};
+ghost use Rattle.kob_policy_text.specs.Moved.{moved_text};
 ghost use Rattle.kob_policy_text.specs.Policy.{contents_of};
+ghost use Rattle.kob_policy_text.specs.Steps.{is_among};
 
-use crate::commands::is_among;
+use crate::commands::exactly;
 use crate::judge::Judge;
 use crate::printed::push_line_by;
 use kob_authorizer::Authorizer;
 use kob_names::Binding;
 use std::alloc::{AllocError, Global};
 
-/// The line of a binding, unless the others have an equal one.
+/// Whether an equal binding stands at a place.
+fn stands_at(others: &[(u64, Binding)], place: usize, binding: &Binding) -> bool
+    ensures { result ≡ is_equal binding.now (slice_get others.now place) }
+{
+    match others.get(place) {
+        None => false,
+        Some(entry) => binding.equals(&entry.1),
+    }
+}
+
+/// The place of the first of the entries that were found, or 0.
+fn place_of(others: &[(u64, Binding)], found: &[(u64, Binding)]) -> usize {
+    let serial = found.first().map_or(0, |entry| entry.0);
+    others
+        .binary_search_by_key(&serial, |entry| entry.0)
+        .unwrap_or(0)
+}
+
+/// The entries with an equal binding, by a look-up of its name.
+#[tactic(auto, using(crate::proofs::Doing::found_among))]
+fn equals_of(
+    alloc: Global,
+    others: &Authorizer,
+    binding: &Binding,
+) -> Result<Vec<(u64, Binding)>, AllocError>
+    ensures { IfOk result (λ found. is_among others.now.contents.entries binding.now
+        ≡ not (length found.items == 0)) }
+{
+    let filter = exactly(alloc, binding)?;
+    let found = others.describe(alloc, &filter)?;
+    drop(filter);
+    Ok(found)
+}
+
+/// Where an equal binding is among the others.
+fn found_at(
+    alloc: Global,
+    others: &Authorizer,
+    binding: &Binding,
+) -> Result<Option<usize>, AllocError>
+    ensures { IfOk result (λ at. is_some at ≡ is_among others.now.contents.entries binding.now) }
+{
+    let found = equals_of(alloc, others, binding)?;
+    let place = place_of(others.entries(), found.as_slice());
+    Ok(place_if(!found.is_empty(), place))
+}
+
+fn place_if(is_there: bool, place: usize) -> Option<usize>
+    ensures { is_some result ≡ is_there }
+{
+    if is_there { Some(place) } else { None }
+}
+
+/// Where an equal binding is among the others. It is looked for first at a place: lists that are
+/// compared have most bindings in one order.
+#[tactic(auto, using(crate::proofs::Standing::stands_among))]
+fn place_among(
+    alloc: Global,
+    others: &Authorizer,
+    first: usize,
+    binding: &Binding,
+) -> Result<Option<usize>, AllocError>
+    ensures { IfOk result (λ at. is_some at ≡ is_among others.now.contents.entries binding.now) }
+{
+    if stands_at(others.entries(), first, binding) {
+        return Ok(Some(first));
+    }
+    found_at(alloc, others, binding)
+}
+
+/// The line of a binding, unless the others have an equal one. Returns where the next one may be.
 #[tactic(auto, unfolding(crate::specs::Moved::moved_line))]
 fn push_moved(
     alloc: Global,
     out: &mut Vec<u8>,
     judge: &Judge,
     others: &Authorizer,
+    first: usize,
     entry: &(u64, Binding),
-) -> Result<(), AllocError>
+) -> Result<usize, AllocError>
     ensures { OnOk result (out.new.items ≡ out.old.items
         ++ moved_line judge.now others.now.contents.entries entry.now) }
 {
-    if is_among(alloc, others, &entry.1)? {
-        return Ok(());
+    match place_among(alloc, others, first, &entry.1)? {
+        Some(place) => Ok(place.saturating_add(1)),
+        None => {
+            push_line_by(out, judge, entry.0)?;
+            Ok(first)
+        }
     }
-    push_line_by(out, judge, entry.0)
 }
 
 fn push_lines(
@@ -39,8 +116,9 @@ fn push_lines(
     ensures { OnOk result (out.new.items ≡ out.old.items
         ++ flat_map (moved_line judge.now others.now.contents.entries) entries.now) }
 {
+    let mut next = 0;
     for entry in entries {
-        push_moved(alloc, out, judge, others, entry)?;
+        next = push_moved(alloc, out, judge, others, next, entry)?;
     }
     Ok(())
 }
