@@ -15,7 +15,7 @@ of the first part alone. COLUMN is one or more of (none: seconds and memory)
 
 --only takes the workloads with WORD in their name. PROGRAM is crates/kob_run/out/kob_run if none is given, as `rt run` in
 crates/kob_run builds it. --jobs measures N kinds of work side by side, which changes no count of instructions, bytes or allocations. --write puts the table into bench/README.md, with the commit, the date and the machine.
-Seconds are the least of at least five runs, of programs in turn. No contract speaks of cost; docs/DECISIONS.md has the goals.
+Seconds are the least of at least five runs, of programs in turn, or of those that 60 seconds allow. No contract speaks of cost; docs/DECISIONS.md has the goals.
 """
 import argparse
 import concurrent.futures
@@ -35,7 +35,7 @@ TOP = pathlib.Path(__file__).resolve().parent.parent
 README = TOP / "bench" / "README.md"
 BEGIN, END = "<!-- begin: bench/measure.py --write -->\n", "<!-- end -->\n"
 COLUMNS = ("seconds", "memory", "instructions", "allocations", "peer")
-RUNS, SECONDS = 5, 2
+RUNS, SECONDS, MOST = 5, 2, 60
 ROOT = "User:root h"
 # 24 bytes behind which any eight bytes hash alike under a hasher with a fixed seed, and 24 others.
 PICKED, OTHERS = "outbox.evenabvqmf.SXhkB1", "outbox.event.abvqmfSXhkB"
@@ -175,8 +175,10 @@ def run(program, script):
 def least(pairs):
     """The least numbers of each pair of a program and a script, which are run in turn."""
     rounds = []
-    while len(rounds) < RUNS or sum(found[0] for made in rounds for found in made) < SECONDS:
+    spent = 0
+    while (len(rounds) < RUNS or spent < SECONDS) and spent < MOST:
         rounds.append([run(program, script) for program, script in pairs])
+        spent += sum(found[0] for found in rounds[-1])
     return [tuple(min(column) for column in zip(*of_one)) for of_one in zip(*rounds)]
 
 
@@ -232,9 +234,12 @@ def peer(programs, workload):
         sys.exit(f"{workload[0]}: the programs print different replies")
     (ready, *_), (other_ready, *_), (ours, *_), (other, *_) = least([(it, script) for script in (before, whole) for it in programs])
     ours, other = ours - ready, other - other_ready
+    beside = [f"{other:.3f}", times(ours, other)]
+    if max(ready, other_ready) > SECONDS:
+        return [*beside, "", "", ""]  # (what is there before would take an hour to count)
     n = max(1, workload[1] // 10)
     counts = [collected(it, workload, n) / n for it in programs]
-    return [f"{other:.3f}", times(ours, other), *(f"{it:,.0f}" for it in counts), times(*counts)]
+    return [*beside, *(f"{it:,.0f}" for it in counts), times(*counts)]
 
 
 def times(ours, other):
