@@ -243,7 +243,8 @@ def peer(programs, workload):
 
 
 def times(ours, other):
-    return f"{ours / other:.2f}" if ours > 0 and other > 0 else ""
+    ratio = ours / other if ours > 0 and other > 0 else 0
+    return (f"{ratio:.2f}" if ratio >= 0.1 else f"{ratio:.2g}") if ratio else ""
 
 
 def mean(cells):
