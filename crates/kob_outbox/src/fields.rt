@@ -1,7 +1,7 @@
 //! Which texts the tables may have.
 
 ghost use Rattle.std.specs.Prelude.{◌≡◌};
-ghost use Rattle.kob_outbox.specs.Contents.{first_bad, fits as fits_in};
+ghost use Rattle.kob_outbox.specs.Contents.{first_bad, first_bad_of_change, fits as fits_in};
 
 use crate::change::Change;
 use crate::event::OutboxEvent;
@@ -33,9 +33,9 @@ fn fits(most: usize, text: &str) -> bool
     text.len() <= most && memchr(0, text.as_bytes()).is_none()
 }
 
-/// The first column whose text is too long or has a zero byte.
-pub(crate) fn bad_field(change: &Change, event: &OutboxEvent) -> Option<Column>
-    ensures { result ≡ first_bad change.now event.now }
+/// The first column of a business row whose text is too long or has a zero byte.
+pub(crate) fn bad_change(change: &Change) -> Option<Column>
+    ensures { result ≡ first_bad_of_change change.now }
 {
     if !fits(NAME_BYTES_LIMIT, &change.kind) {
         Some(Column::Kind)
@@ -43,6 +43,17 @@ pub(crate) fn bad_field(change: &Change, event: &OutboxEvent) -> Option<Column>
         Some(Column::Id)
     } else if !fits(TEXT_BYTES_LIMIT, &change.state) {
         Some(Column::State)
+    } else {
+        None
+    }
+}
+
+/// The first column whose text is too long or has a zero byte.
+pub(crate) fn bad_field(change: &Change, event: &OutboxEvent) -> Option<Column>
+    ensures { result ≡ first_bad change.now event.now }
+{
+    if let Some(column) = bad_change(change) {
+        Some(column)
     } else if !fits(NAME_BYTES_LIMIT, &event.aggregate_type) {
         Some(Column::AggregateType)
     } else if !fits(NAME_BYTES_LIMIT, &event.aggregate_id) {

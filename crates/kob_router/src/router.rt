@@ -80,6 +80,17 @@ impl Router {
         self.sender.tick(alloc, outbox, line)
     }
 
+    /// The number of the row in flight: it was sent, or was to be sent, and is not acknowledged.
+    /// Does not allocate.
+    pub fn in_flight(&self) -> Option<u64>
+        ensures { result ≡ option_map (λ held. held.row.seq) self.now.hand }
+    {
+        match &self.sender.hand {
+            Some(held) => Some(held.row.seq),
+            None => None,
+        }
+    }
+
     /// Forgets the row in flight, the producer id and all sequences, as a service that restarts
     /// does. Then the next step asks for a producer id, and the broker cannot recognise the row
     /// that was in flight: it may get it twice. Does not allocate.
