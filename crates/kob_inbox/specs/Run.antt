@@ -1,5 +1,5 @@
 -- What a consumer may do to a broker and an inbox.
-use Rattle.std.specs.Prelude.{ℕ, zero, suc, List, [], ◌∷◌, ◌++◌, true, if◌then◌else◌, Option, None, Some, ◌≡◌, ◌+◌, ◌%◌, ◌≤◌, length, take, false, slice_get, unwrap_or}
+use Rattle.std.specs.Prelude.{ℕ, zero, suc, List, [], ◌∷◌, ◌++◌, true, if◌then◌else◌, Option, None, Some, ◌≡◌, ◌+◌, ◌%◌, ◌≤◌, length, option_map, take, false, slice_get, unwrap_or}
 use Rattle.kob_router.specs.declared.place.Place.{Place}
 use Rattle.kob_router.specs.Run.{same_place}
 use Rattle.kob_inbox.specs.declared.cursors.Cursor.{Cursor}
@@ -82,6 +82,11 @@ due t place (Some c) =
       offset = c.position;
       max = t.max;
     })
+
+-- what is due on the partition that has the turn, where there is one
+abbrev pub due_now : Subscription → List Cursor → ℕ → Option Request
+due_now t cursors turn =
+    option_map (λ place. due t place (standing (cursor_of cursors place))) (slice_get t.assignment turn)
 
 -- the request is the one that is due on the partition that has the turn
 pub record IsDue (t : Subscription) (s : State) (request : Request) : Type 0 where

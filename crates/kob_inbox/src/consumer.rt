@@ -1,12 +1,13 @@
 //! A consumer of partitions that it assigned to itself.
 
 use crate::cursors::standing_of;
-use crate::fetcher::{Fetcher, Subscription};
+use crate::fetcher::{Fetcher, Subscription, place_on};
 use crate::inbox::Inbox;
 use crate::tick::Tick;
-use kob_names::{Items, Text};
+use kob_names::{Items, PlainValue, Text};
+use kob_rights::{Body, Request};
 use kob_router::{Line, Place};
-use std::alloc::Global;
+use std::alloc::{AllocError, Global};
 use std::marker::Model;
 
 /// Takes the records of its partitions into an inbox, and commits its positions for its group after
@@ -31,11 +32,12 @@ impl Model for Consumer {
 }
 
 impl Consumer {
-    ghost use Rattle.std.specs.Prelude.{◌≡◌, [], option_map};
+    ghost use Rattle.std.specs.Prelude.{◌≡◌, [], IfOk, IfSome, OnErr, option_map};
     ghost use Rattle.kob_inbox.specs.Contents.{Contents};
-    ghost use Rattle.kob_inbox.specs.Run.{after, cursor_of, standing};
+    ghost use Rattle.kob_inbox.specs.Run.{after, cursor_of, due_now, standing};
     ghost use Rattle.kob_inbox.specs.Run.Move.{Restarted};
-    ghost use Rattle.kob_inbox.specs.Tick.{Ticks, point_of, state_of};
+    ghost use Rattle.kob_inbox.specs.Tick.{Hears, Ticks, point_of, state_of};
+    ghost use Rattle.kob_rights.specs.Requests.{BodyWithin, IsBodyOf};
 
     /// A consumer that knows no position. The first assigned partition has the first turn; one that
     /// is assigned twice has two turns and one position. A FETCH asks for at most `max` records, of
@@ -76,6 +78,53 @@ impl Consumer {
         ensures line { L.becomes line.old line.new }
     {
         self.fetcher.tick(alloc, inbox, line)
+    }
+
+    /// The request that the next step makes. None if no partition is assigned. The error is out of
+    /// memory.
+    pub fn due(&self, alloc: Global) -> Result<Option<Request>, AllocError>
+        ensures { IfOk result (λ request. request
+            ≡ due_now self.now.subscription self.now.cursors.items self.now.turn) }
+    {
+        let assignment = self.fetcher.subscription.assignment.as_slice();
+        let Some(place) = place_on(assignment, self.fetcher.turn) else {
+            return Ok(None);
+        };
+        let stood = standing_of(&self.fetcher.cursors, place);
+        Ok(Some(self.fetcher.due(alloc, place, stood)?))
+    }
+
+    /// Handles the body of a reply to the request that is due, as a step does that received it. The
+    /// error is out of memory.
+    pub fn hear(&mut self, alloc: Global, inbox: &mut Inbox, body: Body) -> Result<Tick, AllocError>
+        requires fits { IfSome (due_now self.old.subscription self.old.cursors.items self.old.turn)
+            (λ request. IsBodyOf request body) }
+        requires within { BodyWithin body }
+        ensures same { self.new.subscription ≡ self.old.subscription }
+        ensures done { IfOk result (λ tick.
+            IfSome (due_now self.old.subscription self.old.cursors.items self.old.turn)
+            (λ request. Hears self.old.subscription (state_of self.old inbox.old)
+            (state_of self.new inbox.new) request body tick)) }
+        ensures err { OnErr result (state_of self.new inbox.new ≡ state_of self.old inbox.old) }
+    {
+        let assignment = self.fetcher.subscription.assignment.as_slice();
+        let Some(assigned) = place_on(assignment, self.fetcher.turn) else {
+            drop(body);
+            return Ok(Tick::Idle);
+        };
+        let place = match assigned.copy(alloc) {
+            Ok(place) => place,
+            Err(refused) => {
+                drop(body);
+                return Err(refused);
+            }
+        };
+        let stood = standing_of(&self.fetcher.cursors, &place);
+        if let Err(refused) = self.fetcher.cursors.reserve(1) {
+            drop((place, body));
+            return Err(refused);
+        }
+        Ok(self.fetcher.hear(inbox, place, stood, body))
     }
 
     /// The group, the assigned partitions and the most records of a FETCH. Does not allocate.

@@ -124,7 +124,7 @@ impl Fetcher {
     }
 
     /// The request that is due on a partition.
-    fn due(
+    pub(crate) fn due(
         &self,
         alloc: Global,
         place: &Place,
@@ -161,7 +161,13 @@ impl Fetcher {
     }
 
     /// Handles the body of a reply that is done.
-    fn hear(&mut self, inbox: &mut Inbox, place: Place, stood: Option<Standing>, body: Body) -> Tick
+    pub(crate) fn hear(
+        &mut self,
+        inbox: &mut Inbox,
+        place: Place,
+        stood: Option<Standing>,
+        body: Body,
+    ) -> Tick
         requires turn { self.old.turn < length self.old.subscription.assignment }
         requires room { vec_len self.old.cursors < vec_capacity self.old.cursors }
         requires stands { standing (cursor_of self.old.cursors.items place) ≡ stood }
@@ -283,7 +289,7 @@ impl Fetcher {
 }
 
 /// The assigned partition that has the turn.
-fn place_on(assignment: &[Place], turn: usize) -> Option<&Place>
+pub(crate) fn place_on(assignment: &[Place], turn: usize) -> Option<&Place>
     ensures { MatchOption result (length assignment.now ≤ turn)
         (λ place. slice_get assignment.now turn ≡ Some place.now) }
 {
