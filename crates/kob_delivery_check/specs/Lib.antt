@@ -1,4 +1,5 @@
 pub mod Causes
+pub mod Doubles
 pub mod Fates
 pub mod Journaled
 pub mod Logs

@@ -2,6 +2,7 @@
 use Rattle.std.specs.Prelude.{ℕ, List, [], ◌++◌, Option, None, Some, codes, length, slice_get}
 use Rattle.std.specs.Fmt.{decimal}
 use Rattle.std.specs.List.{count_by, position}
+use Rattle.kob_delivery_check.specs.Doubles.{double_lines}
 use Rattle.kob_delivery_check.specs.Fates.{is_delivered, is_lost, is_waiting}
 use Rattle.kob_delivery_check.specs.PrintedOrder.{record_lines, row_lines}
 use Rattle.kob_delivery_check.specs.PrintedPieces.{counted, event_text, place_text}
@@ -51,5 +52,6 @@ check_text number journal events found assignment =
     head_text number found.fates.items ++ waits_text events found.fates.items assignment
     ++ lost_lines journal assignment events found.losses.items
     ++ doubled_lines journal assignment events found.repeats.items
+    ++ double_lines events found.doubled_rows.items
     ++ row_lines events found.early_rows.items
     ++ record_lines events assignment found.early_records.items

@@ -10,11 +10,13 @@ ghost use Rattle.kob_delivery_check.specs.Printed.{waits_text, where_text};
 use crate::cause::{Loss, event_at};
 use crate::fate::Fate;
 use crate::order::Early;
+use crate::printed_doubles::push_doubled_rows;
 use crate::printed_order::{push_records, push_rows};
 use crate::printed_pieces::{push_assigned, push_counted, push_event};
 use crate::printed_records::{push_doubles, push_losses};
 use crate::reach::Stored;
 use crate::record_order::EarlyRecord;
+use crate::row_doubles::DoubledRow;
 use kob_outbox::OutboxEvent;
 use kob_router::Place;
 use kob_shared::Journal;
@@ -124,12 +126,14 @@ fn lost(fates: &[Fate]) -> usize
 
 /// What a check found: where each event is that a service recorded, in their order; the lost events,
 /// each with its cause; the records of events in the consumer's partitions that have an earlier
-/// record of the same event; and the rows of the inbox and the records that are out of order.
+/// record of the same event; the rows of the inbox that have an earlier row of the same event; and
+/// the rows of the inbox and the records that are out of order.
 #[derive(Drop)]
 pub struct Found {
     pub fates: Vec<Fate>,
     pub losses: Vec<Loss>,
     pub repeats: Vec<Stored>,
+    pub doubled_rows: Vec<DoubledRow>,
     pub early_rows: Vec<Early>,
     pub early_records: Vec<EarlyRecord>,
 }
@@ -138,8 +142,9 @@ pub struct Found {
 /// ROW` with where for the first event that waits; a line `lost ID AGGREGATETYPE AGGREGATEID row ROW`
 /// for each event that is lost, with the place of its record and the entry of the journal that put it
 /// out of reach; a line `doubled ID AGGREGATETYPE AGGREGATEID row ROW in TOPIC PARTITION at OFFSET`
-/// for each record of an event that has an earlier one, with the entries that sent the two; and a
-/// line `misordered ID AGGREGATETYPE AGGREGATEID row ROW in the inbox at PLACE, before ID row ROW`
+/// for each record of an event that has an earlier one, with the entries that sent the two; a line
+/// `doubled ID AGGREGATETYPE AGGREGATEID row ROW in the inbox at PLACE, first at PLACE` for each row
+/// of the inbox whose event has an earlier row; and a line `misordered ID AGGREGATETYPE AGGREGATEID row ROW in the inbox at PLACE, before ID row ROW`
 /// for each row of the inbox that is out of order, and for each such record. The error is out of
 /// memory; `out` has then grown by a part of it.
 #[tactic(auto, using(kob_words::proofs::Appending::appending))]
@@ -159,6 +164,7 @@ pub fn print_check(
     push_first_waiting(out, events, &found.fates, assignment)?;
     push_losses(out, journal, assignment, events, &found.losses)?;
     push_doubles(out, journal, assignment, events, &found.repeats)?;
+    push_doubled_rows(out, events, &found.doubled_rows)?;
     push_rows(out, events, &found.early_rows)?;
     push_records(out, events, assignment, &found.early_records)
 }

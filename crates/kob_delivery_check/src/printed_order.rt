@@ -76,7 +76,7 @@ fn push_before_named(out: &mut Vec<u8>, events: &[&OutboxEvent], id: u128) -> Re
     }
 }
 
-fn push_inbox_place(out: &mut Vec<u8>, at: u64) -> Result<(), AllocError>
+pub(crate) fn push_inbox_place(out: &mut Vec<u8>, at: u64) -> Result<(), AllocError>
     ensures { OnOk result (out.new.items ≡ out.old.items ++ inbox_place at) }
 {
     push_labelled(out, b" in the inbox at", at)

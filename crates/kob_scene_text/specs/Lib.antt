@@ -1,3 +1,4 @@
+pub mod ConsumerForms
 pub mod Places
 pub mod PrintedRequest
 pub mod PrintedRows

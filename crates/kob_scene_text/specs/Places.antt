@@ -9,6 +9,7 @@ use Rattle.kob_script.specs.Places.{fault_place as script_fault_place}
 use Rattle.kob_script.specs.Script.{is_super, line_words}
 use Rattle.kob_script.specs.Words.{Word, named_host, named_principal, rank, text_of}
 use Rattle.kob_script.specs.declared.fault.FaultKind.{FaultKind}
+use Rattle.kob_scene_text.specs.ConsumerForms.{consumer_form}
 use Rattle.kob_scene_text.specs.Reading.{◌>>>◌, as_scripts, bad_line}
 use Rattle.kob_scene_text.specs.Scenes.{is_request}
 use Rattle.kob_scene_text.specs.Steps.{head_of, id_of}
@@ -66,12 +67,18 @@ are_of_variant_service name
     && names_variant one other
 are_of_variant_service name _ = false
 
--- words declare a consumer of this name that begins at the end
+-- the words that begin what makes a consumer a variant
+abbrev pub begins_variant : List ℕ → Bool
+begins_variant word =
+    bytes_eq word (codes "start") || bytes_eq word (codes "commits") || bytes_eq word (codes "no")
+
+-- words declare a consumer of this name that begins at the end, or takes in otherwise than the
+-- proved one
 abbrev pub are_of_variant_consumer : List ℕ → List Word → Bool
 are_of_variant_consumer name
     (first ∷ own ∷ principal ∷ host ∷ group ∷ its ∷ max ∷ most ∷ keyword ∷ words) =
     bytes_eq first.decoded (codes "consumer") && bytes_eq own.decoded name
-    && bytes_eq keyword.decoded (codes "start")
+    && begins_variant keyword.decoded
 are_of_variant_consumer name _ = false
 
 -- words declare a worker of this name that is a variant
@@ -103,6 +110,10 @@ keyword_text keyword.Placement = codes "placement"
 keyword_text keyword.Group = codes "group"
 keyword_text keyword.Max = codes "max"
 keyword_text keyword.Start = codes "start"
+keyword_text keyword.Commits = codes "commits"
+keyword_text keyword.Before = codes "before"
+keyword_text keyword.No = codes "no"
+keyword_text keyword.Dedup = codes "dedup"
 keyword_text keyword.Reads = codes "reads"
 keyword_text keyword.Delivered = codes "delivered"
 keyword_text keyword.All = codes "all"
@@ -153,16 +164,6 @@ abbrev pub service_form : List Word → List Part
 service_form (name ∷ principal ∷ host ∷ keyword ∷ number ∷ variant ∷ words) =
     service_form_by variant.decoded
 service_form words = proved_form
-
--- behind the name of a consumer
-abbrev pub consumer_words : List Part
-consumer_words =
-    One slot.Principal ∷ One slot.Host ∷ One (slot.Keyword keyword.Group)
-    ∷ One slot.Text ∷ One (slot.Keyword keyword.Max) ∷ One slot.Max
-    ∷ After keyword.Start slot.Start ∷ OrEnd ∷ One (slot.Keyword keyword.Reads) ∷ Each slot.Partition ∷ []
-
-abbrev pub consumer_form : List Part
-consumer_form = One slot.NewName ∷ consumer_words
 
 -- of law
 abbrev pub law_form : List Part
@@ -320,7 +321,7 @@ worker_faults worker (name ∷ words) = step_faults (step_form worker name.decod
 abbrev pub word_faults : List (List ℕ) → Head → Word → List Word → List (Option SceneFaultKind)
 word_faults lines Setting first rest = None ∷ faults_in lines (setting_form first) rest
 word_faults lines Service first rest = None ∷ faults_in lines (service_form rest) rest
-word_faults lines Consumer first rest = None ∷ faults_in lines consumer_form rest
+word_faults lines Consumer first rest = None ∷ faults_in lines (consumer_form rest) rest
 word_faults lines Journal first rest = None ∷ faults_in lines [] rest
 word_faults lines Law first rest = None ∷ faults_in lines law_form rest
 word_faults lines Check first rest = None ∷ faults_in lines pair_form rest

@@ -20,6 +20,8 @@ use Rattle.kob_scene_text.specs.declared.scene.Service.{Service}
 use Rattle.kob_scene_text.specs.declared.scene.Start.{Start}
 use Rattle.kob_scene_text.specs.declared.scene.Start.TheVariants as starts
 use Rattle.kob_scene_text.specs.declared.scene.Step.{Step}
+use Rattle.kob_scene_text.specs.declared.scene.Taking.{Taking}
+use Rattle.kob_scene_text.specs.declared.scene.Taking.TheVariants as takings
 use Rattle.kob_scene_text.specs.declared.service_lines.DeclaredService.{DeclaredService}
 use Rattle.kob_scene_text.specs.Workers.{consumer_of, consumer_named, new_name, service_named, worker_named, service_of}
 use Rattle.kob_scene_text.specs.Steps.{head_of, ServiceTold, consumer_step_of, expected_of, service_step_of, service_told, head_by_word}
@@ -122,6 +124,7 @@ consumer_at number name declared = record {
   host = declared.who.host;
   subscription = declared.subscription;
   start = declared.start;
+  taking = declared.taking;
 }
 
 -- consumer NAME and its declaration
@@ -156,6 +159,11 @@ abbrev pub is_latest : Start → Bool
 is_latest starts.Earliest = false
 is_latest starts.Latest = true
 
+abbrev pub is_variant_taking : Taking → Bool
+is_variant_taking takings.Proved = false
+is_variant_taking takings.CommitsBefore = true
+is_variant_taking takings.NoDedup = true
+
 abbrev pub is_variant_sending : Sending → Bool
 is_variant_sending sendings.Proved = false
 is_variant_sending sendings.RetriesNew = true
@@ -168,13 +176,13 @@ is_variant_service (Some service) = is_variant_sending service.sending
 
 abbrev pub is_variant_consumer : Option Consumer → Bool
 is_variant_consumer None = false
-is_variant_consumer (Some consumer) = is_latest consumer.start
+is_variant_consumer (Some consumer) = is_latest consumer.start || is_variant_taking consumer.taking
 
 -- the service at this place sends otherwise than the proved router
 abbrev pub is_variant_service_at : List Service → ℕ → Bool
 is_variant_service_at services place = is_variant_service (slice_get services place)
 
--- the consumer at this place begins at the end
+-- the consumer at this place begins at the end, or takes in otherwise than the proved one
 abbrev pub is_variant_consumer_at : List Consumer → ℕ → Bool
 is_variant_consumer_at consumers place = is_variant_consumer (slice_get consumers place)
 

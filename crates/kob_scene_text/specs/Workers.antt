@@ -16,6 +16,8 @@ use Rattle.kob_scene_text.specs.declared.scene.Sending.TheVariants.{Proved, Retr
 use Rattle.kob_scene_text.specs.declared.scene.Service.{Service}
 use Rattle.kob_scene_text.specs.declared.scene.Start.{Start}
 use Rattle.kob_scene_text.specs.declared.scene.Start.TheVariants.{Earliest, Latest}
+use Rattle.kob_scene_text.specs.declared.scene.Taking.{Taking}
+use Rattle.kob_scene_text.specs.declared.scene.Taking.TheVariants as takings
 use Rattle.kob_scene_text.specs.Reading.{as_scripts, ◌>>>◌, bad_line}
 use Rattle.kob_router.specs.declared.placement.Placed.{Placed}
 use Rattle.kob_router.specs.declared.settings.RouteBy.{RouteBy}
@@ -29,6 +31,7 @@ use Rattle.kob_scene_text.specs.declared.service_lines.DeclaredService.{Declared
 use Rattle.bstr.specs.Find.{first_of, matches}
 use Rattle.kob_router.specs.declared.place.Place.{Place}
 use Rattle.kob_scene_text.specs.declared.consumer_lines.DeclaredConsumer.{DeclaredConsumer}
+use Rattle.kob_scene_text.specs.declared.consumer_lines.Reads.{Reads}
 use Rattle.kob_scene_text.specs.declared.name.Worker.TheVariants as workers
 
 -- the place of the service, or the consumer, of a name
@@ -216,20 +219,43 @@ start_first (keyword ∷ word ∷ rest) =
     else Ok (Earliest, keyword ∷ word ∷ rest)
 start_first words = Ok (Earliest, words)
 
--- where it begins, and what it reads
-abbrev pub start_and_places : List Word → Result (Start × List Place) FaultKind
-start_and_places words =
-    start_first words >>= λ start. places_of start.1 >>= λ places. Ok (start.0, places)
+-- the variant that two words name
+abbrev pub taking_of : Word → Word → Option Taking
+taking_of one other =
+    if bytes_eq one.decoded (codes "commits") && bytes_eq other.decoded (codes "before")
+    then Some takings.CommitsBefore
+    else (if bytes_eq one.decoded (codes "no") && bytes_eq other.decoded (codes "dedup")
+    then Some takings.NoDedup else None)
+
+abbrev pub taking_by : Option Taking → List Word → List Word → Taking × List Word
+taking_by None all rest = (takings.Proved, all)
+taking_by (Some taking) all rest = (taking, rest)
+
+-- a variant where the words begin with its name, else the proved consumer, and the words behind it
+abbrev pub taking_first : List Word → Taking × List Word
+taking_first (one ∷ other ∷ rest) = taking_by (taking_of one other) (one ∷ other ∷ rest) rest
+taking_first words = (takings.Proved, words)
+
+-- [start latest], a variant or not, and [reads TOPIC:PARTITION ..]
+abbrev pub reads_of : List Word → Result Reads FaultKind
+reads_of words =
+    start_first words >>= λ start. places_of (taking_first start.1).1 >>= λ places.
+    Ok (record {
+      start = start.0;
+      taking = (taking_first start.1).0;
+      assignment = places;
+    })
 
 -- what stands behind who it is
 abbrev pub reading_of : Who → Word → Word → List Word → Result DeclaredConsumer SceneFaultKind
 reading_of who group max words =
     as_scripts (text_of group) >>> λ group. max_of max >>> λ max.
-    as_scripts (start_and_places words) >>> λ read.
+    as_scripts (reads_of words) >>> λ reads.
     Ok (record {
       who = who;
-      subscription = record { group = group; assignment = read.1; max = max };
-      start = read.0;
+      subscription = record { group = group; assignment = reads.assignment; max = max };
+      start = reads.start;
+      taking = reads.taking;
     })
 
 abbrev pub consumer_with : Word → Word → Word → Word → List Word
@@ -237,7 +263,7 @@ abbrev pub consumer_with : Word → Word → Word → Word → List Word
 consumer_with principal host group max words =
     as_scripts (who_of principal host) >>> λ who. reading_of who group max words
 
--- PRINCIPAL HOST group G max N, where it begins and what is read
+-- PRINCIPAL HOST group G max N, where it begins, how it takes in, and what is read
 abbrev pub consumer_of : List Word → Result DeclaredConsumer SceneFaultKind
 consumer_of (principal ∷ host ∷ first ∷ group ∷ second ∷ max ∷ words) =
     if bytes_eq first.decoded (codes "group") && bytes_eq second.decoded (codes "max")

@@ -4,13 +4,14 @@ ghost use Rattle.std.specs.Prelude.{◌≡◌};
 ghost use Rattle.std.specs.Option.{option_map};
 ghost use Rattle.kob_script.specs.Words.{Gives as ScriptGives, GivesSeen as ScriptGivesSeen, each};
 ghost use Rattle.kob_scene_text.specs.Reading.{Gives};
-ghost use Rattle.kob_scene_text.specs.Workers.{start_and_places, start_first, start_named};
+ghost use Rattle.kob_scene_text.specs.Workers.{reads_of, start_first, start_named};
+ghost use Rattle.kob_scene_text.specs.Workers.{taking_first, taking_of};
 ghost use Rattle.kob_scene_text.specs.Workers.{consumer_of, consumer_with, cut, max_of, place_in};
 ghost use Rattle.kob_scene_text.specs.Workers.{place_of, places_of, reading_of};
 
 use crate::fault::{SceneFaultKind, StepError};
 use crate::name::{Who, who_of};
-use crate::scene::Start;
+use crate::scene::{Start, Taking};
 use bstr::ByteSlice;
 use kob_inbox::Subscription;
 use kob_names::Items;
@@ -24,10 +25,19 @@ pub(crate) struct DeclaredConsumer {
     pub(crate) who: Who,
     pub(crate) subscription: Subscription,
     pub(crate) start: Start,
+    pub(crate) taking: Taking,
 }
 
-/// `PRINCIPAL HOST group GROUP max N [start latest] [reads TOPIC:PARTITION ..]`. The words are
-/// checked from left to right.
+/// Where a consumer begins, how it takes in, and the partitions that it reads.
+#[derive(Drop)]
+struct Reads {
+    start: Start,
+    taking: Taking,
+    assignment: Items<Place>,
+}
+
+/// `PRINCIPAL HOST group GROUP max N [start latest]`, then a variant or not, then `[reads
+/// TOPIC:PARTITION ..]`. The words are checked from left to right.
 pub(crate) fn consumer_of(alloc: Global, words: &[Word<'_>]) -> Result<DeclaredConsumer, StepError>
     ensures { Gives result (consumer_of words.now) }
 {
@@ -66,7 +76,11 @@ fn reading_of(
 {
     let group = text_of(alloc, group)?;
     let max = max_of(max)?;
-    let (start, assignment) = start_and_places(alloc, words)?;
+    let Reads {
+        start,
+        taking,
+        assignment,
+    } = reads_of(alloc, words)?;
     Ok(DeclaredConsumer {
         who,
         subscription: Subscription {
@@ -75,6 +89,7 @@ fn reading_of(
             max,
         },
         start,
+        taking,
     })
 }
 
@@ -90,13 +105,18 @@ pub(crate) fn max_of(word: &Word<'_>) -> Result<u64, StepError>
     }
 }
 
-/// Where it begins, and the partitions that it reads.
-fn start_and_places(alloc: Global, words: &[Word<'_>]) -> Result<(Start, Items<Place>), LineError>
-    ensures { ScriptGives result (start_and_places words.now) }
+/// What stands behind the number of records.
+fn reads_of(alloc: Global, words: &[Word<'_>]) -> Result<Reads, LineError>
+    ensures { ScriptGives result (reads_of words.now) }
 {
     let (start, words) = start_first(words)?;
-    let places = places_of(alloc, words)?;
-    Ok((start, places))
+    let (taking, words) = taking_first(words);
+    let assignment = places_of(alloc, words)?;
+    Ok(Reads {
+        start,
+        taking,
+        assignment,
+    })
 }
 
 /// Where it begins, and the words after that.
@@ -120,6 +140,33 @@ pub(crate) fn start_named(word: &Word<'_>) -> Result<Start, LineError>
         Ok(Start::Latest)
     } else {
         Err(LineError::Fault(FaultKind::BadWord))
+    }
+}
+
+/// How it takes in, and the words after that.
+fn taking_first<'w, 'l>(words: &'w [Word<'l>]) -> (Taking, &'w [Word<'l>])
+    ensures taking { result.0 ≡ (taking_first words.entry.now).0 }
+    ensures rest { result.1.now ≡ (taking_first words.entry.now).1 }
+{
+    match words {
+        [one, other, rest @ ..] => match taking_of(one, other) {
+            Some(taking) => (taking, rest),
+            None => (Taking::Proved, words),
+        },
+        _ => (Taking::Proved, words),
+    }
+}
+
+/// The variant that two words name.
+fn taking_of(one: &Word<'_>, other: &Word<'_>) -> Option<Taking>
+    ensures { result ≡ taking_of one.now other.now }
+{
+    if one.decoded() == b"commits".as_slice() && other.decoded() == b"before".as_slice() {
+        Some(Taking::CommitsBefore)
+    } else if one.decoded() == b"no".as_slice() && other.decoded() == b"dedup".as_slice() {
+        Some(Taking::NoDedup)
+    } else {
+        None
     }
 }
 

@@ -2,7 +2,7 @@
 
 ghost use Rattle.std.specs.Prelude.{◌≡◌};
 ghost use Rattle.std.specs.Option.{option_map};
-ghost use Rattle.kob_scene_text.specs.Places.{bare_form, consumer_form, consumer_step_form};
+ghost use Rattle.kob_scene_text.specs.Places.{bare_form, consumer_step_form};
 ghost use Rattle.kob_scene_text.specs.Places.{expect_form, expect_form_by, law_form};
 ghost use Rattle.kob_scene_text.specs.Places.{deletes_form, keyword_text, not_form, pair_form};
 ghost use Rattle.kob_scene_text.specs.Places.{proved_form, record_form, retries_form, service_form};
@@ -66,6 +66,10 @@ pub(crate) enum Keyword {
     Group,
     Max,
     Start,
+    Commits,
+    Before,
+    No,
+    Dedup,
     Reads,
     Delivered,
     All,
@@ -102,6 +106,10 @@ pub(crate) fn keyword_text(keyword: Keyword) -> &'static str
         Keyword::Group => "group",
         Keyword::Max => "max",
         Keyword::Start => "start",
+        Keyword::Commits => "commits",
+        Keyword::Before => "before",
+        Keyword::No => "no",
+        Keyword::Dedup => "dedup",
         Keyword::Reads => "reads",
         Keyword::Delivered => "delivered",
         Keyword::All => "all",
@@ -208,25 +216,6 @@ fn not_form() -> &'static [Part]
         Part::After(Keyword::By, Slot::Column),
         Part::After(Keyword::Replacement, Slot::Replacement),
         Part::After(Keyword::Placement, Slot::Placement),
-    ]
-}
-
-/// The words behind `consumer`.
-pub(crate) fn consumer_form() -> &'static [Part]
-    ensures { result.now ≡ consumer_form }
-{
-    &[
-        Part::One(Slot::NewName),
-        Part::One(Slot::Principal),
-        Part::One(Slot::Host),
-        Part::One(Slot::Keyword(Keyword::Group)),
-        Part::One(Slot::Text),
-        Part::One(Slot::Keyword(Keyword::Max)),
-        Part::One(Slot::Max),
-        Part::After(Keyword::Start, Slot::Start),
-        Part::OrEnd,
-        Part::One(Slot::Keyword(Keyword::Reads)),
-        Part::Each(Slot::Partition),
     ]
 }
 

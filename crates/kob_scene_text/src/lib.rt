@@ -1,6 +1,7 @@
 //! The language of scenes: scripts with services, consumers and their steps, read and printed.
 #![tactic(auto)]
 
+mod consumer_forms;
 mod consumer_lines;
 mod fault;
 mod forms;
@@ -33,5 +34,5 @@ pub use printed_tick::{
 pub use reading::read_scene;
 pub use scene::{
     Consumer, ConsumerStep, Expected, Lost, Routed, Scene, Sending, Service, ServiceStep, Start,
-    Step,
+    Step, Taking,
 };

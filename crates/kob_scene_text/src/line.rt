@@ -8,8 +8,7 @@ ghost use Rattle.kob_scene_text.specs.Scenes.{next_worker, so_far, told};
 ghost use Rattle.kob_scene_text.specs.Scenes.{consumer_at, service_at};
 ghost use Rattle.kob_scene_text.specs.Reading.{Gives};
 ghost use Rattle.kob_scene_text.specs.Scenes.{pair_named, pair_of, with_check, with_consumer};
-ghost use Rattle.kob_scene_text.specs.Scenes.{with_expect, with_head};
-ghost use Rattle.kob_scene_text.specs.Scenes.{with_journal, with_law};
+ghost use Rattle.kob_scene_text.specs.Scenes.{with_expect, with_head, with_journal, with_law};
 ghost use Rattle.kob_scene_text.specs.Scenes.{with_requests, with_service, with_setting};
 ghost use Rattle.kob_scene_text.specs.Scenes.{with_step, with_steps, with_words};
 ghost use Rattle.std.specs.Prelude.{Ok, [], ◌∷◌};
@@ -283,6 +282,7 @@ impl Reading {
             host: declared.who.host,
             subscription: declared.subscription,
             start: declared.start,
+            taking: declared.taking,
         })?;
         Ok(())
     }

@@ -7,10 +7,9 @@ ghost use Rattle.kob_scene_text.specs.Places.{worker_faults};
 ghost use Rattle.kob_scene_text.specs.Scenes.{is_request};
 ghost use Rattle.std.specs.List.{position};
 
+use crate::consumer_forms::consumer_form;
 use crate::fault::SceneFaultKind;
-use crate::forms::{
-    Part, consumer_form, expect_form, law_form, pair_form, service_form, setting_form, step_form,
-};
+use crate::forms::{Part, expect_form, law_form, pair_form, service_form, setting_form, step_form};
 use crate::line::{Head, head_of};
 use crate::name::Worker;
 use crate::word_faults::{push_bad_line, push_faults};
@@ -144,7 +143,7 @@ fn word_faults(
     match head {
         Head::Setting => faults_by(alloc, before, setting_form(first), rest),
         Head::Service => faults_by(alloc, before, service_form(rest), rest),
-        Head::Consumer => faults_by(alloc, before, consumer_form(), rest),
+        Head::Consumer => faults_by(alloc, before, consumer_form(rest), rest),
         Head::Journal => faults_by(alloc, before, &[], rest),
         Head::Law => faults_by(alloc, before, law_form(), rest),
         Head::Check => faults_by(alloc, before, pair_form(), rest),

@@ -135,8 +135,34 @@ impl Start {
     }
 }
 
-/// A consumer: its name in the text, its worker number, who it is, what it reads, and where it
-/// begins.
+/// How a consumer takes records in.
+#[derive(Clone, Copy, Debug, PartialEq, Eq)]
+pub enum Taking {
+    /// As the proved consumer: each event id once, and a commit after that. The others are
+    /// variants, of which the laws of delivery do not speak.
+    Proved,
+    /// After the commit of the position behind them.
+    CommitsBefore,
+    /// Each record, whether its event id was taken in before or not.
+    NoDedup,
+}
+
+impl Taking {
+    ghost use Rattle.kob_scene_text.specs.Scenes.{is_variant_taking};
+
+    pub fn is_variant(self) -> bool
+        ensures { result ≡ is_variant_taking self }
+    {
+        match self {
+            Taking::Proved => false,
+            Taking::CommitsBefore => true,
+            Taking::NoDedup => true,
+        }
+    }
+}
+
+/// A consumer: its name in the text, its worker number, who it is, what it reads, where it begins,
+/// and how it takes records in.
 #[derive(Drop)]
 pub struct Consumer {
     pub name: Text,
@@ -145,6 +171,7 @@ pub struct Consumer {
     pub host: Host,
     pub subscription: Subscription,
     pub start: Start,
+    pub taking: Taking,
 }
 
 /// A step, by the place of its service or consumer in the scene's list, from 0.

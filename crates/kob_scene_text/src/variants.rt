@@ -28,12 +28,12 @@ fn is_variant_service_at(services: &[Service], place: usize) -> bool
     }
 }
 
-/// Whether the consumer at this place begins at the end.
+/// Whether the consumer at this place begins at the end, or takes in otherwise than the proved one.
 fn is_variant_consumer_at(consumers: &[Consumer], place: usize) -> bool
     ensures { result ≡ is_variant_consumer_at consumers.now place }
 {
     match consumers.get(place) {
-        Some(consumer) => consumer.start.is_latest(),
+        Some(consumer) => consumer.start.is_latest() || consumer.taking.is_variant(),
         None => false,
     }
 }

@@ -24,7 +24,7 @@ use kob_script::{FaultKind, LineError, Word, host_of, lent_text_of, principal_of
 use std::alloc::{AllocError, Global};
 
 /// Appends the faults of words, by a form, behind these lines of a scene.
-// Recursive: a form has at most ten parts.
+// Recursive: a form has at most twelve parts.
 pub(crate) fn push_faults(
     alloc: Global,
     faults: &mut Vec<Option<SceneFaultKind>>,

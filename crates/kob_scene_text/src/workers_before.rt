@@ -4,7 +4,7 @@ ghost use Rattle.std.specs.Prelude.{◌≡◌, IfOk, map};
 ghost use Rattle.kob_script.specs.Script.{line_words};
 ghost use Rattle.kob_scene_text.specs.Places.{are_of, are_of_variant, is_declared, is_variant};
 ghost use Rattle.kob_scene_text.specs.Places.{are_of_variant_consumer, are_of_variant_service};
-ghost use Rattle.kob_scene_text.specs.Places.{names_variant, worker_in};
+ghost use Rattle.kob_scene_text.specs.Places.{begins_variant, names_variant, worker_in};
 
 use crate::name::Worker;
 use crate::service_lines::sending_of;
@@ -102,10 +102,17 @@ fn are_of_variant_consumer(name: &[u8], words: &[Word<'_>]) -> bool
         [first, own, _, _, _, _, _, _, keyword, ..] => {
             first.decoded() == b"consumer".as_slice()
                 && own.decoded() == name
-                && keyword.decoded() == b"start".as_slice()
+                && begins_variant(keyword.decoded())
         }
         _ => false,
     }
+}
+
+/// Whether a word behind the number of records is one of a variant of a consumer.
+fn begins_variant(word: &[u8]) -> bool
+    ensures { result ≡ begins_variant word.now }
+{
+    word == b"start".as_slice() || word == b"commits".as_slice() || word == b"no".as_slice()
 }
 
 fn is_of(alloc: Global, keyword: &[u8], line: &[u8], name: &[u8]) -> Result<bool, AllocError>

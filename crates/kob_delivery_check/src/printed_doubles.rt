@@ -1,0 +1,71 @@
+//! How rows of an inbox are printed whose event has an earlier row.
+
+ghost use Rattle.std.specs.Prelude.{◌≡◌, ◌<◌, ◌++◌, OnOk, Some, length, map, slice_get};
+ghost use Rattle.std.specs.Option.{option_copied};
+ghost use Rattle.kob_delivery_check.specs.Doubles.{double_line, double_lines, double_text};
+
+use crate::cause::event_at;
+use crate::printed_order::push_inbox_place;
+use crate::printed_pieces::push_event;
+use crate::printed_records::push_labelled;
+use crate::row_doubles::DoubledRow;
+use crate::sent::place_of;
+use kob_outbox::OutboxEvent;
+use std::alloc::AllocError;
+
+#[tactic(auto, using(kob_words::proofs::Appending::appending))]
+fn push_text(
+    out: &mut Vec<u8>,
+    place: usize,
+    double: DoubledRow,
+    event: Option<&OutboxEvent>,
+) -> Result<(), AllocError>
+    ensures { OnOk result (out.new.items
+        ≡ out.old.items ++ double_text place double (option_copied event.entry)) }
+{
+    let Some(event) = event else {
+        return Ok(());
+    };
+    out.extend_from_slice(b"doubled")?;
+    push_event(out, (place as u64).saturating_add(1), event)?;
+    push_inbox_place(out, double.at)?;
+    push_labelled(out, b", first at", double.first)?;
+    out.extend_from_slice(b"\n")
+}
+
+/// The line of a row; nothing if its event is none of these.
+fn push_double(
+    out: &mut Vec<u8>,
+    events: &[&OutboxEvent],
+    double: DoubledRow,
+) -> Result<(), AllocError>
+    ensures { OnOk result (out.new.items
+        ≡ out.old.items ++ double_line (map (λ event. event.now) events.now) double) }
+{
+    match place_of(double.event, events) {
+        None => Ok(()),
+        Some(place) => push_text(out, place, double, event_at(events, place)),
+    }
+}
+
+/// A line for each row of the inbox whose event has an earlier row.
+pub(crate) fn push_doubled_rows(
+    out: &mut Vec<u8>,
+    events: &[&OutboxEvent],
+    doubles: &[DoubledRow],
+) -> Result<(), AllocError>
+    ensures { OnOk result (out.new.items
+        ≡ out.old.items ++ double_lines (map (λ event. event.now) events.now) doubles.now) }
+{
+    for place in 0..doubles.len() {
+        push_double(out, events, double_at(doubles, place))?;
+    }
+    Ok(())
+}
+
+fn double_at(doubles: &[DoubledRow], place: usize) -> DoubledRow
+    requires { place < length doubles.now }
+    ensures { slice_get doubles.now place ≡ Some result }
+{
+    doubles[place]
+}
