@@ -33,6 +33,7 @@ ending_of_fault play.Store = Failed
 ending_of_fault play.NoWorker = Failed
 ending_of_fault play.TooMany = Failed
 ending_of_fault play.NotLost = Failed
+ending_of_fault play.NotDue = Failed
 ending_of_fault play.WriteFailed = Failed
 
 abbrev pub ending_of_play : Result Ended PlayFault → Ending

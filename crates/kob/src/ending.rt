@@ -53,6 +53,7 @@ fn ending_of_fault(fault: PlayFault) -> Ending
         PlayFault::NoWorker => Ending::Failed,
         PlayFault::TooMany => Ending::Failed,
         PlayFault::NotLost => Ending::Failed,
+        PlayFault::NotDue => Ending::Failed,
         PlayFault::WriteFailed => Ending::Failed,
     }
 }

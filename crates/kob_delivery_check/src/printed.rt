@@ -144,9 +144,9 @@ pub struct Found {
 /// out of reach; a line `doubled ID AGGREGATETYPE AGGREGATEID row ROW in TOPIC PARTITION at OFFSET`
 /// for each record of an event that has an earlier one, with the entries that sent the two; a line
 /// `doubled ID AGGREGATETYPE AGGREGATEID row ROW in the inbox at PLACE, first at PLACE` for each row
-/// of the inbox whose event has an earlier row; and a line `misordered ID AGGREGATETYPE AGGREGATEID row ROW in the inbox at PLACE, before ID row ROW`
-/// for each row of the inbox that is out of order, and for each such record. The error is out of
-/// memory; `out` has then grown by a part of it.
+/// of the inbox whose event has an earlier row; and a line `misordered ID AGGREGATETYPE AGGREGATEID
+/// row ROW in the inbox at PLACE, before ID row ROW` for each row of the inbox that is out of order,
+/// and for each such record. The error is out of memory; `out` has then grown by a part of it.
 #[tactic(auto, using(kob_words::proofs::Appending::appending))]
 pub fn print_check(
     out: &mut Vec<u8>,

@@ -8,6 +8,7 @@ pub mod Places
 pub mod Played
 pub mod Running
 pub mod Services
+pub mod Taking
 pub mod Ticking
 mod Words
 pub mod Written

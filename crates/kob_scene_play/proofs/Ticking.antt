@@ -1,12 +1,17 @@
 -- Ticks over a line of their own.
-use Rattle.kob_scene_play.proofs.Words.{ArePassedOn, AreServed, Call, Consumer, IsOwnTick, IsJournaled, IsSameConsumer, IsSameService, IsRouterTick, Journals, List, LosesFirst, Loss, PassesCallsOn, Record, Served, Service, Ticks, [], inl, inr, point_of, served_in, subst, sym, ℕ, map, ◌++◌, ◌∙◌, ◌∷◌, ◌≡◌, ap, Err, IfOk, IsConsumerTick, None, Ok, Option, Result, Some}
+use Rattle.kob_scene_play.proofs.Words.{ArePassedOn, AreServed, Call, Consumer, IsOwnTick, IsJournaled, IsSameConsumer, IsSameService, IsRouterTick, Journals, List, LosesFirst, Loss, PassesCallsOn, Record, Served, Service, Ticks, [], inl, inr, point_of, served_in, subst, sym, ℕ, map, ◌++◌, ◌∙◌, ◌∷◌, ◌≡◌, ap, Err, IfOk, IsConsumerTick, None, Ok, OnOk, Option, Result, Some}
 use Rattle.kob_inbox.specs.declared.tick.Tick.{Tick as ConsumerAnswer}
+use Rattle.kob_inbox.specs.Contents.{Contents as InboxContents}
 use Rattle.kob_rights.specs.declared.event.Event.{Event}
+use Rattle.kob_rights.specs.declared.reply.Reply.{Reply}
 use Rattle.kob_router.specs.Run.{dispatch_of}
 use Rattle.kob_router.specs.Tick as router_ticks
 use Rattle.kob_router.specs.declared.tick.Tick.{Tick as ServiceAnswer}
+use Rattle.kob_scene_play.specs.Asked.{IsAsked, committed_by}
 use Rattle.kob_scene_play.specs.Begins.{IsBegun, start_event}
-use Rattle.kob_scene_play.specs.Steps.{IsTickBy}
+use Rattle.kob_scene_play.specs.Steps.{IsAheadBy, IsAheadTick, IsCalled, IsTakingTick, IsTickBy, ahead_of}
+use Rattle.kob_scene_play.specs.Takings.{HandlesReply, TakesHeld, asked_event, inbox_by, inbox_with}
+use Rattle.kob_scene_text.specs.declared.scene.Taking.{Taking}
 
 -- calls of a line that are served below it are served
 served_below : (calls below : List Call) (served : List Served) → ArePassedOn calls below → AreServed below served
@@ -80,23 +85,69 @@ service_ticked sent loss old new tick before now unmade then_unmade recorded the
 
 -- and one of the consumer
 pub consumer_ticked : (loss : Loss) (old new : Consumer) (tick : ConsumerAnswer) (before now : List Call) (unmade then_unmade : ℕ)
-    (recorded then_recorded : Record) → LosesFirst loss now → IsSameConsumer old new → before ≡ [] → unmade ≡ 0
-    → IsJournaled old.worker old.principal old.host now recorded then_recorded
-    → Ticks old.fetcher.subscription (point_of old.fetcher old.inbox before unmade)
-    (point_of new.fetcher new.inbox now then_unmade) tick
-    → IsOwnTick loss old new recorded then_recorded tick
-consumer_ticked loss old new tick before now unmade then_unmade recorded then_recorded lost same none all journaled ticks =
+    (recorded then_recorded : Record) → LosesFirst loss now → IsSameConsumer old new → new.holding ≡ old.holding
+    → before ≡ [] → unmade ≡ 0 → IsJournaled old.worker old.principal old.host now recorded then_recorded
+    → Ticks old.fetcher.subscription (point_of old.fetcher old.own before unmade)
+    (point_of new.fetcher new.own now then_unmade) tick
+    → IsCalled loss old new recorded then_recorded now tick
+consumer_ticked loss old new tick before now unmade then_unmade recorded then_recorded lost same holding none all journaled ticks =
     let Begun : List Call → ℕ → Type 0 =
-    λ calls count. Ticks old.fetcher.subscription (point_of old.fetcher old.inbox calls count)
-    (point_of new.fetcher new.inbox now then_unmade) tick in
+    λ calls count. Ticks old.fetcher.subscription (point_of old.fetcher old.own calls count)
+    (point_of new.fetcher new.own now then_unmade) tick in
     record {
       same = same;
-      calls = now;
+      holding = holding;
       lost = lost;
       journaled = journaled;
       unmade = then_unmade;
       ticks = subst (Begun []) all (subst (λ calls. Begun calls unmade) none ticks);
     }
+
+-- what its calls brought is noted, which changes what was taken in alone
+with_inbox : (loss : Loss) (old mid : Consumer) (inbox : InboxContents) (before after : Record) (calls : List Call)
+    (tick : ConsumerAnswer) → IsCalled loss old mid before after calls tick
+    → IsCalled loss old (record mid { inbox = inbox }) before after calls tick
+with_inbox loss old mid inbox before after calls tick called = record {
+  same = record {
+    worker = called.same.worker;
+    principal = called.same.principal;
+    host = called.same.host;
+    start = called.same.start;
+    taking = called.same.taking;
+    subscription = called.same.subscription;
+  };
+  holding = called.holding;
+  lost = called.lost;
+  journaled = called.journaled;
+  unmade = called.unmade;
+  ticks = called.ticks;
+}
+
+noted : (loss : Loss) (old mid : Consumer) (before after : Record) (calls : List Call) (tick : ConsumerAnswer)
+    → IsCalled loss old mid before after calls tick → mid.inbox ≡ inbox_by old.taking mid.own old.inbox
+    → IsOwnTick loss old (record mid { inbox = inbox_with mid.taking mid.inbox calls }) before after tick
+noted loss old mid before after calls tick called inbox = (
+  calls,
+  with_inbox loss old mid (inbox_with mid.taking mid.inbox calls) before after calls tick called,
+  ap (λ taking. inbox_with taking mid.inbox calls) called.same.taking
+      ∙ ap (λ events. inbox_with old.taking events calls) inbox,
+)
+
+pub calls_noted : {E : Type 0} (result : Result (Unit {0}) E) (loss : Loss) (old mid new : Consumer) (before after : Record)
+    (calls : List Call) (tick : ConsumerAnswer) → IsCalled loss old mid before after calls tick
+    → mid.inbox ≡ inbox_by old.taking mid.own old.inbox
+    → OnOk result (new ≡ record mid { inbox = inbox_with mid.taking mid.inbox calls })
+    → OnOk result (IsOwnTick loss old new before after tick)
+calls_noted (Ok done) loss old mid new before after calls tick called inbox now =
+    subst (λ (then : Consumer). IsOwnTick loss old then before after tick) (sym now)
+    (noted loss old mid before after calls tick called inbox)
+calls_noted (Err fault) loss old mid new before after calls tick called inbox now = tt
+
+-- the commit with which a consumer begins
+pub begun : (loss : Loss) (worker : ℕ) (event : Event) (before after : Record) (heard : Option Reply) (tick : ConsumerAnswer)
+    → IsAsked loss worker event before after heard → tick ≡ committed_by heard
+    → IsBegun loss worker event before after tick
+begun loss worker event before after heard tick asked is = (heard, asked, is)
 
 -- a tick of a consumer that has to begin is the commit of the end
 pub tick_begun : {E : Type 0} (result : Result ConsumerAnswer E) (loss : Loss) (old new : Consumer) (before after : Record)
@@ -108,11 +159,48 @@ tick_begun (Ok tick) loss old new before after due event found is same begun =
     subst (λ (d : Option Event). IsTickBy d loss old new before after tick) (sym is ∙ found) (same, begun)
 tick_begun (Err fault) loss old new before after due event found is same begun = begun
 
--- and any other is the consumer's own
+-- and any other is one by how it takes in
 pub tick_own : {E : Type 0} (result : Result ConsumerAnswer E) (loss : Loss) (old new : Consumer) (before after : Record)
-    (due : Option Event)
+    (due : Option Event) (taking : Taking)
     → due ≡ start_event old.start old.principal old.host old.fetcher before.journal → due ≡ None
-    → IfOk result (IsOwnTick loss old new before after) → IfOk result (IsConsumerTick loss old new before after)
-tick_own (Ok tick) loss old new before after due found is own =
-    subst (λ (d : Option Event). IsTickBy d loss old new before after tick) (sym is ∙ found) own
-tick_own (Err fault) loss old new before after due found is own = own
+    → taking ≡ old.taking → IfOk result (IsTakingTick taking loss old new before after)
+    → IfOk result (IsConsumerTick loss old new before after)
+tick_own (Ok tick) loss old new before after due taking found is same own =
+    subst (λ (d : Option Event). IsTickBy d loss old new before after tick) (sym is ∙ found)
+    (subst (λ (t : Taking). IsTakingTick t loss old new before after tick) same own)
+tick_own (Err fault) loss old new before after due taking found is same own = own
+
+-- a tick of a consumer that commits before it takes in, by its next request
+ahead_by : (loss : Loss) (old new : Consumer) (before after : Record) (due : Option Event) (tick : ConsumerAnswer)
+    → IsSameConsumer old new → new.inbox ≡ new.own
+    → due ≡ asked_event old.principal old.host old.fetcher old.holding
+    → IsAheadBy due loss old new before after tick → IsAheadTick loss old new before after tick
+ahead_by loss old new before after due tick same inbox found moves = record {
+  same = same;
+  inbox = inbox;
+  moves = subst (λ (d : Option Event). IsAheadBy d loss old new before after tick) found moves;
+}
+
+-- it has none
+pub taken_ahead : {E : Type 0} (result : Result ConsumerAnswer E) (loss : Loss) (old new : Consumer) (before after : Record)
+    (due : Option Event) → IsSameConsumer old new → new.inbox ≡ new.own
+    → due ≡ asked_event old.principal old.host old.fetcher old.holding → due ≡ None → after ≡ before
+    → IfOk result (TakesHeld old.holding old.fetcher.subscription (ahead_of old) (ahead_of new))
+    → IfOk result (IsAheadTick loss old new before after)
+taken_ahead (Ok tick) loss old new before after due same inbox found none stays takes =
+    ahead_by loss old new before after due tick same inbox found
+    (subst (λ (d : Option Event). IsAheadBy d loss old new before after tick) (sym none) (stays, takes))
+taken_ahead (Err fault) loss old new before after due same inbox found none stays takes = takes
+
+-- it has one
+pub handled_ahead : {E : Type 0} (result : Result ConsumerAnswer E) (loss : Loss) (old new : Consumer)
+    (before after : Record) (due : Option Event) (event : Event) (heard : Option Reply)
+    → IsSameConsumer old new → new.inbox ≡ new.own
+    → due ≡ asked_event old.principal old.host old.fetcher old.holding → due ≡ Some event
+    → IsAsked loss old.worker event before after heard
+    → IfOk result (HandlesReply old.fetcher.subscription event.request heard (ahead_of old) (ahead_of new))
+    → IfOk result (IsAheadTick loss old new before after)
+handled_ahead (Ok tick) loss old new before after due event heard same inbox found is asked handles =
+    ahead_by loss old new before after due tick same inbox found
+    (subst (λ (d : Option Event). IsAheadBy d loss old new before after tick) (sym is) (heard, asked, handles))
+handled_ahead (Err fault) loss old new before after due event heard same inbox found is asked handles = handles

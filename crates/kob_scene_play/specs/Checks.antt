@@ -2,6 +2,7 @@
 use Rattle.std.specs.List.{enumerate_from}
 use Rattle.std.specs.Prelude.{◌≡◌, ℕ, List, Some, map, slice_get}
 use Rattle.kob_delivery_check.specs.Causes.{losses_by}
+use Rattle.kob_delivery_check.specs.Doubles.{doubled_rows}
 use Rattle.kob_delivery_check.specs.Fates.{fates_by}
 use Rattle.kob_delivery_check.specs.Journaled.{reach_of}
 use Rattle.kob_delivery_check.specs.Order.{early_records, early_rows}
@@ -14,6 +15,7 @@ use Rattle.kob_delivery_check.specs.declared.record_order.EarlyRecord.{EarlyReco
 use Rattle.kob_delivery_check.specs.declared.printed.Found.{Found}
 use Rattle.kob_delivery_check.specs.declared.reach.Reach.{Reach}
 use Rattle.kob_delivery_check.specs.declared.reach.Stored.{Stored}
+use Rattle.kob_delivery_check.specs.declared.row_doubles.DoubledRow.{DoubledRow}
 use Rattle.kob_inbox.specs.Contents.{placed_intake}
 use Rattle.kob_inbox.specs.declared.inbox_row.InboxRow.{InboxRow}
 use Rattle.kob_outbox.specs.Contents.{first_after, stored_row}
@@ -51,6 +53,13 @@ AreFates service consumer journal fates =
     ≡ first_after service.outbox.mark 4294967295 service.outbox.events)
     × (fates ≡ fates_by taken (ahead_of journal consumer) waiting service.recorded)
 
+-- the rows of its inbox whose event has an earlier row
+abbrev pub AreDoubled : Consumer → List DoubledRow → Type 0
+AreDoubled consumer doubled =
+    (taken : List InboxRow)
+    × (map placed_intake taken ≡ enumerate_from 1 consumer.inbox)
+    × (doubled ≡ doubled_rows taken)
+
 -- the rows of its inbox that are out of order
 abbrev pub AreEarly : Service → Consumer → List Early → Type 0
 AreEarly service consumer early =
@@ -64,12 +73,14 @@ early_in_topics service consumer journal =
     early_records consumer.fetcher.subscription.assignment service.recorded
     (reaches_of journal consumer)
 
--- where each event is, why each lost one is lost, which records repeat one, and what is out of order
+-- where each event is, why each lost one is lost, which records and rows repeat one, and what is out
+-- of order
 abbrev pub IsFound : Service → Consumer → List Entry → Found → Type 0
 IsFound service consumer journal found =
     AreFates service consumer journal found.fates.items
     × (found.losses.items ≡ losses_by consumer.fetcher.subscription journal service.recorded found.fates.items)
     × (found.repeats.items ≡ repeats_in journal consumer)
+    × AreDoubled consumer found.doubled_rows.items
     × AreEarly service consumer found.early_rows.items
     × (found.early_records.items ≡ early_in_topics service consumer journal)
 

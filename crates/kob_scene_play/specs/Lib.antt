@@ -1,3 +1,4 @@
+pub mod Asked
 pub mod Begins
 pub mod Checks
 pub mod Expectations
@@ -10,3 +11,4 @@ pub mod Scenes
 pub mod Services
 pub mod Stages
 pub mod Steps
+pub mod Takings

@@ -2,16 +2,20 @@
 use Rattle.std.specs.List.{find, enumerate_from}
 use Rattle.std.specs.Prelude.{◌≡◌, ◌==◌, ℕ, List, [], Option, None, Some, codes, ◌++◌, flat_map, length}
 use Rattle.kob_broker.specs.State.{settings_of}
+use Rattle.kob_inbox.specs.Contents.{Contents as InboxContents}
 use Rattle.kob_inbox.specs.declared.fetcher.Subscription.{Subscription}
 use Rattle.kob_names.specs.declared.settings.Settings.{Settings}
 use Rattle.kob_outbox.specs.Contents.{empty}
 use Rattle.kob_scene_play.specs.Steps.{Service, consumer_state}
+use Rattle.kob_scene_play.specs.declared.holding.Holding.{Holding}
+use Rattle.kob_scene_play.specs.declared.holding.Holding.TheVariants.{Nothing}
 use Rattle.kob_scene_play.specs.declared.stage.PlayedConsumer.{PlayedConsumer}
 use Rattle.kob_scene_play.specs.declared.stage.PlayedService.{PlayedService}
 use Rattle.kob_scene_play.specs.declared.stage.Stage.{Stage}
 use Rattle.kob_scene_text.specs.declared.scene.Consumer.{Consumer as DeclaredConsumer}
 use Rattle.kob_scene_text.specs.declared.scene.Service.{Service as DeclaredService}
 use Rattle.kob_scene_text.specs.declared.scene.Start.{Start}
+use Rattle.kob_scene_text.specs.declared.scene.Taking.{Taking}
 use Rattle.kob_shared.specs.Journals.{opened_by}
 use Rattle.std.specs.Fmt.{decimal}
 use Rattle.kob_scene_text.specs.PrintedRequest.{entry_text}
@@ -48,17 +52,21 @@ declared_service declared = record {
 abbrev pub named_service : PlayedService → NamedService
 named_service played = record { name = played.name; service = played.service }
 
--- a consumer by its name, who it is, where it begins, what it reads, and how far it has come
+-- a consumer by its name, who it is, where it begins, how it takes in, what it reads, how far it has
+-- come, what it holds, and what it has taken in
 pub record NamedConsumer : Type 0 where
   pub name : List ℕ
   pub worker : ℕ
   pub principal : List ℕ
   pub host : List ℕ
   pub start : Start
+  pub taking : Taking
   pub subscription : Subscription
   pub state : consuming.State
+  pub holding : Holding
+  pub inbox : InboxContents
 
--- one that knows no position, with an empty inbox
+-- one that knows no position and holds nothing, with an empty inbox
 abbrev pub declared_consumer : DeclaredConsumer → NamedConsumer
 declared_consumer declared = record {
   name = declared.name;
@@ -66,8 +74,11 @@ declared_consumer declared = record {
   principal = declared.principal;
   host = declared.host;
   start = declared.start;
+  taking = declared.taking;
   subscription = declared.subscription;
   state = consuming.start;
+  holding = Nothing;
+  inbox = [];
 }
 
 abbrev pub named_consumer : PlayedConsumer → NamedConsumer
@@ -77,8 +88,11 @@ named_consumer played = record {
   principal = played.consumer.principal;
   host = played.consumer.host;
   start = played.consumer.start;
+  taking = played.consumer.taking;
   subscription = played.consumer.fetcher.subscription;
   state = consumer_state played.consumer;
+  holding = played.consumer.holding;
+  inbox = played.consumer.inbox;
 }
 
 -- the first service with this number

@@ -24,9 +24,15 @@ use Rattle.kob_scene_text.specs.declared.scene.ConsumerStep.{ConsumerStep}
 use Rattle.kob_scene_text.specs.declared.scene.Lost.{Lost}
 use Rattle.kob_scene_text.specs.declared.scene.ServiceStep.{ServiceStep}
 use Rattle.kob_scene_text.specs.declared.scene.Start.{Start}
+use Rattle.kob_scene_text.specs.declared.scene.Taking.{Taking}
 use Rattle.kob_shared.specs.Journals.{Record}
 use Rattle.kob_rights.specs.declared.event.Event.{Event}
+use Rattle.kob_rights.specs.declared.reply.Reply.{Reply}
+use Rattle.kob_scene_play.specs.Asked.{IsAsked}
 use Rattle.kob_scene_play.specs.Begins.{IsBegun, start_event}
+use Rattle.kob_scene_play.specs.Takings.{Ahead, HandlesReply, TakesHeld, ahead, asked_event, inbox_after}
+use Rattle.kob_scene_play.specs.declared.holding.Holding.{Holding}
+use Rattle.kob_scene_play.specs.declared.holding.Holding.TheVariants.{Nothing}
 pub use Rattle.kob_scene_play.specs.Services.{Does, IsRouterTick, IsSameService, IsServiceTick, LosesFirst, Service, recorded_after, service_state}
 use Rattle.kob_scene_play.specs.Forms.{last_needs}
 use Rattle.kob_scene_play.specs.Needs.{behind}
@@ -41,6 +47,7 @@ use Rattle.kob_scene_play.specs.declared.consumer_steps.Left.TheVariants as left
 use Rattle.kob_scene_text.specs.declared.scene.ConsumerStep.TheVariants as consumer_steps
 use Rattle.kob_scene_text.specs.declared.scene.Lost.TheVariants as lost
 use Rattle.kob_scene_text.specs.declared.scene.ServiceStep.TheVariants as service_steps
+use Rattle.kob_scene_text.specs.declared.scene.Taking.TheVariants as takings
 
 -- one answer, with the next number
 abbrev pub IsPrinted : List ℕ → ℕ → ℕ → List ℕ → Type 0
@@ -59,54 +66,100 @@ Writes before held now then_held text =
 -- Workers of a scene, and what their steps do.
 
 -- a consumer: its number in the journal, who it is, where it begins on a partition without a commit,
--- how far it has come, and its inbox
+-- how it takes in, how far it has come, the inbox by which the proved consumer takes each id in once,
+-- what it holds, and what it has taken in, which is its own inbox unless it is without dedup
 pub record Consumer : Type 0 where
   pub worker : ℕ
   pub principal : List ℕ
   pub host : List ℕ
   pub start : Start
+  pub taking : Taking
   pub fetcher : Fetcher
+  pub own : InboxContents
+  pub holding : Holding
   pub inbox : InboxContents
 
 abbrev pub consumer_state : Consumer → consuming.State
-consumer_state consumer = consumer_ticks.state_of consumer.fetcher consumer.inbox
+consumer_state consumer = consumer_ticks.state_of consumer.fetcher consumer.own
 
--- its number, who it is, where it begins and what it reads stay
+abbrev pub ahead_of : Consumer → Ahead
+ahead_of consumer = ahead consumer.fetcher consumer.own consumer.holding
+
+-- its number, who it is, where it begins, how it takes in and what it reads stay
 pub record IsSameConsumer (old new : Consumer) : Type 0 where
   pub worker : new.worker ≡ old.worker
   pub principal : new.principal ≡ old.principal
   pub host : new.host ≡ old.host
   pub start : new.start ≡ old.start
+  pub taking : new.taking ≡ old.taking
   pub subscription : new.fetcher.subscription ≡ old.fetcher.subscription
 
--- a move of a consumer's run that may be made, and that is
-pub record Consumes (move : consuming.Move) (old new : Consumer) : Type 0 where
+-- it forgets its positions, and what it holds; what it has taken in stays
+pub record Restarts (old new : Consumer) : Type 0 where
   pub same : IsSameConsumer old new
-  pub may : consuming.May old.fetcher.subscription (consumer_state old) move
-  pub done :
-      consumer_state new ≡ consuming.after old.fetcher.subscription (consumer_state old) move
+  pub forgets :
+      consumer_state new
+      ≡ consuming.after old.fetcher.subscription (consumer_state old) consuming.Move.Restarted
+  pub holding : new.holding ≡ Nothing
+  pub inbox : new.inbox ≡ old.inbox
 
--- the move of one tick of the consumer itself, over a line of its own that loses the first call so; its
+-- the move of one tick of the proved consumer, over a line of its own that loses the first call so; its
 -- call that was served is the journal's new entry
-pub record IsOwnTick (loss : Loss) (old new : Consumer) (before after : Record)
+pub record IsCalled (loss : Loss) (old new : Consumer) (before after : Record) (calls : List Call)
     (tick : ConsumerAnswer) : Type 0 where
   pub same : IsSameConsumer old new
-  pub calls : List Call
+  pub holding : new.holding ≡ old.holding
   pub lost : LosesFirst loss calls
   pub journaled : IsJournaled old.worker old.principal old.host calls before after
   pub unmade : ℕ
   pub ticks :
       consumer_ticks.Ticks old.fetcher.subscription
-      (consumer_ticks.point_of old.fetcher old.inbox [] 0)
-      (consumer_ticks.point_of new.fetcher new.inbox calls unmade) tick
+      (consumer_ticks.point_of old.fetcher old.own [] 0)
+      (consumer_ticks.point_of new.fetcher new.own calls unmade) tick
+
+-- and what its calls brought is taken in: by its inbox, or without dedup each record
+abbrev pub IsOwnTick : Loss → Consumer → Consumer → Record → Record → ConsumerAnswer → Type 0
+IsOwnTick loss old new before after tick =
+    (calls : List Call)
+    × IsCalled loss old new before after calls tick
+    × (new.inbox ≡ inbox_after old.taking old.inbox new.own calls)
+
+-- what a consumer that commits before it takes in does with its next request, or without one
+abbrev pub IsAheadBy : Option Event → Loss → Consumer → Consumer → Record → Record → ConsumerAnswer
+    → Type 0
+IsAheadBy None loss old new before after tick =
+    (after ≡ before)
+    × TakesHeld old.holding old.fetcher.subscription (ahead_of old) (ahead_of new) tick
+IsAheadBy (Some event) loss old new before after tick =
+    (heard : Option Reply)
+    × IsAsked loss old.worker event before after heard
+    × HandlesReply old.fetcher.subscription event.request heard (ahead_of old) (ahead_of new) tick
+
+-- one tick of a consumer that commits before it takes in
+pub record IsAheadTick (loss : Loss) (old new : Consumer) (before after : Record)
+    (tick : ConsumerAnswer) : Type 0 where
+  pub same : IsSameConsumer old new
+  pub inbox : new.inbox ≡ new.own
+  pub moves : IsAheadBy (asked_event old.principal old.host old.fetcher old.holding) loss old new
+      before after tick
+
+-- one tick by how the consumer takes in
+abbrev pub IsTakingTick : Taking → Loss → Consumer → Consumer → Record → Record → ConsumerAnswer
+    → Type 0
+IsTakingTick takings.Proved loss old new before after tick = IsOwnTick loss old new before after tick
+IsTakingTick takings.CommitsBefore loss old new before after tick =
+    IsAheadTick loss old new before after tick
+IsTakingTick takings.NoDedup loss old new before after tick =
+    IsOwnTick loss old new before after tick
 
 abbrev pub IsTickBy : Option Event → Loss → Consumer → Consumer → Record → Record → ConsumerAnswer
     → Type 0
-IsTickBy None loss old new before after tick = IsOwnTick loss old new before after tick
+IsTickBy None loss old new before after tick =
+    IsTakingTick old.taking loss old new before after tick
 IsTickBy (Some event) loss old new before after tick =
     (new ≡ old) × IsBegun loss old.worker event before after tick
 
--- one tick of a consumer: where it has to begin, the commit of the end; else the consumer's own
+-- one tick of a consumer: where it has to begin, the commit of the end; else by how it takes in
 abbrev pub IsConsumerTick : Loss → Consumer → Consumer → Record → Record → ConsumerAnswer → Type 0
 IsConsumerTick loss old new before after tick =
     IsTickBy (start_event old.start old.principal old.host old.fetcher before.journal) loss old new
@@ -280,7 +333,7 @@ abbrev pub IsConsumerChange : ConsumerStep → Consumer → Consumer → ℕ →
 IsConsumerChange (consumer_steps.Tick lost) old new told then_told text = ⊥
 IsConsumerChange consumer_steps.Run old new told then_told text = ⊥
 IsConsumerChange consumer_steps.Restart old new told then_told text =
-    Consumes consuming.Move.Restarted old new × IsPrinted (codes " ok restarted") told then_told text
+    Restarts old new × IsPrinted (codes " ok restarted") told then_told text
 IsConsumerChange consumer_steps.Inbox old new told then_told text =
     (rows : List InboxRow)
     × (new ≡ old)

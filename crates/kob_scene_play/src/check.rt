@@ -3,7 +3,8 @@
 ghost use Rattle.std.specs.Prelude.{◌≡◌, ◌++◌, IfOk, OnOk};
 ghost use Rattle.kob_delivery_check.specs.Printed.{check_text};
 ghost use Rattle.kob_router.specs.Line.{one_more};
-ghost use Rattle.kob_scene_play.specs.Checks.{AreEarly, AreFates, IsChecked, IsFound, ahead_of};
+ghost use Rattle.kob_scene_play.specs.Checks.{AreDoubled, AreEarly, AreFates, IsChecked, IsFound};
+ghost use Rattle.kob_scene_play.specs.Checks.{ahead_of};
 ghost use Rattle.kob_scene_play.specs.Checks.{early_in_topics, reaches_of, repeats_in};
 ghost use Rattle.kob_scene_play.specs.Steps.{Tells};
 
@@ -13,16 +14,17 @@ use crate::output::Output;
 use crate::service_worker::ServiceWorker;
 use crate::stage::Stage;
 use kob_delivery_check::{
-    Early, EarlyRecord, Fate, Found, Reach, Stored, early_records, early_rows, fates_of, losses_of,
-    print_check, reaches_by, records_ahead, records_of, repeats_of,
+    DoubledRow, Early, EarlyRecord, Fate, Found, Reach, Stored, doubled_rows, early_records,
+    early_rows, fates_of, losses_of, print_check, reaches_by, records_ahead, records_of,
+    repeats_of,
 };
 use kob_shared::Journal;
 use std::alloc::{AllocError, Global};
 
 /// Prints how many events of the service are in the consumer's inbox, how many wait and how many
 /// are lost; the first one that waits with where it does; each one that is lost; each record of one
-/// of them in the consumer's partitions that has an earlier record; and each row of the inbox and
-/// each such record that is out of order.
+/// of them in the consumer's partitions that has an earlier record; each row of the inbox that has
+/// an earlier row of the same event; and each row and each such record that is out of order.
 pub(crate) fn show_check(
     alloc: Global,
     stage: &mut Stage<'_>,
@@ -50,7 +52,8 @@ pub(crate) fn show_check(
     Ok(())
 }
 
-/// Where each event of the service is, which records repeat an event, and what is out of order.
+/// Where each event of the service is, which records and rows repeat an event, and what is out of
+/// order.
 fn found_at(
     alloc: Global,
     journal: &Journal,
@@ -63,6 +66,7 @@ fn found_at(
 {
     let repeats = repeats_in(alloc, journal, taker)?;
     let early_records = early_in_topics(alloc, journal, sender, taker)?;
+    let doubled_rows = doubled_at(alloc, taker)?;
     let early_rows = early_at(alloc, sender, taker)?;
     let fates = fates_at(alloc, journal, sender, taker)?;
     let losses = losses_of(
@@ -76,9 +80,19 @@ fn found_at(
         fates,
         losses,
         repeats,
+        doubled_rows,
         early_rows,
         early_records,
     })
+}
+
+/// The rows of the consumer's inbox whose event has an earlier row.
+fn doubled_at(alloc: Global, taker: &mut ConsumerWorker) -> Result<Vec<DoubledRow>, PlayFault>
+    ensures doubled { IfOk result (λ doubled. AreDoubled taker.old doubled.items) }
+    ensures same { taker.new ≡ taker.old }
+{
+    let taken = taker.rows(alloc)?;
+    Ok(doubled_rows(alloc, &taken)?)
 }
 
 /// The rows of the consumer's inbox that are out of order.
@@ -90,7 +104,7 @@ pub(crate) fn early_at(
     ensures early { IfOk result (λ early. AreEarly sender.now taker.old early.items) }
     ensures same { taker.new ≡ taker.old }
 {
-    let taken = taker.rows()?;
+    let taken = taker.rows(alloc)?;
     Ok(early_rows(alloc, sender.recorded(), &taken)?)
 }
 
@@ -122,7 +136,7 @@ pub(crate) fn fates_at(
 {
     let mark = sender.mark()?;
     let waiting = sender.rows_after(mark, u32::MAX)?;
-    let taken = taker.rows()?;
+    let taken = taker.rows(alloc)?;
     let ahead = ahead_of(alloc, journal, taker)?;
     Ok(fates_of(alloc, sender.recorded(), &taken, &ahead, &waiting)?)
 }

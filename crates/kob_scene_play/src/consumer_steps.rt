@@ -46,7 +46,7 @@ pub(crate) fn play_consumer(
         }
         ConsumerStep::Run => run(alloc, recorded, consumer, out),
         ConsumerStep::Restart => restart(consumer, out),
-        ConsumerStep::Inbox => show_inbox(consumer, out),
+        ConsumerStep::Inbox => show_inbox(alloc, consumer, out),
     }
 }
 
@@ -146,11 +146,15 @@ fn restart(consumer: &mut ConsumerWorker, out: &mut Output) -> Result<(), PlayFa
     Ok(())
 }
 
-fn show_inbox(consumer: &mut ConsumerWorker, out: &mut Output) -> Result<(), PlayFault>
+fn show_inbox(
+    alloc: Global,
+    consumer: &mut ConsumerWorker,
+    out: &mut Output,
+) -> Result<(), PlayFault>
     ensures { OnOk result (Tells (IsConsumerChange consumer_steps.Inbox consumer.old
         consumer.new out.old.told out.new.told) out.old.text.items out.new.text.items) }
 {
-    let rows = consumer.rows()?;
+    let rows = consumer.rows(alloc)?;
     let number = out.number();
     print_inbox(&mut out.text, number, &rows)?;
     out.tell();

@@ -1,42 +1,55 @@
 //! A consumer as a worker of the journal.
 
-ghost use Rattle.std.specs.Prelude.{◌≡◌, [], IfOk, map};
+ghost use Rattle.std.specs.Prelude.{◌≡◌, [], IfOk, OnOk, map};
 ghost use Rattle.std.specs.List.{enumerate_from};
 ghost use Rattle.kob_inbox.specs.Contents.{placed_intake};
-ghost use Rattle.kob_inbox.specs.Run.Move.{Restarted};
 ghost use Rattle.kob_inbox.specs.Run.{start as new_state};
 ghost use Rattle.kob_scene_play.specs.Faults.{stop_of_consumer};
-ghost use Rattle.kob_scene_play.specs.Begins.{IsBegun, begun_by, commit_event, start_event};
-ghost use Rattle.kob_scene_play.specs.Steps.{Consumes, IsConsumerTick, IsOwnTick, consumer_state};
+ghost use Rattle.kob_scene_play.specs.Begins.{IsBegun, commit_event, start_event};
+ghost use Rattle.kob_scene_play.specs.Steps.{IsAheadTick, IsCalled, IsConsumerTick, IsOwnTick};
+ghost use Rattle.kob_scene_play.specs.Steps.{IsTakingTick, Restarts, consumer_state};
+ghost use Rattle.kob_scene_play.specs.Takings.{asked_event, inbox_by, inbox_with};
+ghost use Rattle.kob_scene_play.specs.declared.holding.Holding.TheVariants.{Nothing};
+ghost use Rattle.kob_scene_text.specs.declared.scene.Taking.TheVariants.{CommitsBefore};
 
+use crate::ask::{ask, committed_by, event_of};
+use crate::commits_before::{handle_reply, take_held};
+use crate::every::Every;
 use crate::fault::{PlayFault, line_fault, loses_first, unless};
+use crate::holding::{Holding, asked_next};
 use crate::line::take_over;
 use kob_delivery_check::start_due;
 use kob_inbox::{Consumer, Inbox, InboxFault, InboxRow, StopReason, Subscription, Tick};
 use kob_lines::{Calls, Loss, Lossy, RecordedLine};
 use kob_names::{Host, PlainValue, Principal};
-use kob_rights::{Event, Reply, Request};
-use kob_scene_text::Start;
+use kob_rights::{Event, Request};
+use kob_router::Call;
+use kob_scene_text::{Start, Taking};
 use kob_shared::{Journal, Recorded};
 use std::alloc::{AllocError, Global};
 use std::marker::Model;
 
-/// A consumer: its number in the journal, who it is, where it begins, how far it has come, and its
-/// inbox.
+/// A consumer: its number in the journal, who it is, where it begins, how it takes in, how far it
+/// has come, its inbox, what it holds if it commits before it takes in, and the events of each
+/// record if it is without dedup.
 #[derive(Drop)]
 pub struct ConsumerWorker {
     worker: usize,
     principal: Principal,
     host: Host,
     start: Start,
+    taking: Taking,
     subscription: Subscription,
     consumer: Consumer,
     inbox: Inbox,
+    holding: Holding,
+    every: Every,
 }
 
 impl Model for ConsumerWorker {
     ghost use Rattle.std.specs.Prelude.{◌≡◌};
     ghost use Rattle.kob_scene_play.specs.Steps.{Consumer};
+    ghost use Rattle.kob_scene_play.specs.Takings.{AreWithin, inbox_by};
 
     ghost Value = { Consumer };
 
@@ -45,11 +58,14 @@ impl Model for ConsumerWorker {
       principal = w.principal;
       host = w.host;
       start = w.start;
+      taking = w.taking;
       fetcher = w.consumer;
-      inbox = w.inbox;
+      own = w.inbox;
+      holding = w.holding;
+      inbox = inbox_by w.taking w.inbox w.every;
     } };
 
-    ghost invariant = { λ w. w.consumer.subscription ≡ w.subscription };
+    ghost invariant = { λ w. (w.consumer.subscription ≡ w.subscription) × AreWithin w.holding };
 }
 
 impl ConsumerWorker {
@@ -60,14 +76,18 @@ impl ConsumerWorker {
         principal: Principal,
         host: Host,
         start: Start,
+        taking: Taking,
         subscription: Subscription,
     ) -> Result<ConsumerWorker, PlayFault>
         ensures worker { IfOk result (λ w. w.worker ≡ worker) }
         ensures principal { IfOk result (λ w. w.principal ≡ principal) }
         ensures host { IfOk result (λ w. w.host ≡ host) }
         ensures start { IfOk result (λ w. w.start ≡ start) }
+        ensures taking { IfOk result (λ w. w.taking ≡ taking) }
         ensures subscription { IfOk result (λ w. w.fetcher.subscription ≡ subscription) }
         ensures state { IfOk result (λ w. consumer_state w ≡ new_state) }
+        ensures holding { IfOk result (λ w. w.holding ≡ Nothing) }
+        ensures inbox { IfOk result (λ w. w.inbox ≡ []) }
     {
         let Subscription {
             group,
@@ -80,9 +100,12 @@ impl ConsumerWorker {
             principal,
             host,
             start,
+            taking,
             subscription,
             consumer: Consumer::new(alloc, group, assignment, max),
             inbox,
+            holding: Holding::Nothing,
+            every: Every::new(alloc),
         })
     }
 
@@ -107,6 +130,12 @@ impl ConsumerWorker {
         self.start
     }
 
+    fn taking(&self) -> Taking
+        ensures { result ≡ self.now.taking }
+    {
+        self.taking
+    }
+
     /// The consumer itself.
     pub fn consumer(&self) -> &Consumer
         ensures { result.now ≡ self.now.fetcher }
@@ -127,9 +156,29 @@ impl ConsumerWorker {
     ) -> Result<Tick, PlayFault>
         ensures { IfOk result (IsConsumerTick loss self.old self.new recorded.old recorded.new) }
     {
+        let taking = self.taking();
         match self.start_due(alloc, recorded.journal())? {
             Some(event) => begin(alloc, recorded, self.worker, loss, &event),
-            None => self.go_on(alloc, recorded, loss),
+            None => self.take_turn(alloc, recorded, taking, loss),
+        }
+    }
+
+    /// One step by how it takes in.
+    fn take_turn(
+        &mut self,
+        alloc: Global,
+        recorded: &mut Recorded,
+        taking: Taking,
+        loss: Loss,
+    ) -> Result<Tick, PlayFault>
+        requires { self.old.taking ≡ taking }
+        ensures { IfOk result
+            (IsTakingTick taking loss self.old self.new recorded.old recorded.new) }
+    {
+        match taking {
+            Taking::Proved => self.go_on(alloc, recorded, loss),
+            Taking::CommitsBefore => self.go_ahead(alloc, recorded, loss),
+            Taking::NoDedup => self.go_on(alloc, recorded, loss),
         }
     }
 
@@ -151,16 +200,13 @@ impl ConsumerWorker {
         let Some(asked) = start_due(alloc, journal, &self.consumer)? else {
             return Ok(None);
         };
-        let principal = self.principal.copy(alloc)?;
-        let host = self.host.copy(alloc)?;
-        Ok(Some(Event {
-            principal,
-            host,
-            request: Request::OffsetCommit(asked),
-        }))
+        let request = Request::OffsetCommit(asked);
+        let event = event_of(alloc, &self.principal, &self.host, request)?;
+        Ok(Some(event))
     }
 
-    /// One step of the consumer itself.
+    /// One step of the consumer itself. What its calls brought is noted if it is without dedup.
+    #[tactic(auto, using(crate::proofs::Ticking::calls_noted))]
     fn go_on(
         &mut self,
         alloc: Global,
@@ -168,6 +214,40 @@ impl ConsumerWorker {
         loss: Loss,
     ) -> Result<Tick, PlayFault>
         ensures { IfOk result (IsOwnTick loss self.old self.new recorded.old recorded.new) }
+    {
+        let (tick, calls) = self.tick_over(alloc, recorded, loss)?;
+        match self.note(alloc, &calls) {
+            Ok(()) => Ok(tick),
+            Err(refused) => {
+                drop(tick);
+                Err(PlayFault::Memory(refused))
+            }
+        }
+    }
+
+    /// Takes in each record that calls brought, if it is without dedup.
+    fn note(&mut self, alloc: Global, calls: &[Call]) -> Result<(), AllocError>
+        ensures { OnOk result (self.new ≡ record self.old {
+          inbox = inbox_with self.old.taking self.old.inbox calls.now;
+        }) }
+    {
+        match self.taking {
+            Taking::Proved => Ok(()),
+            Taking::CommitsBefore => Ok(()),
+            Taking::NoDedup => self.every.take_in(alloc, calls),
+        }
+    }
+
+    /// One step of the consumer itself, with its calls.
+    fn tick_over(
+        &mut self,
+        alloc: Global,
+        recorded: &mut Recorded,
+        loss: Loss,
+    ) -> Result<(Tick, Vec<Call>), PlayFault>
+        ensures called { IfOk result (λ told. IsCalled loss self.old self.new recorded.old
+            recorded.new told.1.items told.0) }
+        ensures inbox { self.new.inbox ≡ inbox_by self.old.taking self.new.own self.old.inbox }
     {
         let principal = self.principal.copy(alloc)?;
         let host = self.host.copy(alloc)?;
@@ -189,31 +269,94 @@ impl ConsumerWorker {
             host,
             calls: below,
         } = line;
-        drop((calls, below));
+        drop(below);
         drop((principal, host));
         let _ = *recorded;
-        let tick = unless(fault, is_lost, tick)?;
-        Ok(tick)
+        let Calls {
+            made,
+            unmade: _,
+            fault: _,
+        } = calls;
+        let told = unless(fault, is_lost, (tick, made))?;
+        Ok(told)
     }
 
-    /// Restarts the consumer. The inbox is unchanged. Does not allocate.
+    /// One step of a consumer that commits before it takes in.
+    fn go_ahead(
+        &mut self,
+        alloc: Global,
+        recorded: &mut Recorded,
+        loss: Loss,
+    ) -> Result<Tick, PlayFault>
+        requires { self.old.taking ≡ CommitsBefore }
+        ensures { IfOk result (IsAheadTick loss self.old self.new recorded.old recorded.new) }
+    {
+        let Some(event) = self.asked_next(alloc)? else {
+            return take_held(
+                alloc,
+                &mut self.consumer,
+                &mut self.inbox,
+                &mut self.holding,
+            );
+        };
+        match ask(alloc, recorded, self.worker, loss, &event) {
+            Ok(heard) => {
+                handle_reply(
+                    alloc,
+                    &mut self.consumer,
+                    &mut self.inbox,
+                    &mut self.holding,
+                    event,
+                    heard,
+                )
+            }
+            Err(fault) => {
+                drop(event);
+                Err(PlayFault::from(fault))
+            }
+        }
+    }
+
+    /// The next request, as it is asked.
+    fn asked_next(&self, alloc: Global) -> Result<Option<Event>, AllocError>
+        ensures { IfOk result (λ event. event ≡ asked_event self.now.principal self.now.host
+            self.now.fetcher self.now.holding) }
+    {
+        let Some(request) = asked_next(alloc, &self.consumer, &self.holding)? else {
+            return Ok(None);
+        };
+        let event = event_of(alloc, &self.principal, &self.host, request)?;
+        Ok(Some(event))
+    }
+
+    /// Restarts the consumer, which forgets what it holds. What was taken in stays. Does not
+    /// allocate.
     pub fn restart(&mut self)
-        ensures { Consumes Restarted self.old self.new }
+        ensures { Restarts self.old self.new }
     {
         self.consumer.restart();
+        self.holding = Holding::Nothing;
     }
 
     /// The rows of its inbox, in the order of their intake.
-    pub fn rows(&mut self) -> Result<Vec<InboxRow>, InboxFault>
+    pub fn rows(&mut self, alloc: Global) -> Result<Vec<InboxRow>, InboxFault>
         ensures rows { IfOk result (λ rows.
             map placed_intake rows.items ≡ enumerate_from 1 self.old.inbox) }
         ensures same { self.new ≡ self.old }
     {
-        self.inbox.taken()
+        match self.taking {
+            Taking::Proved => self.inbox.taken(),
+            Taking::CommitsBefore => self.inbox.taken(),
+            Taking::NoDedup => match self.every.rows(alloc) {
+                Ok(rows) => Ok(rows),
+                Err(refused) => Err(InboxFault::Memory(refused)),
+            },
+        }
     }
 }
 
-/// Serves the commit with which a consumer begins, unless it is lost before.
+/// Asks for the commit with which a consumer begins.
+#[tactic(auto, using(crate::proofs::Ticking::begun))]
 fn begin(
     alloc: Global,
     recorded: &mut Recorded,
@@ -223,27 +366,8 @@ fn begin(
 ) -> Result<Tick, PlayFault>
     ensures { IfOk result (IsBegun loss worker event.now recorded.old recorded.new) }
 {
-    match loss {
-        Loss::None => {
-            let receipt = recorded.serve_as(alloc, worker, event)?;
-            Ok(begun_by(receipt.reply))
-        }
-        Loss::BeforeServe => Ok(Tick::Repeat),
-        Loss::AfterServe => {
-            recorded.serve_as(alloc, worker, event)?;
-            Ok(Tick::Repeat)
-        }
-    }
-}
-
-fn begun_by(reply: Reply) -> Tick
-    ensures { result ≡ begun_by reply }
-{
-    match reply {
-        Reply::Done(_) => Tick::Committed,
-        Reply::Denied { code, verdicts } => Tick::Stopped(StopReason::Denied { code, verdicts }),
-        Reply::Refused { code, reason } => Tick::Stopped(StopReason::Refused { code, reason }),
-    }
+    let heard = ask(alloc, recorded, worker, loss, event)?;
+    Ok(committed_by(heard))
 }
 
 /// Why a tick stopped that ran out of memory or whose database failed.

@@ -31,6 +31,9 @@ pub enum PlayFault {
     /// A call was answered of which a message was to be lost.
     #[error("a call that was to be lost was answered")]
     NotLost,
+    /// The FETCH or the commit of what a consumer holds is not the one that is due to it.
+    #[error("what a consumer holds is not due to it")]
+    NotDue,
     #[error("the output could not be written")]
     WriteFailed,
 }

@@ -158,7 +158,7 @@ fn taken_at(
     ensures count { IfOk result (λ count. IsTaken sender.now taker.old count) }
     ensures same { taker.new ≡ taker.old }
 {
-    let rows = taker.rows()?;
+    let rows = taker.rows(alloc)?;
     Ok(count_taken(alloc, sender.recorded(), &rows)?)
 }
 

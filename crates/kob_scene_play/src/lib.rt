@@ -2,13 +2,17 @@
 //! journal, in the order of the scene.
 #![tactic(auto)]
 
+mod ask;
 mod bare_line;
 mod check;
+mod commits_before;
 mod consumer_steps;
 mod consumer_worker;
+mod every;
 mod expect;
 mod fault;
 mod form;
+mod holding;
 mod journal;
 mod json;
 mod law;

@@ -237,8 +237,9 @@ fn add_consumer(
         host,
         subscription,
         start,
+        taking,
     } = consumer;
-    match ConsumerWorker::open(alloc, worker, principal, host, start, subscription) {
+    match ConsumerWorker::open(alloc, worker, principal, host, start, taking, subscription) {
         Ok(consumer) => {
             all.push_reserved(PlayedConsumer { name, consumer });
             Ok(())

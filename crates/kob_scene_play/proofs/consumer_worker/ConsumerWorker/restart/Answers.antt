@@ -1,4 +1,7 @@
-use Rattle.kob_scene_play.proofs.Words.{Consumer, Consumes, Restarted, refl, subst}
+use Rattle.kob_scene_play.proofs.Words.{Consumer, refl, subst}
+use Rattle.kob_scene_play.specs.Steps.{Restarts}
+use Rattle.kob_scene_play.specs.Takings.{inbox_by}
+use Rattle.kob_scene_play.specs.declared.holding.Holding.TheVariants.{Nothing}
 use Rattle.kob_scene_play.proofs.consumer_worker.ConsumerWorker.restart.Goals as goal
 
 pub returns : goal.returns
@@ -10,12 +13,23 @@ returns c =
       principal = was.principal;
       host = was.host;
       start = was.start;
+      taking = was.taking;
       fetcher = c.restart.new.self;
-      inbox = was.inbox;
+      own = was.inbox;
+      holding = Nothing;
+      inbox = inbox_by was.taking was.inbox was.every;
     } in
     let made = c.restart.ensures in
-    subst (λ (old : Consumer). Consumes Restarted old new) c.self.view_is (record {
-      same = record { worker = refl; principal = refl; host = refl; start = refl; subscription = made.same };
-      may = tt;
-      done = made.done was.inbox;
+    subst (λ (old : Consumer). Restarts old new) c.self.view_is (record {
+      same = record {
+        worker = refl;
+        principal = refl;
+        host = refl;
+        start = refl;
+        taking = refl;
+        subscription = made.same;
+      };
+      forgets = made.done was.inbox;
+      holding = refl;
+      inbox = refl;
     })

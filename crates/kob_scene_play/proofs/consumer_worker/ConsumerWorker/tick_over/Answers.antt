@@ -1,0 +1,56 @@
+use Rattle.kob_scene_play.proofs.Words.{Call, Consumer, LosesFirst, List, Record, Tick, ap, refl, rules, subst, sym, ◌∙◌, ◌≡◌}
+use Rattle.kob_scene_play.proofs.Ticking.{consumer_ticked, journaled_below}
+use Rattle.kob_scene_play.specs.Steps.{IsCalled}
+use Rattle.kob_scene_play.specs.Takings.{inbox_by}
+use Rattle.kob_scene_play.proofs.consumer_worker.ConsumerWorker.tick_over.Goals as goal
+
+pub returns-clause-called : goal.returns-clause-called
+returns-clause-called c =
+    let was = c.self.inside in
+    let ticked = c.take_over-tick in
+    let opened = c.open-line in
+    let old : Consumer =
+    record {
+      worker = was.worker;
+      principal = was.principal;
+      host = was.host;
+      start = was.start;
+      taking = was.taking;
+      fetcher = was.consumer;
+      own = was.inbox;
+      holding = was.holding;
+      inbox = inbox_by was.taking was.inbox was.every;
+    } in
+    let new : Consumer =
+    record {
+      worker = was.worker;
+      principal = was.principal;
+      host = was.host;
+      start = was.start;
+      taking = was.taking;
+      fetcher = ticked.new.consumer;
+      own = ticked.new.inbox;
+      holding = was.holding;
+      inbox = inbox_by was.taking ticked.new.inbox was.every;
+    } in
+    let calls = ticked.new.line.calls.made.items in
+    let after = ticked.new.line.line.recorded.now in
+    let lost = subst (λ all. LosesFirst c.args.loss all) c.deref.ensures.value (c.loses_first-is_lost.ensures c.in_ok-told.ensures.lost) in
+    let journaled =
+    journaled_below was.worker opened.result.worker was.principal opened.result.principal was.host opened.result.host
+    c.new-calls.result.made.items calls opened.result.calls.made.items ticked.new.line.line.calls.made.items
+    c.args.recorded.now opened.result.recorded.now after opened.ensures.worker
+    (rw c.in_ok-principal.ensures at opened.ensures.asker.0) (rw c.in_ok-host.ensures at opened.ensures.asker.1)
+    opened.ensures.recorded c.new-calls.ensures.made opened.ensures.made ticked.ensures.passed ticked.ensures.journaled in
+    let done =
+    consumer_ticked c.args.loss old new ticked.result c.new-calls.result.made.items calls c.new-calls.result.unmade
+    ticked.new.line.calls.unmade c.args.recorded.now after lost
+    (record { worker = refl; principal = refl; host = refl; start = refl; taking = refl; subscription = ticked.ensures.same }) refl
+    c.new-calls.ensures.made c.new-calls.ensures.unmade journaled ticked.ensures.done in
+    let ends : after ≡ c.recorded-1.given.0 = search rules in
+    let told = c.in_ok-told.told in
+    let is = c.in_ok-told.ensures.same in
+    subst (λ (r : Record). IsCalled c.args.loss c.args.self.now new c.args.recorded.now r told.1.items told.0) ends
+    (subst (λ (from : Consumer). IsCalled c.args.loss from new c.args.recorded.now after told.1.items told.0) c.self.view_is
+    (subst (λ (all : List Call). IsCalled c.args.loss old new c.args.recorded.now after all told.0) (sym (ap (λ t. t.1.items) is))
+    (subst (λ (tick : Tick). IsCalled c.args.loss old new c.args.recorded.now after calls tick) (sym (ap (λ t. t.0) is)) done)))

@@ -1,0 +1,22 @@
+use Rattle.kob_scene_play.proofs.Words.{List, [], ap, arith, length, subst, sym, take, take_more, ℕ, ◌++◌, ◌+◌, ◌<◌, ◌∙◌, ◌∷◌, ◌≡◌}
+use Rattle.kob_inbox.proofs.Ticking.{behind_last}
+use Rattle.kob_inbox.specs.Run.{behind}
+use Rattle.kob_names.specs.declared.record.Record.{Record}
+use Rattle.kob_scene_play.proofs.holding.position_behind.Goals as goal
+
+pub overflow_add-position-in-loop-at : goal.overflow_add-position-in-loop-at
+overflow_add-position-in-loop-at c =
+    let x : ℕ × Record = c.loop-at-item.result in
+    let lt : c.loop-at.at-index < length c.args.records.now = omega arith in
+    let low : x.0 < 9223372036854775807 = subst (λ (y : ℕ × Record). y.0 < 9223372036854775807)
+    (sym c.loop-at-item.is) (c.requires c.loop-at.at-index x lt) in
+    omega (arith, low)
+
+pub loop-at-preserved : goal.loop-at-preserved
+loop-at-preserved c =
+    let rs = c.args.records.now in let i = c.loop-at.at-index in let x : ℕ × Record = c.loop-at-item.result in
+    let lt : i < length rs = omega arith in
+    let front : take (i + 1) rs ≡ take i rs ++ x ∷ [] =
+    take_more rs i x lt ∙ ap (λ (y : ℕ × Record). take i rs ++ y ∷ []) (sym c.loop-at-item.is) in
+    sym (behind_last c.args.from (take i rs) x)
+    ∙ ap (λ (xs : List (ℕ × Record)). behind c.args.from xs) (sym front)

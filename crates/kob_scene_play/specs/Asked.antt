@@ -1,0 +1,28 @@
+-- A request of a worker of which a message may be lost.
+use Rattle.std.specs.Prelude.{◌≡◌, ℕ, Option, None, Some}
+use Rattle.kob_inbox.specs.declared.tick.StopReason.TheVariants as stops
+use Rattle.kob_inbox.specs.declared.tick.Tick.{Tick}
+use Rattle.kob_inbox.specs.declared.tick.Tick.TheVariants.{Committed, Repeat, Stopped}
+use Rattle.kob_lines.specs.declared.lossy.Loss.{Loss}
+use Rattle.kob_lines.specs.declared.lossy.Loss.TheVariants as losses
+use Rattle.kob_rights.specs.declared.event.Event.{Event}
+use Rattle.kob_rights.specs.declared.reply.Reply.{Reply}
+use Rattle.kob_rights.specs.declared.reply.Reply.TheVariants.{Denied, Done, Refused}
+use Rattle.kob_shared.specs.Journals.{Record, after_event, outcome_of}
+
+-- the request is served as this worker's, unless it is lost before; its reply is heard, unless the
+-- request or the reply is lost
+abbrev pub IsAsked : Loss → ℕ → Event → Record → Record → Option Reply → Type 0
+IsAsked losses.None worker event before after heard =
+    (after ≡ after_event before worker event)
+    × (heard ≡ Some (outcome_of before event).reply)
+IsAsked losses.BeforeServe worker event before after heard = (after ≡ before) × (heard ≡ None)
+IsAsked losses.AfterServe worker event before after heard =
+    (after ≡ after_event before worker event) × (heard ≡ None)
+
+-- what a tick answers that asked for a commit
+abbrev pub committed_by : Option Reply → Tick
+committed_by None = Repeat
+committed_by (Some (Done body)) = Committed
+committed_by (Some (Denied code verdicts)) = Stopped (stops.Denied code verdicts)
+committed_by (Some (Refused code reason)) = Stopped (stops.Refused code reason)

@@ -1,0 +1,92 @@
+//! A request of a worker of which a message may be lost.
+
+ghost use Rattle.std.specs.Prelude.{◌≡◌, IfOk, IfSome};
+ghost use Rattle.kob_rights.specs.Requests.{Fits, OffsetsWithin};
+ghost use Rattle.kob_scene_play.specs.Asked.{IsAsked, committed_by};
+ghost use Rattle.kob_shared.specs.Journals.{event_by};
+
+use kob_inbox::{StopReason, Tick};
+use kob_lines::Loss;
+use kob_names::{Host, PlainValue, Principal};
+use kob_rights::{Event, Reply, Request};
+use kob_shared::{CallFault, Recorded};
+use std::alloc::{AllocError, Global};
+
+/// The event of a principal at a host that asks this. The error is out of memory.
+pub(crate) fn event_of(
+    alloc: Global,
+    principal: &Principal,
+    host: &Host,
+    request: Request,
+) -> Result<Event, AllocError>
+    ensures { IfOk result (λ event. event ≡ event_by principal.now host.now request) }
+{
+    match asker_of(alloc, principal, host) {
+        Ok((principal, host)) => Ok(Event {
+            principal,
+            host,
+            request,
+        }),
+        Err(refused) => {
+            drop(request);
+            Err(refused)
+        }
+    }
+}
+
+/// Copies of the principal and the host.
+fn asker_of(
+    alloc: Global,
+    principal: &Principal,
+    host: &Host,
+) -> Result<(Principal, Host), AllocError>
+    ensures { IfOk result (λ asker. (asker.0 ≡ principal.now) × (asker.1 ≡ host.now)) }
+{
+    let principal = principal.copy(alloc)?;
+    let host = host.copy(alloc)?;
+    Ok((principal, host))
+}
+
+/// Serves an event as a worker's, unless it is lost before, and returns the reply, unless it is
+/// lost.
+#[tactic(auto, using(kob_shared::proofs::Journals::reply_fits, kob_shared::proofs::Journals::offsets_bounded))]
+pub(crate) fn ask(
+    alloc: Global,
+    recorded: &mut Recorded,
+    worker: usize,
+    loss: Loss,
+    event: &Event,
+) -> Result<Option<Reply>, CallFault>
+    ensures asked { IfOk result (IsAsked loss worker event.now recorded.old recorded.new) }
+    ensures fits { IfOk result (λ heard. IfSome heard (λ reply. Fits event.now.request reply)) }
+    ensures offsets { IfOk result (λ heard. IfSome heard (λ reply. OffsetsWithin reply)) }
+{
+    match loss {
+        Loss::None => {
+            let _ = recorded.journal();
+            let receipt = recorded.serve_as(alloc, worker, event)?;
+            Ok(Some(receipt.reply))
+        }
+        Loss::BeforeServe => Ok(None),
+        Loss::AfterServe => {
+            recorded.serve_as(alloc, worker, event)?;
+            Ok(None)
+        }
+    }
+}
+
+/// What a tick is that asked for a commit, by the reply.
+pub(crate) fn committed_by(heard: Option<Reply>) -> Tick
+    ensures { result ≡ committed_by heard }
+{
+    match heard {
+        None => Tick::Repeat,
+        Some(Reply::Done(_)) => Tick::Committed,
+        Some(Reply::Denied { code, verdicts }) => {
+            Tick::Stopped(StopReason::Denied { code, verdicts })
+        }
+        Some(Reply::Refused { code, reason }) => {
+            Tick::Stopped(StopReason::Refused { code, reason })
+        }
+    }
+}

@@ -1,0 +1,213 @@
+//! A consumer that commits before it takes in.
+
+ghost use Rattle.std.specs.Prelude.{◌≡◌, None, Some, IfOk, IfSome, IsTrue, OnOk, length};
+ghost use Rattle.kob_inbox.specs.Run.{due_now};
+ghost use Rattle.kob_inbox.specs.Tick.{state_of};
+ghost use Rattle.kob_rights.specs.Requests.{BodyWithin, Fits, IsBodyOf, OffsetsWithin};
+ghost use Rattle.kob_rights.specs.declared.reply.Body.TheVariants as bodies;
+ghost use Rattle.kob_scene_play.specs.Takings.{AreWithin, CountsCommitted, HandlesBody};
+ghost use Rattle.kob_scene_play.specs.Takings.{HandlesReply, IsHandled, TakesHeld, ahead};
+ghost use Rattle.kob_scene_play.specs.Takings.{asked_next, held_or, with_held};
+ghost use Rattle.kob_scene_play.specs.declared.holding.Holding.TheVariants.{Nothing};
+
+use crate::ask::committed_by;
+use crate::fault::PlayFault;
+use crate::holding::{Held, Holding, held_of};
+use kob_inbox::{Consumer, Inbox, StopReason, Tick};
+use kob_names::PlainValue;
+use kob_rights::{Body, Event, Fetch, Reply, Request};
+use std::alloc::{AllocError, Global};
+use std::mem;
+
+/// Handles what was heard of the next request.
+pub(crate) fn handle_reply(
+    alloc: Global,
+    consumer: &mut Consumer,
+    inbox: &mut Inbox,
+    holding: &mut Holding,
+    event: Event,
+    heard: Option<Reply>,
+) -> Result<Tick, PlayFault>
+    requires within { AreWithin holding.old }
+    requires asked { asked_next consumer.old.subscription consumer.old.cursors.items
+        consumer.old.turn holding.old ≡ Some event.request }
+    requires fits { IfSome heard (λ reply. Fits event.request reply) }
+    requires offsets { IfSome heard (λ reply. OffsetsWithin reply) }
+    ensures same { consumer.new.subscription ≡ consumer.old.subscription }
+    ensures within { AreWithin holding.new }
+    ensures done { IfOk result (HandlesReply consumer.old.subscription event.request heard
+        (ahead consumer.old inbox.old holding.old) (ahead consumer.new inbox.new holding.new)) }
+{
+    match heard {
+        Some(Reply::Done(body)) => {
+            let request = event.into_request();
+            handle_body(alloc, consumer, inbox, holding, request, body)
+        }
+        None => Ok(committed_by(None)),
+        Some(Reply::Denied { code, verdicts }) => {
+            Ok(committed_by(Some(Reply::Denied { code, verdicts })))
+        }
+        Some(Reply::Refused { code, reason }) => {
+            Ok(committed_by(Some(Reply::Refused { code, reason })))
+        }
+    }
+}
+
+fn handle_body(
+    alloc: Global,
+    consumer: &mut Consumer,
+    inbox: &mut Inbox,
+    holding: &mut Holding,
+    request: Request,
+    body: Body,
+) -> Result<Tick, PlayFault>
+    requires within { AreWithin holding.old }
+    requires asked { asked_next consumer.old.subscription consumer.old.cursors.items
+        consumer.old.turn holding.old ≡ Some request }
+    requires fits { IsBodyOf request body }
+    requires offsets { BodyWithin body }
+    ensures same { consumer.new.subscription ≡ consumer.old.subscription }
+    ensures within { AreWithin holding.new }
+    ensures done { IfOk result (HandlesBody holding.old consumer.old.subscription request body
+        (ahead consumer.old inbox.old holding.old) (ahead consumer.new inbox.new holding.new)) }
+{
+    match mem::replace(holding, Holding::Nothing) {
+        Holding::Nothing => handle_due(alloc, consumer, inbox, holding, request, body),
+        Holding::Fetched(held) => {
+            drop((request, body));
+            *holding = Holding::Committed(held);
+            Ok(Tick::Committed)
+        }
+        Holding::Committed(_) => unreachable!(),
+    }
+}
+
+/// Holds the records that a FETCH brought. Any other body is handled by the consumer.
+fn handle_due(
+    alloc: Global,
+    consumer: &mut Consumer,
+    inbox: &mut Inbox,
+    holding: &mut Holding,
+    request: Request,
+    body: Body,
+) -> Result<Tick, PlayFault>
+    requires nothing { holding.old ≡ Nothing }
+    requires due { due_now consumer.old.subscription consumer.old.cursors.items consumer.old.turn
+        ≡ Some request }
+    requires fits { IsBodyOf request body }
+    requires offsets { BodyWithin body }
+    ensures same { consumer.new.subscription ≡ consumer.old.subscription }
+    ensures within { AreWithin holding.new }
+    ensures done { IfOk result (IsHandled (held_or request body) consumer.old.subscription request
+        (ahead consumer.old inbox.old holding.old) (ahead consumer.new inbox.new holding.new)) }
+{
+    match held_of(request, body) {
+        Ok(held) => {
+            let position = held.position();
+            *holding = Holding::Fetched(held);
+            Ok(Tick::Placed(position))
+        }
+        Err(body) => Ok(consumer.hear(alloc, inbox, body)?),
+    }
+}
+
+/// Takes in what is held, for which its commit is acknowledged. Nothing is done if nothing is held.
+pub(crate) fn take_held(
+    alloc: Global,
+    consumer: &mut Consumer,
+    inbox: &mut Inbox,
+    holding: &mut Holding,
+) -> Result<Tick, PlayFault>
+    requires within { AreWithin holding.old }
+    requires asked { asked_next consumer.old.subscription consumer.old.cursors.items
+        consumer.old.turn holding.old ≡ None }
+    ensures same { consumer.new.subscription ≡ consumer.old.subscription }
+    ensures within { AreWithin holding.new }
+    ensures done { IfOk result (TakesHeld holding.old consumer.old.subscription
+        (ahead consumer.old inbox.old holding.old) (ahead consumer.new inbox.new holding.new)) }
+{
+    match mem::replace(holding, Holding::Nothing) {
+        Holding::Nothing => Ok(Tick::Idle),
+        Holding::Fetched(_) => unreachable!(),
+        Holding::Committed(held) => {
+            let count = take_records(alloc, consumer, inbox, held)?;
+            count_committed(alloc, consumer, inbox)?;
+            Ok(Tick::Took(count))
+        }
+    }
+}
+
+/// The consumer takes in what is held, as it does with the reply to its FETCH. Returns the number
+/// of records.
+#[tactic(auto, using(crate::proofs::Taking::all_taken))]
+fn take_records(
+    alloc: Global,
+    consumer: &mut Consumer,
+    inbox: &mut Inbox,
+    held: Held,
+) -> Result<u64, PlayFault>
+    requires { BodyWithin (bodies.Records held.records) }
+    ensures same { consumer.new.subscription ≡ consumer.old.subscription }
+    ensures count { IfOk result (λ count. count ≡ length held.records) }
+    ensures done { OnOk result (state_of consumer.new inbox.new
+        ≡ with_held consumer.old.subscription (state_of consumer.old inbox.old) held) }
+{
+    let Held { asked, records } = held;
+    let is_due = is_due(alloc, consumer, &asked);
+    drop(asked);
+    match is_due {
+        Ok(true) => took(consumer.hear(alloc, inbox, Body::Records(records))?),
+        Ok(false) => {
+            drop(records);
+            Err(PlayFault::NotDue)
+        }
+        Err(refused) => {
+            drop(records);
+            Err(PlayFault::Memory(refused))
+        }
+    }
+}
+
+/// Whether this FETCH is due to the consumer.
+fn is_due(alloc: Global, consumer: &Consumer, asked: &Fetch) -> Result<bool, AllocError>
+    ensures { IfOk result (λ is. IsTrue is → due_now consumer.now.subscription
+        consumer.now.cursors.items consumer.now.turn ≡ Some (Request.Fetch asked.now)) }
+{
+    match consumer.due(alloc)? {
+        Some(Request::Fetch(due)) => Ok(due.same(asked)),
+        _ => Ok(false),
+    }
+}
+
+/// How many records a tick took in, which took in all.
+fn took(tick: Tick) -> Result<u64, PlayFault>
+    ensures { IfOk result (λ count. tick ≡ Tick.Took count) }
+{
+    match tick {
+        Tick::Took(count) => Ok(count),
+        Tick::Stopped(StopReason::Memory(refused)) => Err(PlayFault::Memory(refused)),
+        Tick::Stopped(StopReason::Store) => Err(PlayFault::Store),
+        _ => Err(PlayFault::NotDue),
+    }
+}
+
+/// The commit that is due to the consumer counts as acknowledged.
+#[tactic(auto, using(crate::proofs::Taking::counted))]
+fn count_committed(
+    alloc: Global,
+    consumer: &mut Consumer,
+    inbox: &mut Inbox,
+) -> Result<(), PlayFault>
+    ensures same { consumer.new.subscription ≡ consumer.old.subscription }
+    ensures done { OnOk result (CountsCommitted consumer.old.subscription
+        (state_of consumer.old inbox.old) (state_of consumer.new inbox.new)) }
+{
+    match consumer.due(alloc)? {
+        Some(Request::OffsetCommit(commit)) => {
+            drop(commit);
+            consumer.hear(alloc, inbox, Body::Committed)?;
+            Ok(())
+        }
+        _ => Err(PlayFault::NotDue),
+    }
+}
