@@ -12,3 +12,4 @@ pub mod Repeats
 pub mod Sent
 pub mod Starts
 pub mod Unread
+pub mod Unrecorded

@@ -19,6 +19,7 @@ mod repeats;
 mod sent;
 mod start;
 mod unread;
+mod unrecorded;
 
 pub use cause::{Cause, Loss, losses_of};
 pub use come::{Arrival, count_taken};
@@ -34,3 +35,4 @@ pub use repeats::{records_of, repeats_of};
 pub use sent::place_of;
 pub use start::start_due;
 pub use unread::unread_of;
+pub use unrecorded::{has_new_id, unrecorded_of};
