@@ -136,10 +136,12 @@ hexadecimal digits stand for a byte. A line that begins with # is a comment.
     create-acl PERMISSION PRINCIPAL HOST OPERATION RESOURCE PATTERN NAME
     describe-acls or delete-acls RESOURCE NAME PATTERN PRINCIPAL HOST OPERATION PERMISSION
     acl OPTION ..                           with the options of kafka-acls
-  service NAME PRINCIPAL HOST partitions N [retries new|deletes first|not idempotent]
+  service NAME PRINCIPAL HOST partitions N
+          [retries new|deletes first|not idempotent|separate|visible late]
           [by COLUMN] [replacement TEXT] [placement TEXT]
-    NAME record ID AGGREGATETYPE AGGREGATEID TYPE PAYLOAD KIND KEY STATE    NAME business KIND KEY
+    NAME record ID AGGREGATETYPE AGGREGATEID TYPE PAYLOAD KIND KEY STATE [crash|late]
     NAME tick [lose-request|lose-reply]     NAME run    NAME restart    NAME sweep    NAME outbox
+    NAME business KIND KEY                  NAME visible
   consumer NAME PRINCIPAL HOST group GROUP max N [start latest] reads TOPIC:PARTITION ..
     NAME tick [lose-request|lose-reply]     NAME run    NAME restart    NAME inbox
   journal               every request that was served, with its reply

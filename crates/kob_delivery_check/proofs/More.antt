@@ -67,3 +67,12 @@ kept_to p g xs k x test mid now below is passes so_far more =
     (one_kept g x test ∙ ap (λ b. cond b (g x ∷ []) []) passes)
     ∙ sym (filter-append p (map g (take k xs)) (g x ∷ []))
     ∙ ap (filter p) (sym (ap (map g) (next xs k x below is) ∙ map-append g (take k xs) (x ∷ [])))
+
+-- to the parts of the items of a mapped list
+pub mapped_parts_to : {A B C : Type 0} (part : B → List C) (g : A → B) (xs : List A) (k : ℕ) (x : A)
+    (held mid now : List C) → k < length xs → x ≡ get_or xs k x → mid ≡ held ++ flat_map part (map g (take k xs))
+    → now ≡ mid ++ part (g x) → now ≡ held ++ flat_map part (map g (take (k + 1) xs))
+mapped_parts_to part g xs k x held mid now below is so_far more =
+    more ∙ ap (λ ys. ys ++ part (g x)) so_far ∙ flat_map_more part held (map g (take k xs)) (g x)
+    ∙ ap (λ zs. held ++ flat_map part zs)
+    (sym (ap (map g) (next xs k x below is) ∙ map-append g (take k xs) (x ∷ [])))

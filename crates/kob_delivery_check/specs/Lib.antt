@@ -13,3 +13,4 @@ pub mod Repeats
 pub mod Sent
 pub mod Starts
 pub mod Unread
+pub mod Unrecorded

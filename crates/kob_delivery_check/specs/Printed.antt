@@ -1,5 +1,5 @@
 -- How the answer to a check is printed: how many events are where, and the first that waits.
-use Rattle.std.specs.Prelude.{ℕ, List, [], ◌++◌, Option, None, Some, codes, length, slice_get}
+use Rattle.std.specs.Prelude.{ℕ, ◌+◌, List, [], ◌++◌, Option, None, Some, codes, length, slice_get}
 use Rattle.std.specs.Fmt.{decimal}
 use Rattle.std.specs.List.{count_by, position}
 use Rattle.kob_delivery_check.specs.Doubles.{double_lines}
@@ -7,6 +7,7 @@ use Rattle.kob_delivery_check.specs.Fates.{is_delivered, is_lost, is_waiting}
 use Rattle.kob_delivery_check.specs.PrintedOrder.{record_lines, row_lines}
 use Rattle.kob_delivery_check.specs.PrintedPieces.{counted, event_text, place_text}
 use Rattle.kob_delivery_check.specs.PrintedRecords.{doubled_lines, lost_lines}
+use Rattle.kob_delivery_check.specs.Unrecorded.{unrecorded_lines}
 use Rattle.kob_delivery_check.specs.declared.printed.Found.{Found}
 use Rattle.kob_delivery_check.specs.declared.fate.Fate.{Fate}
 use Rattle.kob_delivery_check.specs.declared.fate.Fate.TheVariants.{Delivered, Ahead, Outbox, Lost}
@@ -38,19 +39,22 @@ abbrev pub waits_text : List OutboxEvent → List Fate → List Place → List �
 waits_text events fates assignment =
     waits_at events fates assignment (position is_waiting fates)
 
--- how many events are where
-abbrev pub head_text : ℕ → List Fate → List ℕ
-head_text number fates =
+-- how many events are where; those that were never recorded are lost
+abbrev pub head_text : ℕ → List Fate → List OutboxEvent → List ℕ
+head_text number fates unrecorded =
     decimal number ++ codes " delivered" ++ counted (count_by is_delivered fates)
-    ++ codes " of" ++ counted (length fates)
+    ++ codes " of" ++ counted (length fates + length unrecorded)
     ++ codes " waiting" ++ counted (count_by is_waiting fates)
-    ++ codes " lost" ++ counted (count_by is_lost fates) ++ codes "\n"
+    ++ codes " lost" ++ counted (count_by is_lost fates + length unrecorded) ++ codes "\n"
 
 -- the whole answer to a check
-abbrev pub check_text : ℕ → List Entry → List OutboxEvent → Found → List Place → List ℕ
-check_text number journal events found assignment =
-    head_text number found.fates.items ++ waits_text events found.fates.items assignment
+abbrev pub check_text : ℕ → List Entry → List OutboxEvent → List OutboxEvent → Found → List Place
+    → List ℕ
+check_text number journal events unrecorded found assignment =
+    head_text number found.fates.items unrecorded
+    ++ waits_text events found.fates.items assignment
     ++ lost_lines journal assignment events found.losses.items
+    ++ unrecorded_lines unrecorded
     ++ doubled_lines journal assignment events found.repeats.items
     ++ double_lines events found.doubled_rows.items
     ++ row_lines events found.early_rows.items

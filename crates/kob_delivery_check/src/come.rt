@@ -31,7 +31,8 @@ pub fn count_taken(
     Ok(count_of(&come))
 }
 
-fn count_of(events: &[&OutboxEvent]) -> usize
+/// How many events these are.
+pub(crate) fn count_of(events: &[&OutboxEvent]) -> usize
     ensures { result ≡ length (map (λ event. event.now) events.now) }
 {
     events.len()
@@ -68,7 +69,7 @@ pub(crate) fn events_come<'e>(
     Ok(come)
 }
 
-fn push_if<'e>(
+pub(crate) fn push_if<'e>(
     come: &mut Vec<&'e OutboxEvent>,
     has_come: bool,
     event: &'e OutboxEvent,

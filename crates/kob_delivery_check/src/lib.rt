@@ -21,6 +21,7 @@ mod row_doubles;
 mod sent;
 mod start;
 mod unread;
+mod unrecorded;
 
 pub use cause::{Cause, Loss, losses_of};
 pub use come::{Arrival, count_taken};
@@ -37,3 +38,4 @@ pub use row_doubles::{DoubledRow, doubled_rows};
 pub use sent::place_of;
 pub use start::start_due;
 pub use unread::unread_of;
+pub use unrecorded::{has_new_id, unrecorded_of};

@@ -8,6 +8,7 @@ ghost use Rattle.kob_delivery_check.specs.Printed.{check_text, head_text, waits_
 ghost use Rattle.kob_delivery_check.specs.Printed.{waits_text, where_text};
 
 use crate::cause::{Loss, event_at};
+use crate::come::count_of;
 use crate::fate::Fate;
 use crate::order::Early;
 use crate::printed_doubles::push_doubled_rows;
@@ -17,6 +18,8 @@ use crate::printed_records::{push_doubles, push_losses};
 use crate::reach::Stored;
 use crate::record_order::EarlyRecord;
 use crate::row_doubles::DoubledRow;
+use crate::unrecorded::push_unrecorded;
+use kob_names::sum_of;
 use kob_outbox::OutboxEvent;
 use kob_router::Place;
 use kob_shared::Journal;
@@ -91,18 +94,26 @@ fn fate_at(fates: &[Fate], place: usize) -> Option<Fate>
 }
 
 #[tactic(auto, using(kob_words::proofs::Appending::appending))]
-fn push_head(out: &mut Vec<u8>, number: u64, fates: &[Fate]) -> Result<(), AllocError>
-    ensures { OnOk result (out.new.items ≡ out.old.items ++ head_text number fates.now) }
+fn push_head(
+    out: &mut Vec<u8>,
+    number: u64,
+    fates: &[Fate],
+    unrecorded: &[&OutboxEvent],
+) -> Result<(), AllocError>
+    ensures { OnOk result (out.new.items ≡ out.old.items
+        ++ head_text number fates.now (map (λ event. event.now) unrecorded.now)) }
 {
+    let all = sum_of(fates.len(), count_of(unrecorded))?;
+    let lost = sum_of(lost(fates), count_of(unrecorded))?;
     push_number(out, number)?;
     out.extend_from_slice(b" delivered")?;
     push_counted(out, delivered(fates) as u64)?;
     out.extend_from_slice(b" of")?;
-    push_counted(out, fates.len() as u64)?;
+    push_counted(out, all as u64)?;
     out.extend_from_slice(b" waiting")?;
     push_counted(out, waiting(fates) as u64)?;
     out.extend_from_slice(b" lost")?;
-    push_counted(out, lost(fates) as u64)?;
+    push_counted(out, lost as u64)?;
     out.extend_from_slice(b"\n")
 }
 
@@ -141,28 +152,32 @@ pub struct Found {
 /// Prints `N delivered D of M waiting W lost L`, then a line `waits ID AGGREGATETYPE AGGREGATEID row
 /// ROW` with where for the first event that waits; a line `lost ID AGGREGATETYPE AGGREGATEID row ROW`
 /// for each event that is lost, with the place of its record and the entry of the journal that put it
-/// out of reach; a line `doubled ID AGGREGATETYPE AGGREGATEID row ROW in TOPIC PARTITION at OFFSET`
-/// for each record of an event that has an earlier one, with the entries that sent the two; a line
-/// `doubled ID AGGREGATETYPE AGGREGATEID row ROW in the inbox at PLACE, first at PLACE` for each row
-/// of the inbox whose event has an earlier row; and a line `misordered ID AGGREGATETYPE AGGREGATEID
-/// row ROW in the inbox at PLACE, before ID row ROW` for each row of the inbox that is out of order,
-/// and for each such record. The error is out of memory; `out` has then grown by a part of it.
+/// out of reach; a line `lost ID AGGREGATETYPE AGGREGATEID, no row: ..` for each of `unrecorded`, the
+/// events that the service never recorded; a line `doubled ID AGGREGATETYPE AGGREGATEID row ROW in
+/// TOPIC PARTITION at OFFSET` for each record of an event that has an earlier one, with the entries
+/// that sent the two; a line `doubled ID AGGREGATETYPE AGGREGATEID row ROW in the inbox at PLACE,
+/// first at PLACE` for each row of the inbox whose event has an earlier row; and a line `misordered ID
+/// AGGREGATETYPE AGGREGATEID row ROW in the inbox at PLACE, before ID row ROW` for each row of the
+/// inbox that is out of order, and for each such record. The error is out of memory; `out` has then
+/// grown by a part of it.
 #[tactic(auto, using(kob_words::proofs::Appending::appending))]
 pub fn print_check(
     out: &mut Vec<u8>,
     number: u64,
     journal: &Journal,
     events: &[&OutboxEvent],
+    unrecorded: &[&OutboxEvent],
     found: &Found,
     assignment: &[Place],
 ) -> Result<(), AllocError>
     ensures { OnOk result (out.new.items ≡ out.old.items
-        ++ check_text number journal.now (map (λ event. event.now) events.now) found.now
-        assignment.now) }
+        ++ check_text number journal.now (map (λ event. event.now) events.now)
+        (map (λ event. event.now) unrecorded.now) found.now assignment.now) }
 {
-    push_head(out, number, &found.fates)?;
+    push_head(out, number, &found.fates, unrecorded)?;
     push_first_waiting(out, events, &found.fates, assignment)?;
     push_losses(out, journal, assignment, events, &found.losses)?;
+    push_unrecorded(out, unrecorded)?;
     push_doubles(out, journal, assignment, events, &found.repeats)?;
     push_doubled_rows(out, events, &found.doubled_rows)?;
     push_rows(out, events, &found.early_rows)?;

@@ -55,7 +55,7 @@ static LINES: [(&str, &str); 8] = [
     ("everyone", "everyone on|off"),
     (
         "service",
-        "service NAME PRINCIPAL HOST partitions N [retries new|deletes first|not idempotent] [by COLUMN] [replacement TEXT] [placement TEXT]",
+        "service NAME PRINCIPAL HOST partitions N [retries new|deletes first|not idempotent|separate|visible late] [by COLUMN] [replacement TEXT] [placement TEXT]",
     ),
     (
         "consumer",
@@ -71,10 +71,10 @@ static LINES: [(&str, &str); 8] = [
 ];
 
 /// The steps of workers.
-static STEPS: [(&str, &str); 8] = [
+static STEPS: [(&str, &str); 9] = [
     (
         "record",
-        "NAME record ID AGGREGATETYPE AGGREGATEID TYPE PAYLOAD KIND KEY STATE",
+        "NAME record ID AGGREGATETYPE AGGREGATEID TYPE PAYLOAD KIND KEY STATE [crash|late]",
     ),
     ("business", "NAME business KIND KEY"),
     ("tick", "NAME tick [lose-request|lose-reply]"),
@@ -82,6 +82,7 @@ static STEPS: [(&str, &str); 8] = [
     ("restart", "NAME restart"),
     ("sweep", "NAME sweep"),
     ("outbox", "NAME outbox"),
+    ("visible", "NAME visible"),
     ("inbox", "NAME inbox"),
 ];
 
@@ -140,7 +141,7 @@ static WORDS: [&str; 50] = [
 ];
 
 /// The words of declarations and steps behind their first two.
-static PARTS: [&str; 21] = [
+static PARTS: [&str; 25] = [
     "partitions",
     "retries",
     "new",
@@ -148,6 +149,10 @@ static PARTS: [&str; 21] = [
     "first",
     "not",
     "idempotent",
+    "separate",
+    "visible",
+    "late",
+    "crash",
     "by",
     "replacement",
     "placement",

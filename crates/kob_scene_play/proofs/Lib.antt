@@ -6,6 +6,7 @@ pub mod Kept
 pub mod Listed
 pub mod Places
 pub mod Played
+pub mod Polling
 pub mod Running
 pub mod Services
 pub mod Taking

@@ -249,7 +249,7 @@ pub service_changed : {E : Type 0} (result : Result (Unit {0}) E) (step : Servic
     (r : Record) (told then_told : ℕ) (held then_held : List ℕ)
     → OnOk result (Tells (IsServiceChange step old new told then_told) held then_held)
     → OnOk result (Tells (IsServiceStep step old new r r told then_told) held then_held)
-service_changed (Ok done) (service_steps.Record change event) old new r told then_told held then_held (text, is, prints) =
+service_changed (Ok done) (service_steps.Record change event recording) old new r told then_told held then_held (text, is, prints) =
     (text, (refl, is), prints)
 service_changed (Ok done) (service_steps.Tick lost) old new r told then_told held then_held (text, is, prints) = absurd is
 service_changed (Ok done) service_steps.Run old new r told then_told held then_held (text, is, prints) = absurd is
@@ -260,6 +260,8 @@ service_changed (Ok done) service_steps.Sweep old new r told then_told held then
 service_changed (Ok done) service_steps.Outbox old new r told then_told held then_held (text, is, prints) =
     (text, (refl, is), prints)
 service_changed (Ok done) (service_steps.Business kind key) old new r told then_told held then_held (text, is, prints) =
+    (text, (refl, is), prints)
+service_changed (Ok done) service_steps.Visible old new r told then_told held then_held (text, is, prints) =
     (text, (refl, is), prints)
 service_changed (Err fault) step old new r told then_told held then_held made = tt
 

@@ -11,7 +11,7 @@ use Rattle.kob_rights.specs.declared.request.Request.TheVariants.{Produce}
 use Rattle.kob_router.specs.Run.{next_row}
 use Rattle.kob_router.specs.declared.line.Delivery.{Delivery}
 use Rattle.kob_router.specs.declared.tick.Tick.{Tick}
-use Rattle.kob_scene_play.specs.Services.{GoesOn, IsRouterTick, IsServiceTick, bare, bare_call, mark_past, past_first, sent_bare, sent_by}
+use Rattle.kob_scene_play.specs.Services.{GoesOn, IsRouterTick, IsSeenTick, bare, bare_call, mark_past, past_first, sent_bare, sent_by}
 use Rattle.kob_scene_text.specs.declared.scene.Sending.{Sending}
 use Rattle.kob_shared.specs.Journals.{after_event, event_by, outcome_of}
 
@@ -77,7 +77,7 @@ passes_bare calls then_calls below then_below passes = record {
 -- one of the router, and what is done after it
 pub tick_done : (loss : Loss) (sending : Sending) (old mid new : Service) (before after : Record) (tick : Tick)
     → sending ≡ old.sending → IsRouterTick (sent_by sending) loss old mid before after tick
-    → GoesOn sending tick mid new → IsServiceTick loss old new before after tick
+    → GoesOn sending tick mid new → IsSeenTick loss old new before after tick
 tick_done loss sending old mid new before after tick is ticked goes_on = record {
   mid = mid;
   ticked = subst (λ s. IsRouterTick (sent_by s) loss old mid before after tick) is ticked;

@@ -9,6 +9,7 @@ use Rattle.kob_delivery_check.specs.Order.{early_records, early_rows}
 use Rattle.kob_delivery_check.specs.Printed.{check_text}
 use Rattle.kob_delivery_check.specs.Reaches.{records_ahead}
 use Rattle.kob_delivery_check.specs.Repeats.{records_of, repeats_of}
+use Rattle.kob_delivery_check.specs.Unrecorded.{unrecorded_of}
 use Rattle.kob_delivery_check.specs.declared.fate.Fate.{Fate}
 use Rattle.kob_delivery_check.specs.declared.order.Early.{Early}
 use Rattle.kob_delivery_check.specs.declared.record_order.EarlyRecord.{EarlyRecord}
@@ -19,6 +20,7 @@ use Rattle.kob_delivery_check.specs.declared.row_doubles.DoubledRow.{DoubledRow}
 use Rattle.kob_inbox.specs.Contents.{placed_intake}
 use Rattle.kob_inbox.specs.declared.inbox_row.InboxRow.{InboxRow}
 use Rattle.kob_outbox.specs.Contents.{first_after, stored_row}
+use Rattle.kob_outbox.specs.declared.event.OutboxEvent.{OutboxEvent}
 use Rattle.kob_outbox.specs.declared.event.Row.{Row}
 use Rattle.kob_router.specs.Line.{one_more}
 use Rattle.kob_scene_play.specs.Steps.{Consumer, Service}
@@ -60,6 +62,10 @@ AreDoubled consumer doubled =
     × (map placed_intake taken ≡ enumerate_from 1 consumer.inbox)
     × (doubled ≡ doubled_rows taken)
 
+-- the events whose business row the service wrote, and that it never recorded
+abbrev pub unrecorded_by : Service → List OutboxEvent
+unrecorded_by service = unrecorded_of service.recorded service.unwritten
+
 -- the rows of its inbox that are out of order
 abbrev pub AreEarly : Service → Consumer → List Early → Type 0
 AreEarly service consumer early =
@@ -88,7 +94,7 @@ abbrev pub IsCheck : Service → Consumer → List Entry → ℕ → List ℕ �
 IsCheck service consumer journal told text =
     (found : Found)
     × IsFound service consumer journal found
-    × (text ≡ check_text (one_more told) journal service.recorded found
+    × (text ≡ check_text (one_more told) journal service.recorded (unrecorded_by service) found
     consumer.fetcher.subscription.assignment)
 
 -- the answer about the service and the consumer at these places

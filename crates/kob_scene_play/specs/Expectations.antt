@@ -1,6 +1,6 @@
 -- Whether the events of a service are where they are expected to be.
 use Rattle.std.specs.List.{list_all}
-use Rattle.std.specs.Prelude.{◌≡◌, ◌==◌, ◌||◌, ℕ, Bool, true, false, not, List, ◌++◌, Option, None, Some, codes, length, slice_get}
+use Rattle.std.specs.Prelude.{◌≡◌, ◌==◌, ◌&&◌, ◌||◌, ℕ, Bool, true, false, is_some, not, List, ◌++◌, Option, None, Some, codes, length, slice_get}
 use Rattle.std.specs.Fmt.{decimal}
 use Rattle.kob_delivery_check.specs.Fates.{is_delivered, is_lost}
 use Rattle.kob_delivery_check.specs.Logs.{number_of}
@@ -9,7 +9,7 @@ use Rattle.kob_delivery_check.specs.declared.fate.Fate.{Fate}
 use Rattle.kob_delivery_check.specs.declared.order.Early.{Early}
 use Rattle.kob_outbox.specs.declared.event.OutboxEvent.{OutboxEvent}
 use Rattle.kob_router.specs.Line.{one_more}
-use Rattle.kob_scene_play.specs.Checks.{AreEarly, AreFates}
+use Rattle.kob_scene_play.specs.Checks.{AreEarly, AreFates, unrecorded_by}
 use Rattle.kob_scene_play.specs.Steps.{Consumer, Service}
 use Rattle.kob_scene_play.specs.declared.stage.PlayedConsumer.{PlayedConsumer}
 use Rattle.kob_scene_play.specs.declared.stage.PlayedService.{PlayedService}
@@ -30,14 +30,22 @@ is_lost_at fates None = false
 abbrev pub is_lost_event : List ℕ → List OutboxEvent → List Fate → Bool
 is_lost_event id events fates = is_lost_at fates (place_of (number_of id) events)
 
+-- one of these events has this id
+abbrev pub is_among : List ℕ → List OutboxEvent → Bool
+is_among id events = is_some (place_of (number_of id) events)
+
+-- no event is missing: each that was recorded is delivered, and none was not recorded
+abbrev pub are_delivered : List Fate → List OutboxEvent → Bool
+are_delivered fates unrecorded = list_all is_delivered fates && length unrecorded == 0
+
 -- whether it is as expected
 abbrev pub IsMet : Expected → Service → Consumer → List Entry → Bool → Type 0
 IsMet expectations.Delivered service consumer journal is_met =
     (fates : List Fate) × AreFates service consumer journal fates
-    × (is_met ≡ list_all is_delivered fates)
+    × (is_met ≡ are_delivered fates (unrecorded_by service))
 IsMet (expectations.Lost id) service consumer journal is_met =
     (fates : List Fate) × AreFates service consumer journal fates
-    × (is_met ≡ is_lost_event id service.recorded fates)
+    × (is_met ≡ (is_lost_event id service.recorded fates || is_among id (unrecorded_by service)))
 IsMet expectations.Order service consumer journal is_met =
     (early : List Early) × AreEarly service consumer early × (is_met ≡ (length early == 0))
 

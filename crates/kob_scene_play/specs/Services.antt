@@ -1,20 +1,27 @@
 -- A service of a scene: what its router's ticks do, and what is done after them.
-use Rattle.std.specs.Prelude.{◌≡◌, ℕ, List, [], ◌∷◌, ◌++◌, Option, None, Some, map}
+use Rattle.std.specs.List.{find, list_any}
+use Rattle.std.specs.Prelude.{◌≡◌, ℕ, ◌-◌, ◌==◌, Bool, not, List, [], ◌∷◌, ◌++◌, Option, None, Some, Result, Ok, Err, map, option_map, string_bytes, if◌then◌else◌}
+use Rattle.kob_delivery_check.specs.Unrecorded.{has_new_id}
 use Rattle.kob_lines.specs.Calls.{IsJournaled}
 use Rattle.kob_lines.specs.declared.lossy.Loss.{Loss}
 use Rattle.kob_lines.specs.declared.lossy.Loss.TheVariants as losses
-use Rattle.kob_outbox.specs.Contents.{Contents, Event}
+use Rattle.kob_outbox.specs.Contents.{Contents, Event, first_after, key_of, with_state}
+use Rattle.kob_outbox.specs.declared.change.Change.{Change}
 use Rattle.kob_outbox.specs.declared.event.OutboxEvent.{OutboxEvent}
+use Rattle.kob_outbox.specs.declared.fault.RecordFault.{RecordFault}
 use Rattle.kob_rights.specs.declared.request.Request.{Request}
 use Rattle.kob_rights.specs.declared.request.Request.TheVariants.{Produce}
 use Rattle.kob_router.specs.Run as routing
 use Rattle.kob_router.specs.Tick as router_ticks
 use Rattle.kob_router.specs.declared.line.Call.{Call}
+use Rattle.kob_router.specs.declared.sender.HeldRow.{HeldRow}
 use Rattle.kob_router.specs.declared.sender.Sender.{Sender}
 use Rattle.kob_router.specs.declared.tick.Tick.{Tick}
 use Rattle.kob_router.specs.declared.tick.Tick.TheVariants.{Moved, Idle, Repeat, Stopped}
+use Rattle.kob_scene_play.specs.declared.poll.Poll.{Poll}
+use Rattle.kob_scene_play.specs.declared.poll.Poll.TheVariants.{Own, Past, Nothing}
 use Rattle.kob_scene_text.specs.declared.scene.Sending.{Sending}
-use Rattle.kob_scene_text.specs.declared.scene.Sending.TheVariants.{Proved, RetriesNew, DeletesFirst, NotIdempotent}
+use Rattle.kob_scene_text.specs.declared.scene.Sending.TheVariants.{Proved, RetriesNew, DeletesFirst, NotIdempotent, Separate, VisibleLate}
 use Rattle.kob_shared.specs.Journals.{Record}
 
 -- where a message of the first call is lost, no reply to it is heard
@@ -24,8 +31,9 @@ LosesFirst losses.None (call ∷ calls) = Unit {0}
 LosesFirst losses.BeforeServe (call ∷ calls) = call.heard ≡ None
 LosesFirst losses.AfterServe (call ∷ calls) = call.heard ≡ None
 
--- a service: its number in the journal, who it is, how it sends, its router, its outbox, and the
--- events that it recorded, swept ones included
+-- a service: its number in the journal, who it is, how it sends, its router, its outbox, the events
+-- that it recorded, swept ones included, those of which it wrote the business row alone, and the
+-- numbers of its hidden rows
 pub record Service : Type 0 where
   pub worker : ℕ
   pub principal : List ℕ
@@ -34,17 +42,21 @@ pub record Service : Type 0 where
   pub sender : Sender
   pub outbox : Contents
   pub recorded : List OutboxEvent
+  pub unwritten : List OutboxEvent
+  pub hidden : List ℕ
 
 abbrev pub service_state : Service → routing.State
 service_state service = router_ticks.state_of service.sender service.outbox
 
--- its number, who it is, how it sends and how it routes stay
+-- its number, who it is, how it sends, how it routes, what it did not record and what is hidden stay
 pub record IsSameService (old new : Service) : Type 0 where
   pub worker : new.worker ≡ old.worker
   pub principal : new.principal ≡ old.principal
   pub host : new.host ≡ old.host
   pub sending : new.sending ≡ old.sending
   pub target : new.sender.target ≡ old.sender.target
+  pub unwritten : new.unwritten ≡ old.unwritten
+  pub hidden : new.hidden ≡ old.hidden
 
 -- the events that were recorded, after a move
 abbrev pub recorded_after : routing.Move → List OutboxEvent → List OutboxEvent
@@ -57,6 +69,28 @@ pub record Does (move : routing.Move) (old new : Service) : Type 0 where
   pub recorded : new.recorded ≡ recorded_after move old.recorded
   pub may : routing.May (routing.dispatch_of old.sender.target) (service_state old) move
   pub done : service_state new ≡ routing.after (service_state old) move
+
+-- How a service records.
+
+-- an event of which the business row was written alone; each id is there once
+abbrev pub with_unwritten : OutboxEvent → List OutboxEvent → List OutboxEvent
+with_unwritten event events = if has_new_id events event then events ++ event ∷ [] else events
+
+-- the business row is written, and the service crashes before it has recorded the event
+abbrev pub crashed : Change → OutboxEvent → Service → Service
+crashed change event service = record service {
+  outbox = with_state service.outbox (key_of change) (string_bytes change.state);
+  unwritten = with_unwritten event service.unwritten;
+}
+
+-- the row of a record that was made is hidden
+abbrev pub hides : Result ℕ RecordFault → Service → Service
+hides (Ok seq) service = record service { hidden = service.hidden ++ seq ∷ [] }
+hides (Err fault) service = service
+
+-- no row is hidden
+abbrev pub shown : Service → Service
+shown service = record service { hidden = [] }
 
 -- How a service sends.
 
@@ -80,6 +114,8 @@ sent_by Proved = sent_whole
 sent_by RetriesNew = sent_whole
 sent_by DeletesFirst = sent_whole
 sent_by NotIdempotent = sent_bare
+sent_by Separate = sent_whole
+sent_by VisibleLate = sent_whole
 
 -- the moves of one tick of its router, over a line of its own that loses the first call so; its
 -- calls that were served are the journal's new entries, as the broker gets them
@@ -137,10 +173,60 @@ GoesOn Proved tick old new = new ≡ old
 GoesOn RetriesNew tick old new = StartsAgain tick old new
 GoesOn DeletesFirst tick old new = GivesUp tick old new
 GoesOn NotIdempotent tick old new = new ≡ old
+GoesOn Separate tick old new = new ≡ old
+GoesOn VisibleLate tick old new = new ≡ old
 
--- one tick of a service: of its router, and what is done after it
-pub record IsServiceTick (loss : Loss) (old new : Service) (before after : Record) (tick : Tick)
+-- a step of the router, and what is done after it
+pub record IsSeenTick (loss : Loss) (old new : Service) (before after : Record) (tick : Tick)
     : Type 0 where
   pub mid : Service
   pub ticked : IsRouterTick (sent_by old.sending) loss old mid before after tick
   pub goes_on : GoesOn old.sending tick mid new
+
+-- What a router sees that goes by the numbers of rows and sees the visible ones alone.
+
+-- the row of this number is hidden
+abbrev pub is_hidden : List ℕ → ℕ → Bool
+is_hidden hidden seq = list_any (λ number. number == seq) hidden
+
+-- the hidden rows before the first visible one are passed by; without one, none is seen
+abbrev pub poll_behind : Option Event → Poll
+poll_behind None = Nothing
+poll_behind (Some event) = Past (event.seq - 1)
+
+-- by the rows that wait
+abbrev pub poll_rows : List ℕ → List Event → Poll
+poll_rows hidden [] = Own
+poll_rows hidden (first ∷ rest) =
+    if is_hidden hidden first.seq
+    then poll_behind (find (λ event. not (is_hidden hidden event.seq)) rest) else Own
+
+-- by the number of the row in flight, which is sent again whatever is hidden
+abbrev pub poll_by : Option ℕ → List ℕ → Contents → Poll
+poll_by (Some seq) hidden outbox = Own
+poll_by None hidden outbox =
+    poll_rows hidden (first_after outbox.mark 4294967295 outbox.events)
+
+-- only a service with `visible late` has hidden rows
+abbrev pub poll_of : Sending → Option HeldRow → List ℕ → Contents → Poll
+poll_of VisibleLate hand hidden outbox =
+    poll_by (option_map (λ held. held.row.seq) hand) hidden outbox
+poll_of sending hand hidden outbox = Own
+
+-- the mark moves to this number
+abbrev pub passed_to : ℕ → Service → Service
+passed_to seq service = record service { outbox = record service.outbox { mark = seq } }
+
+-- one tick of a service, by what its router sees
+abbrev pub IsPolledTick : Poll → Loss → Service → Service → Record → Record → Tick → Type 0
+IsPolledTick Own loss old new before after tick = IsSeenTick loss old new before after tick
+IsPolledTick (Past seq) loss old new before after tick =
+    IsSeenTick loss (passed_to seq old) new before after tick
+IsPolledTick Nothing loss old new before after tick =
+    (new ≡ old) × (after ≡ before) × (tick ≡ Idle)
+
+-- one tick of a service
+abbrev pub IsServiceTick : Loss → Service → Service → Record → Record → Tick → Type 0
+IsServiceTick loss old new before after tick =
+    IsPolledTick (poll_of old.sending old.sender.hand old.hidden old.outbox) loss old new before after
+    tick

@@ -46,6 +46,8 @@ declared_service declared = record {
         sender = record { target = declared.routed; producer = None; sequences = []; hand = None };
         outbox = empty;
         recorded = [];
+        unwritten = [];
+        hidden = [];
       };
 }
 

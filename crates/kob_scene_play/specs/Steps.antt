@@ -2,13 +2,13 @@
 use Rattle.std.specs.Io.KnownBytes.{Appends}
 use Rattle.std.specs.Prelude.{◌≡◌, ℕ, ◌+◌, List, ◌++◌, Option, [], ◌∷◌, None, Bool, true, false, ◌⊎◌, length, Some, Result, Ok, Err, IsTrue, codes, map, nat_lt, is_some, if◌then◌else◌}
 use Rattle.kob_router.specs.Line.{one_more}
-use Rattle.kob_scene_text.specs.PrintedRows.{numbered, inbox_text, outbox_text, state_text, consumer_tick_text, recorded_text, service_tick_text}
+use Rattle.kob_scene_text.specs.PrintedRows.{numbered, inbox_text, outbox_text, state_text, consumer_tick_text, crashed_text, recorded_text, service_tick_text}
 use Rattle.kob_inbox.specs.Contents.{Contents as InboxContents, placed_intake}
 use Rattle.kob_inbox.specs.declared.fetcher.Fetcher.{Fetcher}
 use Rattle.kob_inbox.specs.declared.tick.Tick.{Tick as ConsumerAnswer}
 use Rattle.kob_lines.specs.Calls.{IsJournaled}
 use Rattle.kob_lines.specs.declared.lossy.Loss.{Loss}
-use Rattle.kob_outbox.specs.Contents.{id_text, stored_row, first_bad, first_after, state_at, up_to, is_recorded, next_seq}
+use Rattle.kob_outbox.specs.Contents.{id_text, stored_row, first_bad, first_bad_of_change, first_after, state_at, up_to, is_recorded, next_seq}
 use Rattle.kob_router.specs.declared.line.Call.{Call}
 use Rattle.kob_router.specs.declared.tick.Tick.{Tick as RouterAnswer}
 use Rattle.std.specs.Fmt.{decimal}
@@ -22,6 +22,8 @@ use Rattle.kob_outbox.specs.declared.fault.RecordFault.{RecordFault}
 use Rattle.kob_scene_play.specs.declared.consumer_steps.Left.{Left}
 use Rattle.kob_scene_text.specs.declared.scene.ConsumerStep.{ConsumerStep}
 use Rattle.kob_scene_text.specs.declared.scene.Lost.{Lost}
+use Rattle.kob_scene_text.specs.declared.scene.Recording.{Recording}
+use Rattle.kob_scene_text.specs.declared.scene.Recording.TheVariants.{Whole, Crash, Late}
 use Rattle.kob_scene_text.specs.declared.scene.ServiceStep.{ServiceStep}
 use Rattle.kob_scene_text.specs.declared.scene.Start.{Start}
 use Rattle.kob_scene_text.specs.declared.scene.Taking.{Taking}
@@ -33,7 +35,7 @@ use Rattle.kob_scene_play.specs.Begins.{IsBegun, start_event}
 use Rattle.kob_scene_play.specs.Takings.{Ahead, HandlesReply, TakesHeld, ahead, asked_event, inbox_after}
 use Rattle.kob_scene_play.specs.declared.holding.Holding.{Holding}
 use Rattle.kob_scene_play.specs.declared.holding.Holding.TheVariants.{Nothing}
-pub use Rattle.kob_scene_play.specs.Services.{Does, IsRouterTick, IsSameService, IsServiceTick, LosesFirst, Service, recorded_after, service_state}
+pub use Rattle.kob_scene_play.specs.Services.{Does, IsRouterTick, IsSameService, IsServiceTick, LosesFirst, Service, crashed, hides, recorded_after, service_state, shown}
 use Rattle.kob_scene_play.specs.Forms.{last_needs}
 use Rattle.kob_scene_play.specs.Needs.{behind}
 use Rattle.kob_inbox.specs.Run as consuming
@@ -252,6 +254,32 @@ Records change event old new (Err faults.DuplicateId) =
 Records change event old new (Err (faults.Memory e)) = new ≡ old
 Records change event old new (Err faults.Store) = new ≡ old
 
+-- the business row was written alone, or nothing was: a text does not fit
+abbrev pub Crashes : Change → OutboxEvent → Service → Service → Result (Unit {0}) RecordFault → Type 0
+Crashes change event old new (Ok done) =
+    (new ≡ crashed change event old) × (first_bad_of_change change ≡ None)
+Crashes change event old new (Err (faults.BadField column)) =
+    (new ≡ old) × (first_bad_of_change change ≡ Some column)
+Crashes change event old new (Err faults.DuplicateId) = ⊥
+Crashes change event old new (Err (faults.Memory e)) = new ≡ old
+Crashes change event old new (Err faults.Store) = new ≡ old
+
+-- what a record does, and what it prints
+abbrev pub IsRecord : Recording → Change → OutboxEvent → Service → Service → ℕ → ℕ → List ℕ → Type 0
+IsRecord Whole change event old new told then_told text =
+    (answer : Result ℕ RecordFault)
+    × Records change event old new answer
+    × IsPrinted (recorded_text answer) told then_told text
+IsRecord Crash change event old new told then_told text =
+    (answer : Result (Unit {0}) RecordFault)
+    × Crashes change event old new answer
+    × IsPrinted (crashed_text answer) told then_told text
+IsRecord Late change event old new told then_told text =
+    (answer : Result ℕ RecordFault) × (mid : Service)
+    × Records change event old mid answer
+    × (new ≡ hides answer mid)
+    × IsPrinted (recorded_text answer) told then_told text
+
 -- what the last request of a tick lacked that stopped the worker
 abbrev pub service_lacks : RouterAnswer → List ℕ → List ℕ
 service_lacks (answers.Stopped reason) needs = behind needs
@@ -276,6 +304,10 @@ consumer_line before after tick =
 abbrev pub swept_text : ℕ → List ℕ
 swept_text count = codes " ok swept " ++ decimal count
 
+-- how many rows were hidden
+abbrev pub visible_text : ℕ → List ℕ
+visible_text count = codes " ok visible " ++ decimal count
+
 -- one tick of a service's router, and its answer
 abbrev pub IsServiceAnswer : Option Lost → RouterAnswer → Service → Service → Record → Record → ℕ → ℕ
     → List ℕ → Type 0
@@ -293,10 +325,8 @@ IsConsumerAnswer lost tick old new before after told then_told text =
 -- what a step of a service does that makes no tick, and the text that it prints; before it so many
 -- answers were printed, and then so many
 abbrev pub IsServiceChange : ServiceStep → Service → Service → ℕ → ℕ → List ℕ → Type 0
-IsServiceChange (service_steps.Record change event) old new told then_told text =
-    (answer : Result ℕ RecordFault)
-    × Records change event old new answer
-    × IsPrinted (recorded_text answer) told then_told text
+IsServiceChange (service_steps.Record change event recording) old new told then_told text =
+    IsRecord recording change event old new told then_told text
 IsServiceChange (service_steps.Tick lost) old new told then_told text = ⊥
 IsServiceChange service_steps.Run old new told then_told text = ⊥
 IsServiceChange service_steps.Restart old new told then_told text =
@@ -314,6 +344,8 @@ IsServiceChange (service_steps.Business kind key) old new told then_told text =
     (new ≡ old)
     × (then_told ≡ one_more told)
     × (text ≡ state_text (one_more told) (state_at kind key old.outbox.business))
+IsServiceChange service_steps.Visible old new told then_told text =
+    (new ≡ shown old) × IsPrinted (visible_text (length old.hidden)) told then_told text
 
 -- what a step of a service does, and the text that it prints; without a tick the journal stays
 abbrev pub IsServiceStep : ServiceStep → Service → Service → Record → Record → ℕ → ℕ → List ℕ

@@ -1,11 +1,12 @@
 //! Where each event of a service is, on its way to a consumer.
 
-ghost use Rattle.std.specs.Prelude.{◌≡◌, ◌++◌, IfOk, OnOk};
+ghost use Rattle.std.specs.Prelude.{◌≡◌, ◌++◌, IfOk, OnOk, map};
 ghost use Rattle.kob_delivery_check.specs.Printed.{check_text};
 ghost use Rattle.kob_router.specs.Line.{one_more};
 ghost use Rattle.kob_scene_play.specs.Checks.{AreDoubled, AreEarly, AreFates, IsChecked, IsFound};
 ghost use Rattle.kob_scene_play.specs.Checks.{ahead_of};
 ghost use Rattle.kob_scene_play.specs.Checks.{early_in_topics, reaches_of, repeats_in};
+ghost use Rattle.kob_scene_play.specs.Checks.{unrecorded_by};
 ghost use Rattle.kob_scene_play.specs.Steps.{Tells};
 
 use crate::consumer_worker::ConsumerWorker;
@@ -16,8 +17,9 @@ use crate::stage::Stage;
 use kob_delivery_check::{
     DoubledRow, Early, EarlyRecord, Fate, Found, Reach, Stored, doubled_rows, early_records,
     early_rows, fates_of, losses_of, print_check, reaches_by, records_ahead, records_of,
-    repeats_of,
+    repeats_of, unrecorded_of,
 };
+use kob_outbox::OutboxEvent;
 use kob_shared::Journal;
 use std::alloc::{AllocError, Global};
 
@@ -48,7 +50,15 @@ pub(crate) fn show_check(
     };
     let journal = stage.recorded.journal();
     let found = found_at(alloc, journal, &mut sender.service, &mut taker.consumer)?;
-    print(journal, &sender.service, &taker.consumer, &found, out)?;
+    let unrecorded = unrecorded_by(alloc, &sender.service)?;
+    print(
+        journal,
+        &sender.service,
+        &taker.consumer,
+        &unrecorded,
+        &found,
+        out,
+    )?;
     Ok(())
 }
 
@@ -93,6 +103,17 @@ fn doubled_at(alloc: Global, taker: &mut ConsumerWorker) -> Result<Vec<DoubledRo
 {
     let taken = taker.rows(alloc)?;
     Ok(doubled_rows(alloc, &taken)?)
+}
+
+/// The events whose business row the service wrote, and that it never recorded.
+pub(crate) fn unrecorded_by<'s>(
+    alloc: Global,
+    sender: &ServiceWorker<'s>,
+) -> Result<Vec<&'s OutboxEvent>, AllocError>
+    ensures { IfOk result (λ found. map (λ event. event.now) found.items
+        ≡ unrecorded_by sender.now) }
+{
+    unrecorded_of(alloc, sender.recorded(), sender.unwritten())
 }
 
 /// The rows of the consumer's inbox that are out of order.
@@ -182,11 +203,13 @@ fn print(
     journal: &Journal,
     sender: &ServiceWorker<'_>,
     taker: &ConsumerWorker,
+    unrecorded: &[&OutboxEvent],
     found: &Found,
     out: &mut Output,
 ) -> Result<(), AllocError>
     ensures printed { OnOk result (out.new.text.items ≡ out.old.text.items
-        ++ check_text (one_more out.old.told) journal.now sender.now.recorded found.now
+        ++ check_text (one_more out.old.told) journal.now sender.now.recorded
+        (map (λ event. event.now) unrecorded.now) found.now
         taker.now.fetcher.subscription.assignment) }
     ensures told { OnOk result (out.new.told ≡ one_more out.old.told) }
 {
@@ -197,6 +220,7 @@ fn print(
         number,
         journal,
         sender.recorded(),
+        unrecorded,
         found,
         assignment,
     )?;

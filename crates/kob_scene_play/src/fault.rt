@@ -6,7 +6,7 @@ ghost use Rattle.kob_scene_play.specs.Steps.{LosesFirst};
 use kob_inbox::InboxFault;
 use kob_lines::Loss;
 use kob_outbox::OutboxFault;
-use kob_router::Call;
+use kob_router::{Call, StopReason, Tick};
 use kob_shared::CallFault;
 use std::alloc::{AllocError, AllocFailed};
 use thiserror::Error;
@@ -144,5 +144,18 @@ pub(crate) fn unless<T: Drop>(
             drop(answer);
             Err(fault)
         }
+    }
+}
+
+ghost use Rattle.kob_scene_play.specs.Faults.{stop_of_service};
+
+/// Why a tick of a service stopped that ran out of memory or whose database failed.
+pub(crate) fn stop_of_service(tick: &Tick) -> Option<PlayFault>
+    ensures { result ≡ stop_of_service tick.now }
+{
+    match tick {
+        Tick::Stopped(StopReason::Memory(refused)) => Some(PlayFault::Memory(*refused)),
+        Tick::Stopped(StopReason::Store) => Some(PlayFault::Store),
+        _ => None,
     }
 }

@@ -21,11 +21,13 @@ mod needs;
 mod output;
 mod page;
 mod playing;
+mod poll;
 mod service_steps;
 mod service_worker;
 mod skip;
 mod stage;
 mod text;
+mod variants;
 
 pub use consumer_worker::ConsumerWorker;
 pub use fault::PlayFault;

@@ -4,6 +4,7 @@ ghost use Rattle.std.specs.Prelude.{◌≡◌, IfOk, OnOk};
 ghost use Rattle.kob_scene_play.specs.Steps.{IsServiceChange, IsServiceStep, IsTold, Tells};
 ghost use Rattle.kob_scene_play.specs.Steps.{goes_on_after, loss_for, service_lacks};
 ghost use Rattle.kob_scene_play.specs.Forms.{last_needs};
+ghost use Rattle.kob_scene_text.specs.declared.scene.Recording.TheVariants as recordings;
 ghost use Rattle.kob_scene_text.specs.declared.scene.ServiceStep.TheVariants as service_steps;
 
 use crate::fault::PlayFault;
@@ -15,8 +16,8 @@ use kob_names::Text;
 use kob_outbox::{Change, OutboxEvent, RecordFault};
 use kob_router::Tick;
 use kob_scene_text::{
-    Lost, ServiceStep, print_outbox, print_recorded, print_restarted, print_service_tick,
-    print_state, print_swept,
+    Lost, Recording, ServiceStep, print_crashed, print_outbox, print_recorded, print_restarted,
+    print_service_tick, print_state, print_swept, print_visible,
 };
 use kob_shared::Recorded;
 use std::alloc::{AllocError, Global};
@@ -37,7 +38,13 @@ pub(crate) fn play_service<'s>(
         recorded.new out.old.told out.new.told) out.old.text.items out.new.text.items) }
 {
     match step {
-        ServiceStep::Record(change, event) => record(service, change, event, out),
+        ServiceStep::Record(change, event, Recording::Whole) => {
+            record(service, change, event, out)
+        }
+        ServiceStep::Record(change, event, Recording::Crash) => crash(service, change, event, out),
+        ServiceStep::Record(change, event, Recording::Late) => {
+            record_late(service, change, event, out)
+        }
         ServiceStep::Tick(lost) => {
             tick(alloc, recorded, service, *lost, out)?;
             Ok(())
@@ -47,6 +54,7 @@ pub(crate) fn play_service<'s>(
         ServiceStep::Sweep => sweep(service, out),
         ServiceStep::Outbox => show_outbox(service, out),
         ServiceStep::Business { kind, key } => show_state(service, kind, key, out),
+        ServiceStep::Visible => show_rows(service, out),
     }
 }
 
@@ -59,7 +67,7 @@ fn record<'s>(
     out: &mut Output,
 ) -> Result<(), PlayFault>
     ensures { OnOk result (Tells (IsServiceChange
-        (service_steps.Record change.now event.now) service.old service.new
+        (service_steps.Record change.now event.now recordings.Whole) service.old service.new
         out.old.told out.new.told) out.old.text.items out.new.text.items) }
 {
     let recorded = service.record(change, event);
@@ -72,6 +80,70 @@ fn record<'s>(
     }
     let number = out.number();
     print_recorded(&mut out.text, number, recorded)?;
+    out.tell();
+    Ok(())
+}
+
+/// Records an event with its change. Its row is hidden.
+#[tactic(auto, using(crate::proofs::Kept::records))]
+fn record_late<'s>(
+    service: &mut ServiceWorker<'s>,
+    change: &Change,
+    event: &'s OutboxEvent,
+    out: &mut Output,
+) -> Result<(), PlayFault>
+    ensures { OnOk result (Tells (IsServiceChange
+        (service_steps.Record change.now event.now recordings.Late) service.old service.new
+        out.old.told out.new.told) out.old.text.items out.new.text.items) }
+{
+    let recorded = service.record(change, event);
+    service.hide(&recorded)?;
+    match recorded {
+        Ok(_) => {}
+        Err(RecordFault::Memory(refused)) => return Err(PlayFault::Memory(refused)),
+        Err(RecordFault::Store) => return Err(PlayFault::Store),
+        Err(RecordFault::BadField(_)) => {}
+        Err(RecordFault::DuplicateId) => {}
+    }
+    let number = out.number();
+    print_recorded(&mut out.text, number, recorded)?;
+    out.tell();
+    Ok(())
+}
+
+/// Writes the business row of a change, without the event.
+fn crash<'s>(
+    service: &mut ServiceWorker<'s>,
+    change: &Change,
+    event: &'s OutboxEvent,
+    out: &mut Output,
+) -> Result<(), PlayFault>
+    ensures { OnOk result (Tells (IsServiceChange
+        (service_steps.Record change.now event.now recordings.Crash) service.old service.new
+        out.old.told out.new.told) out.old.text.items out.new.text.items) }
+{
+    let crashed = service.crash(change, event);
+    match crashed {
+        Ok(()) => {}
+        Err(RecordFault::Memory(refused)) => return Err(PlayFault::Memory(refused)),
+        Err(RecordFault::Store) => return Err(PlayFault::Store),
+        Err(RecordFault::BadField(_)) => {}
+        Err(RecordFault::DuplicateId) => {}
+    }
+    let number = out.number();
+    print_crashed(&mut out.text, number, crashed)?;
+    out.tell();
+    Ok(())
+}
+
+/// Makes all hidden rows visible.
+fn show_rows(service: &mut ServiceWorker<'_>, out: &mut Output) -> Result<(), PlayFault>
+    ensures { OnOk result (Tells (IsServiceChange service_steps.Visible service.old
+        service.new out.old.told out.new.told) out.old.text.items out.new.text.items) }
+{
+    let count = service.show();
+    let number = out.number();
+    print_visible(&mut out.text, number, count as u64)?;
     out.tell();
     Ok(())
 }

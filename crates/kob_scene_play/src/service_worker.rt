@@ -5,34 +5,38 @@ ghost use Rattle.std.specs.Prelude.{length, map, option_map, string_bytes};
 ghost use Rattle.kob_outbox.specs.Contents.{empty, id_text, stored_row, first_bad};
 ghost use Rattle.kob_outbox.specs.Contents.{first_after, state_at, up_to, is_recorded, next_seq};
 ghost use Rattle.kob_router.specs.Run.Move.{Recorded as RecordedMove, Restarted, Swept};
-ghost use Rattle.kob_scene_play.specs.Faults.{stop_of_service};
-ghost use Rattle.kob_scene_play.specs.Services.{Does, GivesUp, GoesOn, IsRouterTick, IsServiceTick};
-ghost use Rattle.kob_scene_play.specs.Services.{Skips, StartsAgain, sent_bare, sent_by, sent_whole};
+ghost use Rattle.kob_scene_play.specs.Services.{Does, GivesUp, GoesOn, IsRouterTick, IsSeenTick};
+ghost use Rattle.kob_scene_play.specs.Services.{IsServiceTick, Skips, StartsAgain, sent_bare};
+ghost use Rattle.kob_scene_play.specs.Services.{sent_by, sent_whole};
 
 use crate::bare_line::BareLine;
-use crate::fault::{PlayFault, line_fault, loses_first, unless};
+use crate::fault::{PlayFault, line_fault, loses_first, stop_of_service, unless};
 use crate::line::{send_bare_over, send_over};
+use crate::poll::Poll;
 use crate::skip::skip_first;
 use kob_lines::{Calls, Loss, Lossy, RecordedLine};
 use kob_names::{Host, PlainValue, Principal};
 use kob_outbox::{Change, Outbox, OutboxEvent, OutboxFault, RecordFault, Row};
-use kob_router::{Router, StopReason, Target, Tick};
+use kob_router::{Router, Target, Tick};
 use kob_scene_text::Sending;
 use kob_shared::Recorded;
 use std::alloc::Global;
 use std::marker::Model;
 
-/// A service: its number in the journal, who it is, how it sends, its router and its outbox, and
-/// the events of its scene that it recorded.
+/// A service: its number in the journal, who it is, how it sends, its router and its outbox, the
+/// events of its scene that it recorded, those of which it wrote the business row alone, and the
+/// numbers of its hidden rows.
 #[derive(Drop)]
 pub struct ServiceWorker<'s> {
     worker: usize,
     principal: Principal,
     host: Host,
-    sending: Sending,
-    router: Router,
-    outbox: Outbox,
+    pub(crate) sending: Sending,
+    pub(crate) router: Router,
+    pub(crate) outbox: Outbox,
     recorded: Vec<&'s OutboxEvent>,
+    pub(crate) unwritten: Vec<&'s OutboxEvent>,
+    pub(crate) hidden: Vec<u64>,
 }
 
 impl<'s> Model for ServiceWorker<'s> {
@@ -54,6 +58,8 @@ impl<'s> Model for ServiceWorker<'s> {
       sender = w.router;
       outbox = w.outbox;
       recorded = map (λ event. event.now) w.recorded.items;
+      unwritten = map (λ event. event.now) w.unwritten.items;
+      hidden = w.hidden.items;
     } };
 
     ghost invariant = { λ w. IsFirst (option_map hand_of w.router.hand) w.outbox };
@@ -79,6 +85,8 @@ impl<'s> ServiceWorker<'s> {
           sender = record { target = target; producer = None; sequences = []; hand = None };
           outbox = empty;
           recorded = [];
+          unwritten = [];
+          hidden = [];
         }) }
     {
         let Target { route, partitions } = target;
@@ -91,6 +99,8 @@ impl<'s> ServiceWorker<'s> {
             router: Router::new(alloc, route, partitions),
             outbox,
             recorded: Vec::new(alloc),
+            unwritten: Vec::new(alloc),
+            hidden: Vec::new(alloc),
         })
     }
 
@@ -137,8 +147,9 @@ impl<'s> ServiceWorker<'s> {
     }
 
     /// One step over the broker, whose first call has this loss. Its calls get their entries in the
-    /// journal under its number, its principal and its host. A variant then does what it does after
-    /// such a step.
+    /// journal under its number, its principal and its host. A variant does what it does before and
+    /// after such a step. One that sees hidden rows alone makes no call, and is idle.
+    #[tactic(auto, using(crate::proofs::Polling::tick_as_ever, crate::proofs::Polling::tick_past, crate::proofs::Polling::tick_sees_none, crate::proofs::Polling::none_in_flight))]
     pub fn tick(
         &mut self,
         alloc: Global,
@@ -146,6 +157,25 @@ impl<'s> ServiceWorker<'s> {
         loss: Loss,
     ) -> Result<Tick, PlayFault>
         ensures { IfOk result (IsServiceTick loss self.old self.new recorded.old recorded.new) }
+    {
+        match self.poll()? {
+            Poll::Own => self.tick_seen(alloc, recorded, loss),
+            Poll::Past(seq) => {
+                self.pass_to(seq)?;
+                self.tick_seen(alloc, recorded, loss)
+            }
+            Poll::Nothing => Ok(Tick::Idle),
+        }
+    }
+
+    /// One step of the router, and what is done after it.
+    fn tick_seen(
+        &mut self,
+        alloc: Global,
+        recorded: &mut Recorded,
+        loss: Loss,
+    ) -> Result<Tick, PlayFault>
+        ensures { IfOk result (IsSeenTick loss self.old self.new recorded.old recorded.new) }
     {
         let sending = self.sending();
         let tick = self.send(alloc, recorded, sending, loss)?;
@@ -174,6 +204,8 @@ impl<'s> ServiceWorker<'s> {
             Sending::RetriesNew => self.send_whole(alloc, recorded, loss),
             Sending::DeletesFirst => self.send_whole(alloc, recorded, loss),
             Sending::NotIdempotent => self.send_bare(alloc, recorded, loss),
+            Sending::Separate => self.send_whole(alloc, recorded, loss),
+            Sending::VisibleLate => self.send_whole(alloc, recorded, loss),
         }
     }
 
@@ -193,7 +225,7 @@ impl<'s> ServiceWorker<'s> {
         let calls = Calls::new(alloc);
         let mut line = Lossy { line, loss, calls };
         let tick = send_over(&mut self.router, alloc, &mut self.outbox, &mut line);
-        let fault = stopped_by(&tick).or(line_fault(line.calls.fault, line.line.calls.fault));
+        let fault = stop_of_service(&tick).or(line_fault(line.calls.fault, line.line.calls.fault));
         let is_lost = loses_first(loss, &line.calls.made);
         let Lossy {
             line,
@@ -235,7 +267,7 @@ impl<'s> ServiceWorker<'s> {
         let calls = Calls::new(alloc);
         let mut line = Lossy { line, loss, calls };
         let tick = send_bare_over(&mut self.router, alloc, &mut self.outbox, &mut line);
-        let fault = stopped_by(&tick).or(line_fault(line.calls.fault, line.line.calls.fault));
+        let fault = stop_of_service(&tick).or(line_fault(line.calls.fault, line.line.calls.fault));
         let is_lost = loses_first(loss, &line.calls.made);
         let Lossy {
             line,
@@ -269,6 +301,8 @@ impl<'s> ServiceWorker<'s> {
             Sending::RetriesNew => self.start_again(tick),
             Sending::DeletesFirst => self.give_up(tick),
             Sending::NotIdempotent => Ok(()),
+            Sending::Separate => Ok(()),
+            Sending::VisibleLate => Ok(()),
         }
     }
 
@@ -349,16 +383,5 @@ impl<'s> ServiceWorker<'s> {
         ensures same { self.new ≡ self.old }
     {
         self.outbox.business(kind, id)
-    }
-}
-
-/// Why a tick stopped that ran out of memory or whose database failed.
-fn stopped_by(tick: &Tick) -> Option<PlayFault>
-    ensures { result ≡ stop_of_service tick.now }
-{
-    match tick {
-        Tick::Stopped(StopReason::Memory(refused)) => Some(PlayFault::Memory(*refused)),
-        Tick::Stopped(StopReason::Store) => Some(PlayFault::Store),
-        _ => None,
     }
 }

@@ -29,7 +29,8 @@ fn next_row(outbox: &mut Outbox) -> Result<Option<Row>, OutboxFault>
     Ok(rows.pop())
 }
 
-fn move_mark(outbox: &mut Outbox, seq: u64) -> Result<(), PlayFault>
+/// Moves the mark of an outbox to this number.
+pub(crate) fn move_mark(outbox: &mut Outbox, seq: u64) -> Result<(), PlayFault>
     ensures { OnOk result (outbox.new ≡ record outbox.old { mark = seq }) }
 {
     match outbox.set_mark(seq) {

@@ -5,5 +5,6 @@ pub mod PrintedRows
 pub mod Reading
 pub mod Rereading
 pub mod Scenes
+pub mod ServiceForms
 pub mod Steps
 pub mod Workers

@@ -1,7 +1,7 @@
 -- Which word of a line has the fault that its scene has.
-use Rattle.std.specs.Prelude.{◌≡◌, ℕ, nat_eq, Bool, true, false, not, is_none, ◌&&◌, ◌||◌, List, [], ◌∷◌, Option, Some, None, codes, map, if◌then◌else◌}
+use Rattle.std.specs.Prelude.{◌≡◌, ℕ, nat_eq, Bool, true, false, not, is_none, ◌&&◌, ◌||◌, List, [], ◌∷◌, Option, Some, None, codes, map, unwrap_or, if◌then◌else◌}
 use Rattle.std.specs.List.{list_any, position}
-use Rattle.std.specs.Option.{is_some, option_map}
+use Rattle.std.specs.Option.{option_map}
 use Rattle.std.specs.Result.{result_err}
 use Rattle.std.specs.Str.{bytes_eq}
 use Rattle.kob_router.specs.declared.settings.RouteBy.TheVariants.{AggregateType}
@@ -11,9 +11,10 @@ use Rattle.kob_script.specs.Words.{Word, named_host, named_principal, rank, text
 use Rattle.kob_script.specs.declared.fault.FaultKind.{FaultKind}
 use Rattle.kob_scene_text.specs.ConsumerForms.{consumer_form}
 use Rattle.kob_scene_text.specs.Reading.{◌>>>◌, as_scripts, bad_line}
-use Rattle.kob_scene_text.specs.Scenes.{is_request}
+use Rattle.kob_scene_text.specs.Scenes.{is_request, is_variant_sending}
+use Rattle.kob_scene_text.specs.ServiceForms.{bare_form, service_form, service_step_form, tick_form}
 use Rattle.kob_scene_text.specs.Steps.{head_of, id_of}
-use Rattle.kob_scene_text.specs.Workers.{by_named, sending_of, start_named, is_name, max_of, partitions_of, place_of, route_of}
+use Rattle.kob_scene_text.specs.Workers.{by_named, sending_first, start_named, is_name, max_of, partitions_of, place_of, route_of}
 use Rattle.kob_scene_text.specs.declared.fault.SceneFaultKind.{SceneFaultKind}
 use Rattle.kob_scene_text.specs.declared.fault.SceneFaultKind.TheVariants.{Script, UnknownWorker, BadWorkerName, NameTaken, BadPartitions, BadMax, BadRoute, BadId, NoLaw}
 use Rattle.kob_scene_text.specs.declared.forms.Keyword.{Keyword}
@@ -26,6 +27,8 @@ use Rattle.kob_scene_text.specs.declared.line.Head.{Head}
 use Rattle.kob_scene_text.specs.declared.line.Head.TheVariants.{Setting, Service, Consumer, Journal, Law, Check, Expect, Of, Unknown, Request}
 use Rattle.kob_scene_text.specs.declared.name.Worker.{Worker}
 use Rattle.kob_scene_text.specs.declared.name.Worker.TheVariants as workers
+use Rattle.kob_scene_text.specs.declared.scene.Sending.{Sending}
+use Rattle.kob_scene_text.specs.declared.scene.Sending.TheVariants.{Proved}
 
 abbrev pub same_kind : SceneFaultKind → SceneFaultKind → Bool
 same_kind (Script one) (Script other) = nat_eq (rank one) (rank other)
@@ -55,16 +58,15 @@ are_of first name _ = false
 abbrev pub is_declared : List ℕ → List (List ℕ) → List ℕ → Bool
 is_declared first lines name = list_any (λ line. are_of first name (line_words line)) lines
 
--- two words name a variant of a service
-unfoldable pub names_variant : Word → Word → Bool
-names_variant one other = is_some (sending_of one other)
+-- words begin with the name of a variant of a service
+unfoldable pub names_variant : List Word → Bool
+names_variant words = is_variant_sending (sending_first words).0
 
 -- words declare a service of this name that sends otherwise than the proved router
 abbrev pub are_of_variant_service : List ℕ → List Word → Bool
 are_of_variant_service name
-    (first ∷ own ∷ principal ∷ host ∷ keyword ∷ number ∷ one ∷ other ∷ words) =
-    bytes_eq first.decoded (codes "service") && bytes_eq own.decoded name
-    && names_variant one other
+    (first ∷ own ∷ principal ∷ host ∷ keyword ∷ number ∷ words) =
+    bytes_eq first.decoded (codes "service") && bytes_eq own.decoded name && names_variant words
 are_of_variant_service name _ = false
 
 -- the words that begin what makes a consumer a variant
@@ -88,6 +90,19 @@ are_of_variant name words = are_of_variant_service name words || are_of_variant_
 abbrev pub is_variant : List (List ℕ) → List ℕ → Bool
 is_variant lines name = list_any (λ line. are_of_variant name (line_words line)) lines
 
+-- how a service of this name sends, where words declare one
+unfoldable pub sending_of_words : List ℕ → List Word → Option Sending
+sending_of_words name (first ∷ own ∷ principal ∷ host ∷ keyword ∷ number ∷ words) =
+    if bytes_eq first.decoded (codes "service") && bytes_eq own.decoded name
+    then Some (sending_first words).0 else None
+sending_of_words name _ = None
+
+-- how the service of this name sends, by the first line that declares one
+abbrev pub sending_in : List (List ℕ) → List ℕ → Sending
+sending_in [] name = Proved
+sending_in (line ∷ lines) name =
+    unwrap_or (sending_of_words name (line_words line)) (sending_in lines name)
+
 -- the kind of the worker of a name, whose place does not matter here
 abbrev pub worker_in : List (List ℕ) → List ℕ → Option Worker
 worker_in lines name =
@@ -104,6 +119,10 @@ keyword_text keyword.Deletes = codes "deletes"
 keyword_text keyword.First = codes "first"
 keyword_text keyword.Not = codes "not"
 keyword_text keyword.Idempotent = codes "idempotent"
+keyword_text keyword.Separate = codes "separate"
+keyword_text keyword.Visible = codes "visible"
+keyword_text keyword.Late = codes "late"
+keyword_text keyword.Crash = codes "crash"
 keyword_text keyword.By = codes "by"
 keyword_text keyword.Replacement = codes "replacement"
 keyword_text keyword.Placement = codes "placement"
@@ -122,48 +141,6 @@ keyword_text keyword.Order = codes "order"
 
 abbrev pub setting_form : Word → List Part
 setting_form first = if is_super first then One slot.Principal ∷ [] else One slot.Switch ∷ []
-
-abbrev pub route_words : List Part
-route_words =
-    After keyword.By slot.Column ∷ After keyword.Replacement slot.Replacement
-    ∷ After keyword.Placement slot.Placement ∷ []
-
--- behind the name of a service
-abbrev pub service_words : List Part → List Part
-service_words more =
-    One slot.NewName ∷ One slot.Principal ∷ One slot.Host
-    ∷ One (slot.Keyword keyword.Partitions) ∷ One slot.Partitions ∷ more
-
--- of a service with the proved router, and of each variant
-abbrev pub proved_form : List Part
-proved_form = service_words route_words
-
-abbrev pub retries_form : List Part
-retries_form =
-    service_words
-    (One (slot.Keyword keyword.Retries) ∷ One (slot.Keyword keyword.New) ∷ route_words)
-
-abbrev pub deletes_form : List Part
-deletes_form =
-    service_words
-    (One (slot.Keyword keyword.Deletes) ∷ One (slot.Keyword keyword.First) ∷ route_words)
-
-abbrev pub not_form : List Part
-not_form =
-    service_words
-    (One (slot.Keyword keyword.Not) ∷ One (slot.Keyword keyword.Idempotent) ∷ route_words)
-
-abbrev pub service_form_by : List ℕ → List Part
-service_form_by variant =
-    if bytes_eq variant (codes "retries") then retries_form
-    else (if bytes_eq variant (codes "deletes") then deletes_form
-    else (if bytes_eq variant (codes "not") then not_form else proved_form))
-
--- of service, by the word behind the number of partitions
-abbrev pub service_form : List Word → List Part
-service_form (name ∷ principal ∷ host ∷ keyword ∷ number ∷ variant ∷ words) =
-    service_form_by variant.decoded
-service_form words = proved_form
 
 -- of law
 abbrev pub law_form : List Part
@@ -188,27 +165,6 @@ abbrev pub expect_form : List Word → List Part
 expect_form (service ∷ consumer ∷ what ∷ words) = expect_form_by what.decoded
 expect_form words = expect_form_by (codes "order")
 
-abbrev pub record_form : List Part
-record_form =
-    One slot.Id ∷ One slot.Text ∷ One slot.Text ∷ One slot.Text ∷ One slot.Text
-    ∷ One slot.Text ∷ One slot.Text ∷ One slot.Text ∷ []
-
-abbrev pub tick_form : List Part
-tick_form = OrEnd ∷ One slot.Loss ∷ []
-
--- a step of one word
-abbrev pub bare_form : Bool → Option (List Part)
-bare_form true = Some []
-bare_form false = None
-
-abbrev pub service_step_form : List ℕ → Option (List Part)
-service_step_form name =
-    if bytes_eq name (codes "record") then Some record_form
-    else (if bytes_eq name (codes "tick") then Some tick_form
-    else (if bytes_eq name (codes "business") then Some (One slot.Text ∷ One slot.Text ∷ [])
-    else bare_form (bytes_eq name (codes "run") || bytes_eq name (codes "restart")
-    || bytes_eq name (codes "sweep") || bytes_eq name (codes "outbox"))))
-
 abbrev pub consumer_step_form : List ℕ → Option (List Part)
 consumer_step_form name =
     if bytes_eq name (codes "tick") then Some tick_form
@@ -216,9 +172,9 @@ consumer_step_form name =
     || bytes_eq name (codes "inbox"))
 
 -- the words behind a step's name, if the worker has such a step
-abbrev pub step_form : Worker → List ℕ → Option (List Part)
-step_form (workers.Service place) name = service_step_form name
-step_form (workers.Consumer place) name = consumer_step_form name
+abbrev pub step_form : Sending → Worker → List ℕ → Option (List Part)
+step_form sending (workers.Service place) name = service_step_form sending name
+step_form sending (workers.Consumer place) name = consumer_step_form name
 
 -- The faults of words.
 
@@ -313,9 +269,10 @@ abbrev pub step_faults : Option (List Part) → List Word → List (Option Scene
 step_faults None words = Some bad_line ∷ []
 step_faults (Some parts) words = None ∷ faults_in [] parts words
 
-abbrev pub worker_faults : Worker → List Word → List (Option SceneFaultKind)
-worker_faults worker [] = Some bad_line ∷ []
-worker_faults worker (name ∷ words) = step_faults (step_form worker name.decoded) words
+abbrev pub worker_faults : Sending → Worker → List Word → List (Option SceneFaultKind)
+worker_faults sending worker [] = Some bad_line ∷ []
+worker_faults sending worker (name ∷ words) =
+    step_faults (step_form sending worker name.decoded) words
 
 -- the faults of the words of a line that begins so, behind these lines
 abbrev pub word_faults : List (List ℕ) → Head → Word → List Word → List (Option SceneFaultKind)
@@ -326,7 +283,8 @@ word_faults lines Journal first rest = None ∷ faults_in lines [] rest
 word_faults lines Law first rest = None ∷ faults_in lines law_form rest
 word_faults lines Check first rest = None ∷ faults_in lines pair_form rest
 word_faults lines Expect first rest = None ∷ faults_in lines (expect_form rest) rest
-word_faults lines (Of worker) first rest = None ∷ worker_faults worker rest
+word_faults lines (Of worker) first rest =
+    None ∷ worker_faults (sending_in lines first.decoded) worker rest
 word_faults lines Unknown first rest = Some UnknownWorker ∷ []
 word_faults lines Request first rest = []
 

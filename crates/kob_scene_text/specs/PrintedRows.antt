@@ -92,6 +92,11 @@ recorded_text (Err DuplicateId) = codes " refused DuplicateId"
 recorded_text (Err (Memory e)) = codes " stopped memory"
 recorded_text (Err Store) = codes " stopped store"
 
+-- a business row that was written alone, or why it was not
+abbrev pub crashed_text : Result (Unit {0}) RecordFault → List ℕ
+crashed_text (Ok done) = codes " crashed"
+crashed_text (Err fault) = recorded_text (Err fault)
+
 -- what a tick of a service came to
 abbrev pub service_tick_text : ServiceTick → List ℕ
 service_tick_text (service_tick.Moved seq) = codes " moved " ++ decimal seq

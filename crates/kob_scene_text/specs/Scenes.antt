@@ -169,6 +169,8 @@ is_variant_sending sendings.Proved = false
 is_variant_sending sendings.RetriesNew = true
 is_variant_sending sendings.DeletesFirst = true
 is_variant_sending sendings.NotIdempotent = true
+is_variant_sending sendings.Separate = true
+is_variant_sending sendings.VisibleLate = true
 
 abbrev pub is_variant_service : Option Service → Bool
 is_variant_service None = false
@@ -210,10 +212,19 @@ with_expect s (service ∷ consumer ∷ rest) =
     >>> λ what. Ok (with_steps s (Plain (step_forms.Expect pair.0 pair.1 what) ∷ []))
 with_expect s _ = Err bad_line
 
+abbrev pub sending_by_service : Option Service → Sending
+sending_by_service None = sendings.Proved
+sending_by_service (Some service) = service.sending
+
+-- how the service at this place sends
+abbrev pub sending_at : List Service → ℕ → Sending
+sending_at services place = sending_by_service (slice_get services place)
+
 -- a worker's step
 abbrev pub with_step : Seen → Worker → List Word → Result Seen SceneFaultKind
 with_step s (workers.Service place) words =
-    service_step_of words >>> λ step. Ok (with_steps s (OfService place step ∷ []))
+    service_step_of (sending_at s.services place) words
+    >>> λ step. Ok (with_steps s (OfService place step ∷ []))
 with_step s (workers.Consumer place) words =
     as_scripts (consumer_step_of words)
     >>> λ found. Ok (with_steps s (Plain (step_forms.Consumer place found) ∷ []))

@@ -1,5 +1,5 @@
 -- Lines that are a step of a worker, and steps as they are seen.
-use Rattle.std.specs.Prelude.{ℕ, Bool, ◌||◌, ◌&&◌, List, [], ◌∷◌, Option, Some, None, Result, Ok, Err, codes, if◌then◌else◌, string_bytes, false, ◌==◌}
+use Rattle.std.specs.Prelude.{ℕ, Bool, ◌||◌, ◌&&◌, List, [], ◌∷◌, Option, Some, None, Result, Ok, Err, codes, if◌then◌else◌, string_bytes, false, true, ◌==◌}
 use Rattle.std.specs.Str.{bytes_eq}
 use Rattle.uuid.specs.Text.{parsed}
 use Rattle.kob_outbox.specs.Contents.{Event, Key, id_text, key_of, stored_event}
@@ -13,6 +13,10 @@ use Rattle.kob_scene_text.specs.declared.scene.ConsumerStep.{ConsumerStep}
 use Rattle.kob_scene_text.specs.declared.scene.Expected.{Expected}
 use Rattle.kob_scene_text.specs.declared.scene.Expected.TheVariants as expectations
 use Rattle.kob_scene_text.specs.declared.scene.Lost.{Lost}
+use Rattle.kob_scene_text.specs.declared.scene.Recording.{Recording}
+use Rattle.kob_scene_text.specs.declared.scene.Recording.TheVariants.{Whole, Crash, Late}
+use Rattle.kob_scene_text.specs.declared.scene.Sending.{Sending}
+use Rattle.kob_scene_text.specs.declared.scene.Sending.TheVariants.{Separate, VisibleLate}
 use Rattle.kob_scene_text.specs.declared.scene.ServiceStep.{ServiceStep}
 use Rattle.kob_scene_text.specs.Reading.{◌>>>◌, as_scripts, bad_line}
 use Rattle.std.specs.List.{list_any}
@@ -33,11 +37,12 @@ written change = (key_of change, string_bytes change.state)
 
 -- a step of a service, a record by the texts that it writes; its event has no number yet
 pub data ServiceTold : Type 0 where
-  Recorded : Written → Event → ServiceTold
+  Recorded : Written → Event → Recording → ServiceTold
   Plain : ServiceStep → ServiceTold
 
 abbrev pub service_told : ServiceStep → ServiceTold
-service_told (service_steps.Record change event) = Recorded (written change) (stored_event 0 event)
+service_told (service_steps.Record change event recording) =
+    Recorded (written change) (stored_event 0 event) recording
 service_told step = Plain step
 
 -- the words that begin a step
@@ -46,7 +51,7 @@ begins_step word =
     bytes_eq word (codes "record") || bytes_eq word (codes "tick") || bytes_eq word (codes "run")
     || bytes_eq word (codes "restart") || bytes_eq word (codes "sweep")
     || bytes_eq word (codes "outbox") || bytes_eq word (codes "business")
-    || bytes_eq word (codes "inbox")
+    || bytes_eq word (codes "inbox") || bytes_eq word (codes "visible")
 
 -- [lose-request|lose-reply]
 abbrev pub lost_of : List Word → Result (Option Lost) FaultKind
@@ -65,11 +70,29 @@ abbrev pub id_of : Word → Result (List ℕ) SceneFaultKind
 id_of word = as_scripts (text_of word) >>> λ text. id_in (parsed text)
 
 -- KIND KEY STATE
-abbrev pub written_of : List Word → Result Written FaultKind
-written_of (kind ∷ key ∷ state ∷ []) =
+abbrev pub written_by : Word → Word → Word → Result Written FaultKind
+written_by kind key state =
     text_of kind >>= λ kind. text_of key >>= λ key. text_of state >>= λ state.
     Ok ((kind, key), state)
-written_of _ = Err BadLine
+
+-- `crash` is a word of a service with `separate`, and `late` one of a service with `visible late`
+abbrev pub recording_named : Sending → List ℕ → Result Recording FaultKind
+recording_named Separate word = if bytes_eq word (codes "crash") then Ok Crash else Err BadLine
+recording_named VisibleLate word = if bytes_eq word (codes "late") then Ok Late else Err BadLine
+recording_named sending word = Err BadLine
+
+-- how an event is recorded, by the words behind its change
+abbrev pub recording_of : Sending → List Word → Result Recording FaultKind
+recording_of sending [] = Ok Whole
+recording_of sending (word ∷ []) = recording_named sending word.decoded
+recording_of sending _ = Err BadLine
+
+-- KIND KEY STATE [crash|late]
+abbrev pub change_of : Sending → List Word → Result (Written × Recording) FaultKind
+change_of sending (kind ∷ key ∷ state ∷ rest) =
+    recording_of sending rest >>= λ recording. written_by kind key state
+    >>= λ change. Ok (change, recording)
+change_of sending _ = Err BadLine
 
 -- AGGREGATETYPE AGGREGATEID TYPE PAYLOAD
 abbrev pub event_of : List ℕ → Word → Word → Word → Word → Result Event FaultKind
@@ -84,17 +107,18 @@ event_of id aggregate_type aggregate_id event_type payload =
       payload = payload;
     })
 
-abbrev pub record_with : Word → Word → Word → Word → Word → List Word
+abbrev pub record_with : Sending → Word → Word → Word → Word → Word → List Word
     → Result ServiceTold SceneFaultKind
-record_with id aggregate_type aggregate_id event_type payload change =
+record_with sending id aggregate_type aggregate_id event_type payload change =
     id_of id >>> λ id. as_scripts (event_of id aggregate_type aggregate_id event_type payload)
-    >>> λ event. as_scripts (written_of change) >>> λ change. Ok (Recorded change event)
+    >>> λ event. as_scripts (change_of sending change)
+    >>> λ change. Ok (Recorded change.0 event change.1)
 
--- ID AGGREGATETYPE AGGREGATEID TYPE PAYLOAD KIND KEY STATE
-abbrev pub record_of : List Word → Result ServiceTold SceneFaultKind
-record_of (id ∷ aggregate_type ∷ aggregate_id ∷ event_type ∷ payload ∷ change) =
-    record_with id aggregate_type aggregate_id event_type payload change
-record_of _ = Err bad_line
+-- ID AGGREGATETYPE AGGREGATEID TYPE PAYLOAD KIND KEY STATE [crash|late]
+abbrev pub record_of : Sending → List Word → Result ServiceTold SceneFaultKind
+record_of sending (id ∷ aggregate_type ∷ aggregate_id ∷ event_type ∷ payload ∷ change) =
+    record_with sending id aggregate_type aggregate_id event_type payload change
+record_of sending _ = Err bad_line
 
 -- KIND KEY
 abbrev pub business_of : List Word → Result ServiceTold FaultKind
@@ -102,33 +126,39 @@ business_of (kind ∷ key ∷ []) =
     text_of kind >>= λ kind. text_of key >>= λ key. Ok (Plain (service_steps.Business kind key))
 business_of _ = Err BadLine
 
+-- a service with `visible late` has hidden rows, and the step `visible`
+abbrev pub hides_rows : Sending → Bool
+hides_rows VisibleLate = true
+hides_rows sending = false
+
 -- the steps of one word
-abbrev pub bare_service_step : List ℕ → Result ServiceTold FaultKind
-bare_service_step name =
+abbrev pub bare_service_step : Sending → List ℕ → Result ServiceTold FaultKind
+bare_service_step sending name =
     if bytes_eq name (codes "run") then Ok (Plain service_steps.Run)
     else (if bytes_eq name (codes "restart") then Ok (Plain service_steps.Restart)
     else (if bytes_eq name (codes "sweep") then Ok (Plain service_steps.Sweep)
     else (if bytes_eq name (codes "outbox") then Ok (Plain service_steps.Outbox)
-    else Err BadLine)))
+    else (if bytes_eq name (codes "visible") && hides_rows sending
+    then Ok (Plain service_steps.Visible) else Err BadLine))))
 
-abbrev pub bare_service_line : List ℕ → List Word → Result ServiceTold FaultKind
-bare_service_line name [] = bare_service_step name
-bare_service_line name (word ∷ words) = Err BadLine
+abbrev pub bare_service_line : Sending → List ℕ → List Word → Result ServiceTold FaultKind
+bare_service_line sending name [] = bare_service_step sending name
+bare_service_line sending name (word ∷ words) = Err BadLine
 
 -- the steps but `record`
-abbrev pub service_line : List ℕ → List Word → Result ServiceTold FaultKind
-service_line name words =
+abbrev pub service_line : Sending → List ℕ → List Word → Result ServiceTold FaultKind
+service_line sending name words =
     if bytes_eq name (codes "tick")
     then (lost_of words >>= λ lost. Ok (Plain (service_steps.Tick lost)))
     else (if bytes_eq name (codes "business") then business_of words
-    else bare_service_line name words)
+    else bare_service_line sending name words)
 
--- a step of a service, by its words
-abbrev pub service_step_of : List Word → Result ServiceTold SceneFaultKind
-service_step_of [] = Err bad_line
-service_step_of (first ∷ words) =
-    if bytes_eq first.decoded (codes "record") then record_of words
-    else as_scripts (service_line first.decoded words)
+-- a step of a service that sends so, by its words
+abbrev pub service_step_of : Sending → List Word → Result ServiceTold SceneFaultKind
+service_step_of sending [] = Err bad_line
+service_step_of sending (first ∷ words) =
+    if bytes_eq first.decoded (codes "record") then record_of sending words
+    else as_scripts (service_line sending first.decoded words)
 
 abbrev pub bare_consumer_step : List ℕ → Result ConsumerStep FaultKind
 bare_consumer_step name =

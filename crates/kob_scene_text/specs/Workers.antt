@@ -12,7 +12,7 @@ use Rattle.kob_scene_text.specs.declared.name.Who.{Who}
 use Rattle.kob_scene_text.specs.declared.name.Worker.{Worker}
 use Rattle.kob_scene_text.specs.declared.scene.Consumer.{Consumer}
 use Rattle.kob_scene_text.specs.declared.scene.Sending.{Sending}
-use Rattle.kob_scene_text.specs.declared.scene.Sending.TheVariants.{Proved, RetriesNew, DeletesFirst, NotIdempotent}
+use Rattle.kob_scene_text.specs.declared.scene.Sending.TheVariants.{Proved, RetriesNew, DeletesFirst, NotIdempotent, Separate, VisibleLate}
 use Rattle.kob_scene_text.specs.declared.scene.Service.{Service}
 use Rattle.kob_scene_text.specs.declared.scene.Start.{Start}
 use Rattle.kob_scene_text.specs.declared.scene.Start.TheVariants.{Earliest, Latest}
@@ -144,16 +144,24 @@ sending_of one other =
     else (if bytes_eq one.decoded (codes "deletes") && bytes_eq other.decoded (codes "first")
     then Some DeletesFirst
     else (if bytes_eq one.decoded (codes "not") && bytes_eq other.decoded (codes "idempotent")
-    then Some NotIdempotent else None))
+    then Some NotIdempotent
+    else (if bytes_eq one.decoded (codes "visible") && bytes_eq other.decoded (codes "late")
+    then Some VisibleLate else None)))
 
 abbrev pub sending_by : Option Sending → List Word → List Word → Sending × List Word
 sending_by None all rest = (Proved, all)
 sending_by (Some sending) all rest = (sending, rest)
 
+-- a variant of two words where the words begin with them
+abbrev pub sending_pair : List Word → Sending × List Word
+sending_pair (one ∷ other ∷ rest) = sending_by (sending_of one other) (one ∷ other ∷ rest) rest
+sending_pair words = (Proved, words)
+
 -- a variant where the words begin with its name, else the proved router, and the words behind it
 abbrev pub sending_first : List Word → Sending × List Word
-sending_first (one ∷ other ∷ rest) = sending_by (sending_of one other) (one ∷ other ∷ rest) rest
-sending_first words = (Proved, words)
+sending_first [] = (Proved, [])
+sending_first (one ∷ rest) =
+    if bytes_eq one.decoded (codes "separate") then (Separate, rest) else sending_pair (one ∷ rest)
 
 -- so many partitions, how rows are sent, and a route
 abbrev pub declared_route : Word → List Word → Result DeclaredRoute SceneFaultKind

@@ -2,14 +2,14 @@
 
 ghost use Rattle.std.specs.Prelude.{◌≡◌};
 ghost use Rattle.std.specs.Option.{option_map};
-ghost use Rattle.kob_scene_text.specs.Places.{bare_form, consumer_step_form};
+ghost use Rattle.kob_scene_text.specs.Places.{consumer_step_form};
 ghost use Rattle.kob_scene_text.specs.Places.{expect_form, expect_form_by, law_form};
-ghost use Rattle.kob_scene_text.specs.Places.{deletes_form, keyword_text, not_form, pair_form};
-ghost use Rattle.kob_scene_text.specs.Places.{proved_form, record_form, retries_form, service_form};
-ghost use Rattle.kob_scene_text.specs.Places.{service_form_by, service_step_form, setting_form};
-ghost use Rattle.kob_scene_text.specs.Places.{step_form, tick_form};
+ghost use Rattle.kob_scene_text.specs.Places.{keyword_text, pair_form, setting_form, step_form};
+ghost use Rattle.kob_scene_text.specs.ServiceForms.{bare_form, tick_form};
 
 use crate::name::Worker;
+use crate::scene::Sending;
+use crate::service_forms::service_step_form;
 use kob_script::{Word, is_super};
 
 /// What a word writes.
@@ -60,6 +60,10 @@ pub(crate) enum Keyword {
     First,
     Not,
     Idempotent,
+    Separate,
+    Visible,
+    Late,
+    Crash,
     By,
     Replacement,
     Placement,
@@ -100,6 +104,10 @@ pub(crate) fn keyword_text(keyword: Keyword) -> &'static str
         Keyword::First => "first",
         Keyword::Not => "not",
         Keyword::Idempotent => "idempotent",
+        Keyword::Separate => "separate",
+        Keyword::Visible => "visible",
+        Keyword::Late => "late",
+        Keyword::Crash => "crash",
         Keyword::By => "by",
         Keyword::Replacement => "replacement",
         Keyword::Placement => "placement",
@@ -127,96 +135,6 @@ pub(crate) fn setting_form(first: &Word<'_>) -> &'static [Part]
     } else {
         &[Part::One(Slot::Switch)]
     }
-}
-
-/// The words behind `service`, of which the sixth says whether it is a variant.
-pub(crate) fn service_form(words: &[Word<'_>]) -> &'static [Part]
-    ensures { result.now ≡ service_form words.now }
-{
-    match words {
-        [_, _, _, _, _, variant, ..] => service_form_by(variant.decoded()),
-        _ => proved_form(),
-    }
-}
-
-fn service_form_by(variant: &[u8]) -> &'static [Part]
-    ensures { result.now ≡ service_form_by variant.now }
-{
-    if variant == b"retries".as_slice() {
-        retries_form()
-    } else if variant == b"deletes".as_slice() {
-        deletes_form()
-    } else if variant == b"not".as_slice() {
-        not_form()
-    } else {
-        proved_form()
-    }
-}
-
-fn proved_form() -> &'static [Part]
-    ensures { result.now ≡ proved_form }
-{
-    &[
-        Part::One(Slot::NewName),
-        Part::One(Slot::Principal),
-        Part::One(Slot::Host),
-        Part::One(Slot::Keyword(Keyword::Partitions)),
-        Part::One(Slot::Partitions),
-        Part::After(Keyword::By, Slot::Column),
-        Part::After(Keyword::Replacement, Slot::Replacement),
-        Part::After(Keyword::Placement, Slot::Placement),
-    ]
-}
-
-fn retries_form() -> &'static [Part]
-    ensures { result.now ≡ retries_form }
-{
-    &[
-        Part::One(Slot::NewName),
-        Part::One(Slot::Principal),
-        Part::One(Slot::Host),
-        Part::One(Slot::Keyword(Keyword::Partitions)),
-        Part::One(Slot::Partitions),
-        Part::One(Slot::Keyword(Keyword::Retries)),
-        Part::One(Slot::Keyword(Keyword::New)),
-        Part::After(Keyword::By, Slot::Column),
-        Part::After(Keyword::Replacement, Slot::Replacement),
-        Part::After(Keyword::Placement, Slot::Placement),
-    ]
-}
-
-fn deletes_form() -> &'static [Part]
-    ensures { result.now ≡ deletes_form }
-{
-    &[
-        Part::One(Slot::NewName),
-        Part::One(Slot::Principal),
-        Part::One(Slot::Host),
-        Part::One(Slot::Keyword(Keyword::Partitions)),
-        Part::One(Slot::Partitions),
-        Part::One(Slot::Keyword(Keyword::Deletes)),
-        Part::One(Slot::Keyword(Keyword::First)),
-        Part::After(Keyword::By, Slot::Column),
-        Part::After(Keyword::Replacement, Slot::Replacement),
-        Part::After(Keyword::Placement, Slot::Placement),
-    ]
-}
-
-fn not_form() -> &'static [Part]
-    ensures { result.now ≡ not_form }
-{
-    &[
-        Part::One(Slot::NewName),
-        Part::One(Slot::Principal),
-        Part::One(Slot::Host),
-        Part::One(Slot::Keyword(Keyword::Partitions)),
-        Part::One(Slot::Partitions),
-        Part::One(Slot::Keyword(Keyword::Not)),
-        Part::One(Slot::Keyword(Keyword::Idempotent)),
-        Part::After(Keyword::By, Slot::Column),
-        Part::After(Keyword::Replacement, Slot::Replacement),
-        Part::After(Keyword::Placement, Slot::Placement),
-    ]
 }
 
 /// The words behind `law`.
@@ -269,50 +187,16 @@ fn expect_form_by(what: &[u8]) -> &'static [Part]
     }
 }
 
-fn record_form() -> &'static [Part]
-    ensures { result.now ≡ record_form }
-{
-    &[
-        Part::One(Slot::Id),
-        Part::One(Slot::Text),
-        Part::One(Slot::Text),
-        Part::One(Slot::Text),
-        Part::One(Slot::Text),
-        Part::One(Slot::Text),
-        Part::One(Slot::Text),
-        Part::One(Slot::Text),
-    ]
-}
-
-fn tick_form() -> &'static [Part]
+pub(crate) fn tick_form() -> &'static [Part]
     ensures { result.now ≡ tick_form }
 {
     &[Part::OrEnd, Part::One(Slot::Loss)]
 }
 
-fn bare_form(is_step: bool) -> Option<&'static [Part]>
+pub(crate) fn bare_form(is_step: bool) -> Option<&'static [Part]>
     ensures { option_map (λ parts. parts.now) result ≡ bare_form is_step }
 {
     if is_step { Some(&[]) } else { None }
-}
-
-fn service_step_form(name: &[u8]) -> Option<&'static [Part]>
-    ensures { option_map (λ parts. parts.now) result ≡ service_step_form name.now }
-{
-    if name == b"record".as_slice() {
-        Some(record_form())
-    } else if name == b"tick".as_slice() {
-        Some(tick_form())
-    } else if name == b"business".as_slice() {
-        Some(&[Part::One(Slot::Text), Part::One(Slot::Text)])
-    } else {
-        bare_form(
-            name == b"run".as_slice()
-                || name == b"restart".as_slice()
-                || name == b"sweep".as_slice()
-                || name == b"outbox".as_slice(),
-        )
-    }
 }
 
 fn consumer_step_form(name: &[u8]) -> Option<&'static [Part]>
@@ -329,12 +213,12 @@ fn consumer_step_form(name: &[u8]) -> Option<&'static [Part]>
     }
 }
 
-/// The words behind a step's name; None if the worker has no such step.
-pub(crate) fn step_form(worker: Worker, name: &[u8]) -> Option<&'static [Part]>
-    ensures { option_map (λ parts. parts.now) result ≡ step_form worker name.now }
+/// The words behind a step's name; None if the worker has no such step. A service sends so.
+pub(crate) fn step_form(sending: Sending, worker: Worker, name: &[u8]) -> Option<&'static [Part]>
+    ensures { option_map (λ parts. parts.now) result ≡ step_form sending worker name.now }
 {
     match worker {
-        Worker::Service(_) => service_step_form(name),
+        Worker::Service(_) => service_step_form(sending, name),
         Worker::Consumer(_) => consumer_step_form(name),
     }
 }

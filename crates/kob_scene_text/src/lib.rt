@@ -16,6 +16,7 @@ mod printed_rows;
 mod printed_tick;
 mod reading;
 mod scene;
+mod service_forms;
 mod service_lines;
 mod step_lines;
 mod variants;
@@ -29,10 +30,11 @@ pub use printed_fault::print_scene_fault;
 pub use printed_request::print_entry;
 pub use printed_rows::{print_inbox, print_outbox, print_state};
 pub use printed_tick::{
-    print_consumer_tick, print_recorded, print_restarted, print_service_tick, print_swept,
+    print_consumer_tick, print_crashed, print_recorded, print_restarted, print_service_tick,
+    print_swept, print_visible,
 };
 pub use reading::read_scene;
 pub use scene::{
-    Consumer, ConsumerStep, Expected, Lost, Routed, Scene, Sending, Service, ServiceStep, Start,
-    Step, Taking,
+    Consumer, ConsumerStep, Expected, Lost, Recording, Routed, Scene, Sending, Service,
+    ServiceStep, Start, Step, Taking,
 };

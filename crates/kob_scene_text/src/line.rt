@@ -20,7 +20,7 @@ use crate::reading::Reading;
 use crate::scene::{Consumer, Service, Step};
 use crate::service_lines::{DeclaredService, service_of};
 use crate::step_lines::{begins_step, consumer_step, expected_of, service_step};
-use crate::variants::has_variant;
+use crate::variants::{has_variant, sending_at};
 use kob_acl_cli::CliArgs;
 use kob_names::{Text, sum_of};
 use kob_rights::Event;
@@ -373,7 +373,7 @@ impl Reading {
     {
         match worker {
             Worker::Service(place) => {
-                let step = service_step(alloc, words)?;
+                let step = service_step(alloc, sending_at(&self.services, place), words)?;
                 self.push_step(Step::Service(place, step))
             }
             Worker::Consumer(place) => {

@@ -9,11 +9,13 @@ ghost use Rattle.std.specs.List.{position};
 
 use crate::consumer_forms::consumer_form;
 use crate::fault::SceneFaultKind;
-use crate::forms::{Part, expect_form, law_form, pair_form, service_form, setting_form, step_form};
+use crate::forms::{Part, expect_form, law_form, pair_form, setting_form, step_form};
 use crate::line::{Head, head_of};
 use crate::name::Worker;
+use crate::scene::Sending;
+use crate::service_forms::service_form;
 use crate::word_faults::{push_bad_line, push_faults};
-use crate::workers_before::worker_in;
+use crate::workers_before::{sending_in, worker_in};
 use kob_script::Word;
 use std::alloc::{AllocError, Global};
 
@@ -148,7 +150,10 @@ fn word_faults(
         Head::Law => faults_by(alloc, before, law_form(), rest),
         Head::Check => faults_by(alloc, before, pair_form(), rest),
         Head::Expect => faults_by(alloc, before, expect_form(rest), rest),
-        Head::Of(worker) => worker_faults(alloc, worker, rest),
+        Head::Of(worker) => {
+            let sending = sending_in(alloc, before, first.decoded())?;
+            worker_faults(alloc, sending, worker, rest)
+        }
         Head::Unknown => Ok(Vec::from_array(alloc, [Some(SceneFaultKind::UnknownWorker)])?),
         Head::Request => Ok(Vec::new(alloc)),
     }
@@ -172,14 +177,15 @@ fn faults_by(
 /// The faults of a worker's name, which has none, and of the words of its step.
 fn worker_faults(
     alloc: Global,
+    sending: Sending,
     worker: Worker,
     words: &[Word<'_>],
 ) -> Result<Vec<Option<SceneFaultKind>>, AllocError>
-    ensures { IfOk result (λ faults. faults.items ≡ None ∷ worker_faults worker words.now) }
+    ensures { IfOk result (λ faults. faults.items ≡ None ∷ worker_faults sending worker words.now) }
 {
     match words {
         [] => step_faults(alloc, None, words),
-        [name, words @ ..] => step_faults(alloc, step_form(worker, name.decoded()), words),
+        [name, words @ ..] => step_faults(alloc, step_form(sending, worker, name.decoded()), words),
     }
 }
 

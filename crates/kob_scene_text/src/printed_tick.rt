@@ -3,7 +3,8 @@
 ghost use Rattle.std.specs.Prelude.{◌≡◌, ◌++◌, OnOk, codes};
 ghost use Rattle.std.specs.Fmt.{decimal};
 ghost use Rattle.kob_scene_text.specs.PrintedRows.{bad_field_text, consumer_tick_text, numbered};
-ghost use Rattle.kob_scene_text.specs.PrintedRows.{recorded_text, service_tick_text};
+ghost use Rattle.kob_scene_text.specs.PrintedRows.{crashed_text, recorded_text};
+ghost use Rattle.kob_scene_text.specs.PrintedRows.{service_tick_text};
 
 use kob_outbox::{Column, RecordFault};
 use kob_rights::Reply;
@@ -186,6 +187,23 @@ pub fn print_recorded(
     }
 }
 
+/// Prints what became of a record whose service crashed: `N crashed`, `N refused BadField COLUMN`,
+/// `N stopped memory` or `N stopped store`. The error is out of memory; `out` has then grown by a
+/// part of it.
+pub fn print_crashed(
+    out: &mut Vec<u8>,
+    number: u64,
+    crashed: Result<(), RecordFault>,
+) -> Result<(), AllocError>
+    ensures { OnOk result (out.new.items
+        ≡ out.old.items ++ numbered number (crashed_text crashed)) }
+{
+    match crashed {
+        Ok(()) => print_word(out, number, b" crashed"),
+        Err(fault) => print_recorded(out, number, Err(fault)),
+    }
+}
+
 /// Prints `N ok restarted`. The error is out of memory; `out` has then grown by a part of it.
 pub fn print_restarted(out: &mut Vec<u8>, number: u64) -> Result<(), AllocError>
     ensures { OnOk result (out.new.items
@@ -200,4 +218,12 @@ pub fn print_swept(out: &mut Vec<u8>, number: u64, count: u64) -> Result<(), All
         ≡ out.old.items ++ numbered number (codes " ok swept " ++ decimal count)) }
 {
     print_counted(out, number, b" ok swept ", count)
+}
+
+/// Prints `N ok visible COUNT`. The error is out of memory; `out` has then grown by a part of it.
+pub fn print_visible(out: &mut Vec<u8>, number: u64, count: u64) -> Result<(), AllocError>
+    ensures { OnOk result (out.new.items
+        ≡ out.old.items ++ numbered number (codes " ok visible " ++ decimal count)) }
+{
+    print_counted(out, number, b" ok visible ", count)
 }

@@ -83,10 +83,17 @@ pub enum Sending {
     DeletesFirst,
     /// In batches without a producer id.
     NotIdempotent,
+    /// By the router as it is proved. The business row and the event are in two transactions, so
+    /// that a crash between them leaves no event.
+    Separate,
+    /// By the router as it is proved, which sees visible rows alone. A row can become visible after
+    /// rows of greater numbers.
+    VisibleLate,
 }
 
 impl Sending {
     ghost use Rattle.kob_scene_text.specs.Scenes.{is_variant_sending};
+    ghost use Rattle.kob_scene_text.specs.Steps.{hides_rows};
 
     pub fn is_variant(self) -> bool
         ensures { result ≡ is_variant_sending self }
@@ -96,6 +103,18 @@ impl Sending {
             Sending::RetriesNew => true,
             Sending::DeletesFirst => true,
             Sending::NotIdempotent => true,
+            Sending::Separate => true,
+            Sending::VisibleLate => true,
+        }
+    }
+
+    /// Whether rows can become visible after they were recorded.
+    pub(crate) fn hides_rows(self) -> bool
+        ensures { result ≡ hides_rows self }
+    {
+        match self {
+            Sending::VisibleLate => true,
+            _ => false,
         }
     }
 }
@@ -221,11 +240,22 @@ pub enum Lost {
     Reply,
 }
 
+/// How an event is recorded.
+#[derive(Clone, Copy, Debug, PartialEq, Eq)]
+pub enum Recording {
+    /// With its business row, in one transaction, after which it is visible.
+    Whole,
+    /// Not at all: the service crashes after the transaction of the business row.
+    Crash,
+    /// As `Whole`, but its row is hidden until a step `visible`.
+    Late,
+}
+
 /// A step of a service.
 #[derive(Drop)]
 pub enum ServiceStep {
-    /// Records a business row together with an outbox row.
-    Record(Change, OutboxEvent),
+    /// Records a business row together with an outbox row, or as a variant does.
+    Record(Change, OutboxEvent, Recording),
     /// One step of the router; a message of its first call may be lost.
     Tick(Option<Lost>),
     /// Makes ticks until one neither moves nor repeats.
@@ -236,6 +266,8 @@ pub enum ServiceStep {
     Outbox,
     /// Prints the state of a business row.
     Business { kind: Text, key: Text },
+    /// Makes all hidden rows visible.
+    Visible,
 }
 
 /// A step of a consumer.

@@ -4,8 +4,8 @@ ghost use Rattle.std.specs.Prelude.{◌≡◌, ◌≤◌, IfOk};
 ghost use Rattle.kob_script.specs.Words.{Gives as ScriptGives, GivesSeen as ScriptGivesSeen};
 ghost use Rattle.kob_scene_text.specs.Reading.{Gives};
 ghost use Rattle.kob_scene_text.specs.Workers.{by_first, by_named, declared_route, partitions_of};
-ghost use Rattle.kob_scene_text.specs.Workers.{route_of, sending_first, sending_of, service_of};
-ghost use Rattle.kob_scene_text.specs.Workers.{service_with, settings_of, text_first};
+ghost use Rattle.kob_scene_text.specs.Workers.{route_of, sending_first, sending_of, sending_pair};
+ghost use Rattle.kob_scene_text.specs.Workers.{service_of, service_with, settings_of, text_first};
 
 use crate::fault::{SceneFaultKind, StepError};
 use crate::name::{Who, who_of};
@@ -78,9 +78,21 @@ fn declared_route(
 }
 
 /// How rows are sent, and the words after that.
-fn sending_first<'w, 'l>(words: &'w [Word<'l>]) -> (Sending, &'w [Word<'l>])
+pub(crate) fn sending_first<'w, 'l>(words: &'w [Word<'l>]) -> (Sending, &'w [Word<'l>])
     ensures sending { result.0 ≡ (sending_first words.entry.now).0 }
     ensures rest { result.1.now ≡ (sending_first words.entry.now).1 }
+{
+    match words {
+        [one, rest @ ..] if one.decoded() == b"separate".as_slice() => (Sending::Separate, rest),
+        [_, ..] => sending_pair(words),
+        [] => (Sending::Proved, words),
+    }
+}
+
+/// A variant of two words.
+fn sending_pair<'w, 'l>(words: &'w [Word<'l>]) -> (Sending, &'w [Word<'l>])
+    ensures sending { result.0 ≡ (sending_pair words.entry.now).0 }
+    ensures rest { result.1.now ≡ (sending_pair words.entry.now).1 }
 {
     match words {
         [one, other, rest @ ..] => match sending_of(one, other) {
@@ -92,7 +104,7 @@ fn sending_first<'w, 'l>(words: &'w [Word<'l>]) -> (Sending, &'w [Word<'l>])
 }
 
 /// The variant that two words name.
-pub(crate) fn sending_of(one: &Word<'_>, other: &Word<'_>) -> Option<Sending>
+fn sending_of(one: &Word<'_>, other: &Word<'_>) -> Option<Sending>
     ensures { result ≡ sending_of one.now other.now }
 {
     if one.decoded() == b"retries".as_slice() && other.decoded() == b"new".as_slice() {
@@ -101,6 +113,8 @@ pub(crate) fn sending_of(one: &Word<'_>, other: &Word<'_>) -> Option<Sending>
         Some(Sending::DeletesFirst)
     } else if one.decoded() == b"not".as_slice() && other.decoded() == b"idempotent".as_slice() {
         Some(Sending::NotIdempotent)
+    } else if one.decoded() == b"visible".as_slice() && other.decoded() == b"late".as_slice() {
+        Some(Sending::VisibleLate)
     } else {
         None
     }

@@ -9,12 +9,13 @@ ghost use Rattle.kob_scene_text.specs.Reading.{Gives, GivesSeen};
 ghost use Rattle.kob_scene_text.specs.Steps.{bare_consumer_step, bare_service_line};
 ghost use Rattle.kob_scene_text.specs.Steps.{bare_service_step, begins_step, business_of};
 ghost use Rattle.kob_scene_text.specs.Steps.{consumer_step_of, event_of, id_of, lost_of};
-ghost use Rattle.kob_scene_text.specs.Steps.{id_in, record_of, record_with, service_line};
+ghost use Rattle.kob_scene_text.specs.Steps.{id_in, record_of, record_with, recording_named};
+ghost use Rattle.kob_scene_text.specs.Steps.{change_of, recording_of, service_line, written_by};
 ghost use Rattle.kob_scene_text.specs.Steps.{expected_alone, expected_by, expected_of};
-ghost use Rattle.kob_scene_text.specs.Steps.{service_step_of, service_told, written, written_of};
+ghost use Rattle.kob_scene_text.specs.Steps.{service_step_of, service_told, written};
 
 use crate::fault::{SceneFaultKind, StepError};
-use crate::scene::{ConsumerStep, Expected, Lost, ServiceStep};
+use crate::scene::{ConsumerStep, Expected, Lost, Recording, Sending, ServiceStep};
 use kob_outbox::{Change, OutboxEvent};
 use kob_script::{FaultKind, LineError, Word, lent_text_of, text_of};
 use std::alloc::Global;
@@ -32,6 +33,7 @@ pub(crate) fn begins_step(word: &[u8]) -> bool
         || word == b"outbox".as_slice()
         || word == b"business".as_slice()
         || word == b"inbox".as_slice()
+        || word == b"visible".as_slice()
 }
 
 /// Which message a tick loses, by the words after `tick`.
@@ -46,16 +48,20 @@ fn lost_of(words: &[Word<'_>]) -> Result<Option<Lost>, LineError>
     }
 }
 
-/// A step of a service, by its words.
-pub(crate) fn service_step(alloc: Global, words: &[Word<'_>]) -> Result<ServiceStep, StepError>
-    ensures { GivesSeen service_told result (service_step_of words.now) }
+/// A step of a service that sends so, by its words.
+pub(crate) fn service_step(
+    alloc: Global,
+    sending: Sending,
+    words: &[Word<'_>],
+) -> Result<ServiceStep, StepError>
+    ensures { GivesSeen service_told result (service_step_of sending words.now) }
 {
     match words {
         [first, rest @ ..] => {
             if first.decoded() == b"record".as_slice() {
-                record_step(alloc, rest)
+                record_step(alloc, sending, rest)
             } else {
-                Ok(service_line(alloc, first.decoded(), rest)?)
+                Ok(service_line(alloc, sending, first.decoded(), rest)?)
             }
         }
         [] => Err(StepError::Fault(SceneFaultKind::Script(FaultKind::BadLine))),
@@ -63,8 +69,13 @@ pub(crate) fn service_step(alloc: Global, words: &[Word<'_>]) -> Result<ServiceS
 }
 
 /// A step that is no record.
-fn service_line(alloc: Global, name: &[u8], words: &[Word<'_>]) -> Result<ServiceStep, LineError>
-    ensures { ScriptGivesSeen service_told result (service_line name.now words.now) }
+fn service_line(
+    alloc: Global,
+    sending: Sending,
+    name: &[u8],
+    words: &[Word<'_>],
+) -> Result<ServiceStep, LineError>
+    ensures { ScriptGivesSeen service_told result (service_line sending name.now words.now) }
 {
     if name == b"tick".as_slice() {
         return Ok(ServiceStep::Tick(lost_of(words)?));
@@ -73,13 +84,13 @@ fn service_line(alloc: Global, name: &[u8], words: &[Word<'_>]) -> Result<Servic
         return business_step(alloc, words);
     }
     match words {
-        [] => bare_service_step(name),
+        [] => bare_service_step(sending, name),
         _ => Err(LineError::Fault(FaultKind::BadLine)),
     }
 }
 
-fn bare_service_step(name: &[u8]) -> Result<ServiceStep, LineError>
-    ensures { ScriptGivesSeen service_told result (bare_service_step name.now) }
+fn bare_service_step(sending: Sending, name: &[u8]) -> Result<ServiceStep, LineError>
+    ensures { ScriptGivesSeen service_told result (bare_service_step sending name.now) }
 {
     if name == b"run".as_slice() {
         Ok(ServiceStep::Run)
@@ -89,6 +100,8 @@ fn bare_service_step(name: &[u8]) -> Result<ServiceStep, LineError>
         Ok(ServiceStep::Sweep)
     } else if name == b"outbox".as_slice() {
         Ok(ServiceStep::Outbox)
+    } else if name == b"visible".as_slice() && sending.hides_rows() {
+        Ok(ServiceStep::Visible)
     } else {
         Err(LineError::Fault(FaultKind::BadLine))
     }
@@ -175,10 +188,14 @@ fn expected_by(first: &[u8], second: &Word<'_>) -> Result<Expected, StepError>
     }
 }
 
-/// `ID AGGREGATETYPE AGGREGATEID TYPE PAYLOAD KIND KEY STATE`. The words are checked from left to
-/// right.
-fn record_step(alloc: Global, words: &[Word<'_>]) -> Result<ServiceStep, StepError>
-    ensures { GivesSeen service_told result (record_of words.now) }
+/// `ID AGGREGATETYPE AGGREGATEID TYPE PAYLOAD KIND KEY STATE`, and a word of a variant or none. The
+/// words are checked from left to right.
+fn record_step(
+    alloc: Global,
+    sending: Sending,
+    words: &[Word<'_>],
+) -> Result<ServiceStep, StepError>
+    ensures { GivesSeen service_told result (record_of sending words.now) }
 {
     match words {
         [
@@ -190,6 +207,7 @@ fn record_step(alloc: Global, words: &[Word<'_>]) -> Result<ServiceStep, StepErr
             change @ ..,
         ] => record_with(
             alloc,
+            sending,
             id,
             aggregate_type,
             aggregate_id,
@@ -203,6 +221,7 @@ fn record_step(alloc: Global, words: &[Word<'_>]) -> Result<ServiceStep, StepErr
 
 fn record_with(
     alloc: Global,
+    sending: Sending,
     id: &Word<'_>,
     aggregate_type: &Word<'_>,
     aggregate_id: &Word<'_>,
@@ -210,13 +229,13 @@ fn record_with(
     payload: &Word<'_>,
     change: &[Word<'_>],
 ) -> Result<ServiceStep, StepError>
-    ensures { GivesSeen service_told result (record_with id.now aggregate_type.now
+    ensures { GivesSeen service_told result (record_with sending id.now aggregate_type.now
         aggregate_id.now event_type.now payload.now change.now) }
 {
     let id = id_of(id)?;
     let event = event_of(alloc, id, aggregate_type, aggregate_id, event_type, payload)?;
-    let change = change_of(alloc, change)?;
-    Ok(ServiceStep::Record(change, event))
+    let (change, recording) = change_of(alloc, sending, change)?;
+    Ok(ServiceStep::Record(change, event, recording))
 }
 
 /// `BadText` comes before `BadId`.
@@ -261,17 +280,56 @@ fn event_of(
     })
 }
 
-/// `KIND KEY STATE`
-fn change_of(alloc: Global, words: &[Word<'_>]) -> Result<Change, LineError>
-    ensures { ScriptGivesSeen written result (written_of words.now) }
+/// `KIND KEY STATE`, and how the event is recorded.
+fn change_of(
+    alloc: Global,
+    sending: Sending,
+    words: &[Word<'_>],
+) -> Result<(Change, Recording), LineError>
+    ensures { ScriptGivesSeen (λ read. (written read.0, read.1)) result
+        (change_of sending words.now) }
 {
     match words {
-        [kind, key, state] => {
-            let kind = string_of(alloc, kind)?;
-            let id = string_of(alloc, key)?;
-            let state = string_of(alloc, state)?;
-            Ok(Change { kind, id, state })
+        [kind, key, state, rest @ ..] => {
+            let recording = recording_of(sending, rest)?;
+            let change = written_by(alloc, kind, key, state)?;
+            Ok((change, recording))
         }
         _ => Err(LineError::Fault(FaultKind::BadLine)),
     }
+}
+
+/// How an event is recorded, by the words after its change.
+fn recording_of(sending: Sending, words: &[Word<'_>]) -> Result<Recording, LineError>
+    ensures { ScriptGives result (recording_of sending words.now) }
+{
+    match words {
+        [] => Ok(Recording::Whole),
+        [word] => recording_named(sending, word.decoded()),
+        _ => Err(LineError::Fault(FaultKind::BadLine)),
+    }
+}
+
+fn recording_named(sending: Sending, word: &[u8]) -> Result<Recording, LineError>
+    ensures { ScriptGives result (recording_named sending word.now) }
+{
+    match sending {
+        Sending::Separate if word == b"crash".as_slice() => Ok(Recording::Crash),
+        Sending::VisibleLate if word == b"late".as_slice() => Ok(Recording::Late),
+        _ => Err(LineError::Fault(FaultKind::BadLine)),
+    }
+}
+
+fn written_by(
+    alloc: Global,
+    kind: &Word<'_>,
+    key: &Word<'_>,
+    state: &Word<'_>,
+) -> Result<Change, LineError>
+    ensures { ScriptGivesSeen written result (written_by kind.now key.now state.now) }
+{
+    let kind = string_of(alloc, kind)?;
+    let id = string_of(alloc, key)?;
+    let state = string_of(alloc, state)?;
+    Ok(Change { kind, id, state })
 }

@@ -2,9 +2,9 @@
 
 ghost use Rattle.std.specs.Prelude.{◌≡◌};
 ghost use Rattle.kob_scene_text.specs.Scenes.{has_variant, is_variant_consumer_at};
-ghost use Rattle.kob_scene_text.specs.Scenes.{is_variant_service_at};
+ghost use Rattle.kob_scene_text.specs.Scenes.{is_variant_service_at, sending_at};
 
-use crate::scene::{Consumer, Service};
+use crate::scene::{Consumer, Sending, Service};
 
 /// Whether the service or the consumer at its place is a variant.
 pub(crate) fn has_variant(
@@ -25,6 +25,16 @@ fn is_variant_service_at(services: &[Service], place: usize) -> bool
     match services.get(place) {
         Some(service) => service.sending.is_variant(),
         None => false,
+    }
+}
+
+/// How the service at this place sends.
+pub(crate) fn sending_at(services: &[Service], place: usize) -> Sending
+    ensures { result ≡ sending_at services.now place }
+{
+    match services.get(place) {
+        Some(service) => service.sending,
+        None => Sending::Proved,
     }
 }
 

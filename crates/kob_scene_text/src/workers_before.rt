@@ -4,10 +4,12 @@ ghost use Rattle.std.specs.Prelude.{◌≡◌, IfOk, map};
 ghost use Rattle.kob_script.specs.Script.{line_words};
 ghost use Rattle.kob_scene_text.specs.Places.{are_of, are_of_variant, is_declared, is_variant};
 ghost use Rattle.kob_scene_text.specs.Places.{are_of_variant_consumer, are_of_variant_service};
-ghost use Rattle.kob_scene_text.specs.Places.{begins_variant, names_variant, worker_in};
+ghost use Rattle.kob_scene_text.specs.Places.{begins_variant, names_variant, sending_in};
+ghost use Rattle.kob_scene_text.specs.Places.{sending_of_words, worker_in};
 
 use crate::name::Worker;
-use crate::service_lines::sending_of;
+use crate::scene::Sending;
+use crate::service_lines::sending_first;
 use kob_script::{LineError, Word, words_of};
 use std::alloc::{AllocError, Global};
 
@@ -78,21 +80,65 @@ fn are_of_variant_service(name: &[u8], words: &[Word<'_>]) -> bool
     ensures { result ≡ are_of_variant_service name.now words.now }
 {
     match words {
-        [first, own, _, _, _, _, one, other, ..] => {
+        [first, own, _, _, _, _, words @ ..] => {
             first.decoded() == b"service".as_slice()
                 && own.decoded() == name
-                && names_variant(one, other)
+                && names_variant(words)
         }
         _ => false,
     }
 }
 
-/// Whether two words name a variant of a service.
+/// Whether words begin with the name of a variant of a service.
 #[tactic(auto, unfolding(crate::specs::Places::names_variant))]
-fn names_variant(one: &Word<'_>, other: &Word<'_>) -> bool
-    ensures { result ≡ names_variant one.now other.now }
+fn names_variant(words: &[Word<'_>]) -> bool
+    ensures { result ≡ names_variant words.now }
 {
-    sending_of(one, other).is_some()
+    let (sending, _) = sending_first(words);
+    sending.is_variant()
+}
+
+/// How the service of a name sends, by the first of these lines that declares one.
+pub(crate) fn sending_in(
+    alloc: Global,
+    before: &[&[u8]],
+    name: &[u8],
+) -> Result<Sending, AllocError>
+    ensures { IfOk result (λ sending.
+        sending ≡ sending_in (map (λ line. line.now) before.now) name.now) }
+{
+    for line in before {
+        if let Some(sending) = sending_of_line(alloc, line, name)? {
+            return Ok(sending);
+        }
+    }
+    Ok(Sending::Proved)
+}
+
+#[tactic(auto, unfolding(crate::specs::Places::sending_of_words))]
+fn sending_of_line(alloc: Global, line: &[u8], name: &[u8]) -> Result<Option<Sending>, AllocError>
+    ensures { IfOk result (λ sending. sending ≡ sending_of_words name.now (line_words line.now)) }
+{
+    match words_of(alloc, line) {
+        Ok(words) => Ok(sending_of_words(name, &words)),
+        Err(LineError::Fault(_)) => Ok(None),
+        Err(LineError::Memory(refused)) => Err(refused),
+    }
+}
+
+/// How a service of this name sends, if words declare one.
+#[tactic(auto, unfolding(crate::specs::Places::sending_of_words))]
+fn sending_of_words(name: &[u8], words: &[Word<'_>]) -> Option<Sending>
+    ensures { result ≡ sending_of_words name.now words.now }
+{
+    match words {
+        [first, own, _, _, _, _, words @ ..]
+            if first.decoded() == b"service".as_slice() && own.decoded() == name => {
+            let (sending, _) = sending_first(words);
+            Some(sending)
+        }
+        _ => None,
+    }
 }
 
 fn are_of_variant_consumer(name: &[u8], words: &[Word<'_>]) -> bool

@@ -14,10 +14,20 @@ returns c =
       sender = c.restart.new.self;
       outbox = was.outbox;
       recorded = map (λ event. event.now) was.recorded.items;
+      unwritten = map (λ event. event.now) was.unwritten.items;
+      hidden = was.hidden.items;
     } in
     let made = c.restart.ensures in
     subst (λ (old : Service). Does Restarted old new) c.self.view_is (record {
-      same = record { worker = refl; principal = refl; host = refl; sending = refl; target = made.same };
+      same = record {
+        worker = refl;
+        principal = refl;
+        host = refl;
+        sending = refl;
+        target = made.same;
+        unwritten = refl;
+        hidden = refl;
+      };
       recorded = refl;
       may = tt;
       done = made.done was.outbox;

@@ -19,6 +19,8 @@ returns c =
       sender = was.router;
       outbox = was.outbox;
       recorded = events;
+      unwritten = map (λ event. event.now) was.unwritten.items;
+      hidden = was.hidden.items;
     } in
     let new : Service =
     record {
@@ -29,6 +31,8 @@ returns c =
       sender = ticked.new.router;
       outbox = ticked.new.outbox;
       recorded = events;
+      unwritten = map (λ event. event.now) was.unwritten.items;
+      hidden = was.hidden.items;
     } in
     let calls = ticked.new.line.calls.made.items in
     let after = ticked.new.line.line.recorded.now in
@@ -42,7 +46,15 @@ returns c =
     let done =
     service_ticked sent_whole c.args.loss old new ticked.result c.new-calls.result.made.items calls c.new-calls.result.unmade
     ticked.new.line.calls.unmade c.args.recorded.now after lost
-    (record { worker = refl; principal = refl; host = refl; sending = refl; target = ticked.ensures.same }) refl c.new-calls.ensures.made
+    (record {
+      worker = refl;
+      principal = refl;
+      host = refl;
+      sending = refl;
+      target = ticked.ensures.same;
+      unwritten = refl;
+      hidden = refl;
+    }) refl c.new-calls.ensures.made
     c.new-calls.ensures.unmade journaled ticked.ensures.done in
     let ends : after ≡ c.recorded-1.given.0 = search rules in
     subst (λ (r : Record). IsRouterTick sent_whole c.args.loss c.args.self.now new c.args.recorded.now r c.in_ok-tick.tick) ends

@@ -16,12 +16,22 @@ returns c =
       sender = c.restart.new.self;
       outbox = c.skip_first.new.outbox;
       recorded = events;
+      unwritten = map (λ event. event.now) was.unwritten.items;
+      hidden = was.hidden.items;
     } in
     let restarted : Contents → State =
     λ outbox. record { outbox = outbox; producer = None; sequences = []; hand = None } in
     let made = c.restart.ensures in
     subst (λ (old : Service). Skips old new) c.self.view_is (record {
-      same = record { worker = refl; principal = refl; host = refl; sending = refl; target = made.same };
+      same = record {
+        worker = refl;
+        principal = refl;
+        host = refl;
+        sending = refl;
+        target = made.same;
+        unwritten = refl;
+        hidden = refl;
+      };
       recorded = refl;
       done = made.done c.skip_first.new.outbox ∙ ap restarted c.in_ok-skip_first.ensures;
     })

@@ -1,0 +1,80 @@
+//! What a router sees of an outbox that goes by the numbers of rows and sees the visible ones alone.
+
+ghost use Rattle.std.specs.Prelude.{◌≡◌, IfOk, map, not, option_map};
+ghost use Rattle.std.specs.List.{find};
+ghost use Rattle.std.specs.Option.{option_copied};
+ghost use Rattle.kob_outbox.specs.Contents.{stored_row};
+ghost use Rattle.kob_scene_play.specs.Services.{is_hidden, poll_behind, poll_by, poll_rows};
+
+use kob_outbox::{Outbox, OutboxFault, Row};
+
+/// What comes before a step of the router.
+#[derive(Clone, Copy, Debug)]
+pub(crate) enum Poll {
+    /// Nothing: a row is in flight, the first row after the mark is visible, or no row is after it.
+    Own,
+    /// The mark moves to this number, past hidden rows, and the next row is visible.
+    Past(u64),
+    /// All rows after the mark are hidden, so that the router makes no step.
+    Nothing,
+}
+
+/// What comes before a step of the router. A row in flight is sent again whatever is hidden.
+pub(crate) fn poll_by(
+    outbox: &mut Outbox,
+    in_flight: Option<u64>,
+    hidden: &[u64],
+) -> Result<Poll, OutboxFault>
+    ensures poll { IfOk result (λ poll. poll ≡ poll_by in_flight hidden.now outbox.old) }
+    ensures same { outbox.new ≡ outbox.old }
+{
+    match in_flight {
+        Some(_) => Ok(Poll::Own),
+        None => poll_waiting(outbox, hidden),
+    }
+}
+
+ghost use Rattle.std.specs.Prelude.{None};
+
+fn poll_waiting(outbox: &mut Outbox, hidden: &[u64]) -> Result<Poll, OutboxFault>
+    ensures poll { IfOk result (λ poll. poll ≡ poll_by None hidden.now outbox.old) }
+    ensures same { outbox.new ≡ outbox.old }
+{
+    let mark = outbox.mark()?;
+    let rows = outbox.after(mark, u32::MAX)?;
+    Ok(poll_rows(&rows, hidden))
+}
+
+fn poll_rows(rows: &[Row], hidden: &[u64]) -> Poll
+    ensures { result ≡ poll_rows hidden.now (map stored_row rows.now) }
+{
+    match rows {
+        [first, rest @ ..] if is_hidden(hidden, first.seq) => {
+            poll_behind(first_visible(rest, hidden))
+        }
+        _ => Poll::Own,
+    }
+}
+
+fn poll_behind(row: Option<&Row>) -> Poll
+    ensures { result ≡ poll_behind (option_map stored_row (option_copied row.entry)) }
+{
+    match row {
+        Some(row) => Poll::Past(row.seq.saturating_sub(1)),
+        None => Poll::Nothing,
+    }
+}
+
+#[tactic(auto, using(crate::proofs::Polling::first_of_stored))]
+fn first_visible<'r>(rows: &'r [Row], hidden: &[u64]) -> Option<&'r Row>
+    ensures { option_map stored_row (option_copied result)
+        ≡ find (λ event. not (is_hidden hidden.now event.seq)) (map stored_row rows.now) }
+{
+    rows.iter().find(|row| !is_hidden(hidden, row.seq))
+}
+
+fn is_hidden(hidden: &[u64], seq: u64) -> bool
+    ensures { result ≡ is_hidden hidden.now seq }
+{
+    hidden.contains(&seq)
+}

@@ -1,0 +1,105 @@
+-- The forms of lines of a service, behind their first words.
+use Rattle.std.specs.Prelude.{ℕ, Bool, true, false, ◌&&◌, ◌||◌, List, [], ◌∷◌, Option, Some, None, codes, if◌then◌else◌}
+use Rattle.std.specs.Str.{bytes_eq}
+use Rattle.kob_script.specs.Words.{Word}
+use Rattle.kob_scene_text.specs.Steps.{hides_rows}
+use Rattle.kob_scene_text.specs.declared.forms.Keyword.TheVariants as keyword
+use Rattle.kob_scene_text.specs.declared.forms.Part.{Part}
+use Rattle.kob_scene_text.specs.declared.forms.Part.TheVariants.{One, After, OrEnd}
+use Rattle.kob_scene_text.specs.declared.forms.Slot.TheVariants as slot
+use Rattle.kob_scene_text.specs.declared.scene.Sending.{Sending}
+use Rattle.kob_scene_text.specs.declared.scene.Sending.TheVariants.{Separate, VisibleLate}
+
+-- Declarations.
+
+abbrev pub route_words : List Part
+route_words =
+    After keyword.By slot.Column ∷ After keyword.Replacement slot.Replacement
+    ∷ After keyword.Placement slot.Placement ∷ []
+
+-- behind the name of a service
+abbrev pub service_words : List Part → List Part
+service_words more =
+    One slot.NewName ∷ One slot.Principal ∷ One slot.Host
+    ∷ One (slot.Keyword keyword.Partitions) ∷ One slot.Partitions ∷ more
+
+-- of a service with the proved router, and of each variant
+abbrev pub proved_form : List Part
+proved_form = service_words route_words
+
+abbrev pub retries_form : List Part
+retries_form =
+    service_words
+    (One (slot.Keyword keyword.Retries) ∷ One (slot.Keyword keyword.New) ∷ route_words)
+
+abbrev pub deletes_form : List Part
+deletes_form =
+    service_words
+    (One (slot.Keyword keyword.Deletes) ∷ One (slot.Keyword keyword.First) ∷ route_words)
+
+abbrev pub not_form : List Part
+not_form =
+    service_words
+    (One (slot.Keyword keyword.Not) ∷ One (slot.Keyword keyword.Idempotent) ∷ route_words)
+
+abbrev pub separate_form : List Part
+separate_form = service_words (One (slot.Keyword keyword.Separate) ∷ route_words)
+
+abbrev pub visible_form : List Part
+visible_form =
+    service_words
+    (One (slot.Keyword keyword.Visible) ∷ One (slot.Keyword keyword.Late) ∷ route_words)
+
+abbrev pub service_form_by : List ℕ → List Part
+service_form_by variant =
+    if bytes_eq variant (codes "retries") then retries_form
+    else (if bytes_eq variant (codes "deletes") then deletes_form
+    else (if bytes_eq variant (codes "not") then not_form
+    else (if bytes_eq variant (codes "separate") then separate_form
+    else (if bytes_eq variant (codes "visible") then visible_form else proved_form))))
+
+-- of service, by the word behind the number of partitions
+abbrev pub service_form : List Word → List Part
+service_form (name ∷ principal ∷ host ∷ keyword ∷ number ∷ variant ∷ words) =
+    service_form_by variant.decoded
+service_form words = proved_form
+
+-- Steps.
+
+abbrev pub record_words : List Part → List Part
+record_words more =
+    One slot.Id ∷ One slot.Text ∷ One slot.Text ∷ One slot.Text ∷ One slot.Text
+    ∷ One slot.Text ∷ One slot.Text ∷ One slot.Text ∷ more
+
+abbrev pub record_form : List Part
+record_form = record_words []
+
+-- of a record with or without one more word, of two variants
+abbrev pub crash_form : List Part
+crash_form = record_words (OrEnd ∷ One (slot.Keyword keyword.Crash) ∷ [])
+
+abbrev pub late_form : List Part
+late_form = record_words (OrEnd ∷ One (slot.Keyword keyword.Late) ∷ [])
+
+abbrev pub record_form_by : Sending → List Part
+record_form_by Separate = crash_form
+record_form_by VisibleLate = late_form
+record_form_by sending = record_form
+
+abbrev pub tick_form : List Part
+tick_form = OrEnd ∷ One slot.Loss ∷ []
+
+-- a step of one word
+abbrev pub bare_form : Bool → Option (List Part)
+bare_form true = Some []
+bare_form false = None
+
+-- of a service that sends so
+abbrev pub service_step_form : Sending → List ℕ → Option (List Part)
+service_step_form sending name =
+    if bytes_eq name (codes "record") then Some (record_form_by sending)
+    else (if bytes_eq name (codes "tick") then Some tick_form
+    else (if bytes_eq name (codes "business") then Some (One slot.Text ∷ One slot.Text ∷ [])
+    else bare_form (bytes_eq name (codes "run") || bytes_eq name (codes "restart")
+    || bytes_eq name (codes "sweep") || bytes_eq name (codes "outbox")
+    || (bytes_eq name (codes "visible") && hides_rows sending))))
