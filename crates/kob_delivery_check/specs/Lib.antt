@@ -1,3 +1,4 @@
+pub mod Altered
 pub mod Causes
 pub mod Doubles
 pub mod Fates

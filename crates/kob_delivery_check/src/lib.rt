@@ -1,6 +1,7 @@
 //! Where each event of a service is: with a consumer, on its way, or lost.
 #![tactic(auto)]
 
+mod altered;
 mod cause;
 mod come;
 mod fate;
@@ -23,6 +24,7 @@ mod start;
 mod unread;
 mod unrecorded;
 
+pub use altered::altered_row;
 pub use cause::{Cause, Loss, losses_of};
 pub use come::{Arrival, count_taken};
 pub use fate::Fate;

@@ -6,7 +6,7 @@ use Rattle.kob_outbox.specs.declared.event.Row.{Row}
 use Rattle.kob_router.specs.declared.sender.HeldRow.{HeldRow}
 use Rattle.kob_router.specs.declared.tick.Tick.{Tick}
 use Rattle.kob_router.specs.declared.tick.Tick.TheVariants.{Idle}
-use Rattle.kob_scene_play.specs.Services.{IsSeenTick, IsServiceTick, IsPolledTick, is_hidden, passed_to, poll_of}
+use Rattle.kob_scene_play.specs.Services.{IsSeenTick, IsTickOfService, IsPolledTick, is_hidden, passed_to, poll_of}
 use Rattle.kob_scene_play.specs.declared.poll.Poll.{Poll}
 use Rattle.kob_scene_play.specs.declared.poll.Poll.TheVariants.{Own, Past, Nothing}
 use Rattle.kob_scene_text.specs.declared.scene.Sending.{Sending}
@@ -59,7 +59,7 @@ none_in_flight old now poll seq found is same =
 
 pub tick_as_ever : {E : Type 0} (result : Result Tick E) (loss : Loss) (old mid new : Service) (before after : Record)
     (poll : Poll) → poll ≡ polled old → poll ≡ Own → mid ≡ old → IfOk result (IsSeenTick loss mid new before after)
-    → IfOk result (IsServiceTick loss old new before after)
+    → IfOk result (IsTickOfService loss old new before after)
 tick_as_ever (Ok tick) loss old mid new before after poll found is same seen =
     subst (λ (p : Poll). IsPolledTick p loss old new before after tick) (sym is ∙ found)
     (subst (λ (from : Service). IsSeenTick loss from new before after tick) same seen)
@@ -67,7 +67,7 @@ tick_as_ever (Err fault) loss old mid new before after poll found is same seen =
 
 pub tick_past : {E : Type 0} (result : Result Tick E) (loss : Loss) (old start mid new : Service) (before after : Record)
     (poll : Poll) (seq : ℕ) → poll ≡ polled old → poll ≡ Past seq → start ≡ old → mid ≡ passed_to seq start
-    → IfOk result (IsSeenTick loss mid new before after) → IfOk result (IsServiceTick loss old new before after)
+    → IfOk result (IsSeenTick loss mid new before after) → IfOk result (IsTickOfService loss old new before after)
 tick_past (Ok tick) loss old start mid new before after poll seq found is same moved seen =
     subst (λ (p : Poll). IsPolledTick p loss old new before after tick) (sym is ∙ found)
     (subst (λ (from : Service). IsSeenTick loss (passed_to seq from) new before after tick) same
@@ -75,6 +75,6 @@ tick_past (Ok tick) loss old start mid new before after poll seq found is same m
 tick_past (Err fault) loss old start mid new before after poll seq found is same moved seen = seen
 
 pub tick_sees_none : (loss : Loss) (old new : Service) (r : Record) (poll : Poll) → poll ≡ polled old → poll ≡ Nothing
-    → new ≡ old → IsServiceTick loss old new r r Idle
+    → new ≡ old → IsTickOfService loss old new r r Idle
 tick_sees_none loss old new r poll found is same =
     subst (λ (p : Poll). IsPolledTick p loss old new r r Idle) (sym is ∙ found) (same, refl, refl)

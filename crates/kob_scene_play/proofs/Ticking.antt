@@ -1,5 +1,5 @@
 -- Ticks over a line of their own.
-use Rattle.kob_scene_play.proofs.Words.{ArePassedOn, AreServed, Call, Consumer, IsOwnTick, IsJournaled, IsSameConsumer, IsSameService, IsRouterTick, Journals, List, LosesFirst, Loss, PassesCallsOn, Record, Served, Service, Ticks, [], inl, inr, point_of, served_in, subst, sym, ℕ, map, ◌++◌, ◌∙◌, ◌∷◌, ◌≡◌, ap, Err, IfOk, IsConsumerTick, None, Ok, OnOk, Option, Result, Some}
+use Rattle.kob_scene_play.proofs.Words.{ArePassedOn, AreServed, Call, Consumer, IsOwnTick, IsJournaled, IsSameConsumer, IsSameService, IsRouterTick, Journals, List, LosesFirst, Loss, PassesCallsOn, Record, Served, Service, Ticks, [], inl, inr, point_of, served_in, subst, sym, ℕ, map, ◌++◌, ◌∙◌, ◌∷◌, ◌≡◌, ap, Err, IfOk, None, Ok, OnOk, Option, Result, Some}
 use Rattle.kob_inbox.specs.declared.tick.Tick.{Tick as ConsumerAnswer}
 use Rattle.kob_inbox.specs.Contents.{Contents as InboxContents}
 use Rattle.kob_rights.specs.declared.event.Event.{Event}
@@ -9,7 +9,7 @@ use Rattle.kob_router.specs.Tick as router_ticks
 use Rattle.kob_router.specs.declared.tick.Tick.{Tick as ServiceAnswer}
 use Rattle.kob_scene_play.specs.Asked.{IsAsked, committed_by}
 use Rattle.kob_scene_play.specs.Begins.{IsBegun, start_event}
-use Rattle.kob_scene_play.specs.Steps.{IsAheadBy, IsAheadTick, IsCalled, IsTakingTick, IsTickBy, ahead_of}
+use Rattle.kob_scene_play.specs.Steps.{IsAheadBy, IsAheadTick, IsCalled, IsTakingTick, IsTickBy, IsTickOfConsumer, ahead_of}
 use Rattle.kob_scene_play.specs.Takings.{HandlesReply, TakesHeld, asked_event, inbox_by, inbox_with}
 use Rattle.kob_scene_text.specs.declared.scene.Taking.{Taking}
 
@@ -154,7 +154,7 @@ pub tick_begun : {E : Type 0} (result : Result ConsumerAnswer E) (loss : Loss) (
     (due : Option Event) (event : Event)
     → due ≡ start_event old.start old.principal old.host old.fetcher before.journal → due ≡ Some event → new ≡ old
     → IfOk result (IsBegun loss old.worker event before after)
-    → IfOk result (IsConsumerTick loss old new before after)
+    → IfOk result (IsTickOfConsumer loss old new before after)
 tick_begun (Ok tick) loss old new before after due event found is same begun =
     subst (λ (d : Option Event). IsTickBy d loss old new before after tick) (sym is ∙ found) (same, begun)
 tick_begun (Err fault) loss old new before after due event found is same begun = begun
@@ -164,7 +164,7 @@ pub tick_own : {E : Type 0} (result : Result ConsumerAnswer E) (loss : Loss) (ol
     (due : Option Event) (taking : Taking)
     → due ≡ start_event old.start old.principal old.host old.fetcher before.journal → due ≡ None
     → taking ≡ old.taking → IfOk result (IsTakingTick taking loss old new before after)
-    → IfOk result (IsConsumerTick loss old new before after)
+    → IfOk result (IsTickOfConsumer loss old new before after)
 tick_own (Ok tick) loss old new before after due taking found is same own =
     subst (λ (d : Option Event). IsTickBy d loss old new before after tick) (sym is ∙ found)
     (subst (λ (t : Taking). IsTakingTick t loss old new before after tick) same own)

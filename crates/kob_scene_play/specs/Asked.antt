@@ -1,5 +1,5 @@
 -- A request of a worker of which a message may be lost.
-use Rattle.std.specs.Prelude.{◌≡◌, ℕ, Option, None, Some}
+use Rattle.std.specs.Prelude.{◌≡◌, ℕ, ◌+◌, Bool, true, false, Option, None, Some}
 use Rattle.kob_inbox.specs.declared.tick.StopReason.TheVariants as stops
 use Rattle.kob_inbox.specs.declared.tick.Tick.{Tick}
 use Rattle.kob_inbox.specs.declared.tick.Tick.TheVariants.{Committed, Repeat, Stopped}
@@ -19,6 +19,14 @@ IsAsked losses.None worker event before after heard =
 IsAsked losses.BeforeServe worker event before after heard = (after ≡ before) × (heard ≡ None)
 IsAsked losses.AfterServe worker event before after heard =
     (after ≡ after_event before worker event) × (heard ≡ None)
+
+-- how many entries a journal has before and after a tick whose first call has this loss, by whether
+-- the tick has to be made again: a request that is lost has none, and one whose reply is lost has one
+abbrev pub HasLoss : Loss → Bool → ℕ → ℕ → Type 0
+HasLoss losses.None is_repeat before after = Unit {0}
+HasLoss losses.BeforeServe is_repeat before after = after ≡ before
+HasLoss losses.AfterServe true before after = after ≡ before + 1
+HasLoss losses.AfterServe false before after = after ≡ before
 
 -- what a tick answers that asked for a commit
 abbrev pub committed_by : Option Reply → Tick

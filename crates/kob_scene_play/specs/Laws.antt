@@ -3,6 +3,7 @@
 use Rattle.std.specs.Prelude.{◌≡◌, ℕ, List, [], ◌∷◌, Option, None, Some, codes, ◌++◌, flat_map, length, MatchOption, slice_get, map}
 use Rattle.std.specs.Fmt.{decimal}
 use Rattle.std.specs.List.{enumerate_from}
+use Rattle.kob_delivery_check.specs.Altered.{altered_row}
 use Rattle.kob_delivery_check.specs.Order.{count_taken}
 use Rattle.kob_delivery_check.specs.Unread.{unread_of}
 use Rattle.kob_delivery_check.specs.declared.order.Early.{Early}
@@ -59,13 +60,18 @@ abbrev pub order_text : Option ℕ → List ℕ
 order_text None = codes ", in order"
 order_text (Some place) = misplaced_text place
 
+-- the first row with another key or value than was recorded, if there is one
+abbrev pub altered_text : Option ℕ → List ℕ
+altered_text None = []
+altered_text (Some place) = codes ", not as recorded at row " ++ decimal place
+
 abbrev pub unread_text : Place → List ℕ
 unread_text place = codes ", not read" ++ name_text place.topic ++ codes " " ++ decimal place.partition
 
 abbrev pub coverage_text : Coverage → List ℕ
 coverage_text coverage =
     taken_text coverage.taken coverage.recorded ++ order_text coverage.misplaced
-    ++ flat_map unread_text coverage.unread.items ++ codes "\n"
+    ++ altered_text coverage.altered ++ flat_map unread_text coverage.unread.items ++ codes "\n"
 
 abbrev pub law_text : ℕ → List Place → Option Breach → Coverage → List ℕ
 law_text number assignment breach coverage =
@@ -83,6 +89,13 @@ IsTaken service consumer count =
     × (map placed_intake rows ≡ enumerate_from 1 consumer.inbox)
     × (count ≡ count_taken service.recorded rows)
 
+-- the first row of its inbox with another key or value than the service recorded
+abbrev pub IsAltered : Service → Consumer → Option ℕ → Type 0
+IsAltered service consumer place =
+    (rows : List InboxRow)
+    × (map placed_intake rows ≡ enumerate_from 1 consumer.inbox)
+    × (place ≡ altered_row service.recorded rows)
+
 -- what the consumer has of the rows of the service
 abbrev pub IsCoverage : Service → Consumer → List Entry → Coverage → Type 0
 IsCoverage service consumer journal coverage =
@@ -90,6 +103,7 @@ IsCoverage service consumer journal coverage =
     × (coverage.misplaced ≡ first_at early)
     × (coverage.recorded ≡ length service.recorded)
     × IsTaken service consumer coverage.taken
+    × IsAltered service consumer coverage.altered
     × (coverage.unread.items
     ≡ unread_of service.worker consumer.fetcher.subscription.assignment journal)
 

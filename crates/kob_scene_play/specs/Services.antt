@@ -1,6 +1,6 @@
 -- A service of a scene: what its router's ticks do, and what is done after them.
 use Rattle.std.specs.List.{find, list_any}
-use Rattle.std.specs.Prelude.{◌≡◌, ℕ, ◌-◌, ◌==◌, Bool, not, List, [], ◌∷◌, ◌++◌, Option, None, Some, Result, Ok, Err, map, option_map, string_bytes, if◌then◌else◌}
+use Rattle.std.specs.Prelude.{◌≡◌, ℕ, ◌-◌, ◌==◌, Bool, true, false, length, not, List, [], ◌∷◌, ◌++◌, Option, None, Some, Result, Ok, Err, map, option_map, string_bytes, if◌then◌else◌}
 use Rattle.kob_delivery_check.specs.Unrecorded.{has_new_id}
 use Rattle.kob_lines.specs.Calls.{IsJournaled}
 use Rattle.kob_lines.specs.declared.lossy.Loss.{Loss}
@@ -18,6 +18,7 @@ use Rattle.kob_router.specs.declared.sender.HeldRow.{HeldRow}
 use Rattle.kob_router.specs.declared.sender.Sender.{Sender}
 use Rattle.kob_router.specs.declared.tick.Tick.{Tick}
 use Rattle.kob_router.specs.declared.tick.Tick.TheVariants.{Moved, Idle, Repeat, Stopped}
+use Rattle.kob_scene_play.specs.Asked.{HasLoss}
 use Rattle.kob_scene_play.specs.declared.poll.Poll.{Poll}
 use Rattle.kob_scene_play.specs.declared.poll.Poll.TheVariants.{Own, Past, Nothing}
 use Rattle.kob_scene_text.specs.declared.scene.Sending.{Sending}
@@ -225,8 +226,21 @@ IsPolledTick (Past seq) loss old new before after tick =
 IsPolledTick Nothing loss old new before after tick =
     (new ≡ old) × (after ≡ before) × (tick ≡ Idle)
 
--- one tick of a service
-abbrev pub IsServiceTick : Loss → Service → Service → Record → Record → Tick → Type 0
-IsServiceTick loss old new before after tick =
+-- one tick of a service, whatever is lost
+abbrev pub IsTickOfService : Loss → Service → Service → Record → Record → Tick → Type 0
+IsTickOfService loss old new before after tick =
     IsPolledTick (poll_of old.sending old.sender.hand old.hidden old.outbox) loss old new before after
     tick
+
+-- the tick has to be made again
+abbrev pub is_repeat : Tick → Bool
+is_repeat (Moved seq) = false
+is_repeat Idle = false
+is_repeat Repeat = true
+is_repeat (Stopped reason) = false
+
+-- one tick of a service, whose first call has this loss
+abbrev pub IsServiceTick : Loss → Service → Service → Record → Record → Tick → Type 0
+IsServiceTick loss old new before after tick =
+    IsTickOfService loss old new before after tick
+    × HasLoss loss (is_repeat tick) (length before.journal) (length after.journal)

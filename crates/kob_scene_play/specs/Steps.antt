@@ -30,7 +30,7 @@ use Rattle.kob_scene_text.specs.declared.scene.Taking.{Taking}
 use Rattle.kob_shared.specs.Journals.{Record}
 use Rattle.kob_rights.specs.declared.event.Event.{Event}
 use Rattle.kob_rights.specs.declared.reply.Reply.{Reply}
-use Rattle.kob_scene_play.specs.Asked.{IsAsked}
+use Rattle.kob_scene_play.specs.Asked.{HasLoss, IsAsked}
 use Rattle.kob_scene_play.specs.Begins.{IsBegun, start_event}
 use Rattle.kob_scene_play.specs.Takings.{Ahead, HandlesReply, TakesHeld, ahead, asked_event, inbox_after}
 use Rattle.kob_scene_play.specs.declared.holding.Holding.{Holding}
@@ -161,11 +161,27 @@ IsTickBy None loss old new before after tick =
 IsTickBy (Some event) loss old new before after tick =
     (new ≡ old) × IsBegun loss old.worker event before after tick
 
--- one tick of a consumer: where it has to begin, the commit of the end; else by how it takes in
-abbrev pub IsConsumerTick : Loss → Consumer → Consumer → Record → Record → ConsumerAnswer → Type 0
-IsConsumerTick loss old new before after tick =
+-- one tick of a consumer, whatever is lost: where it has to begin, the commit of the end; else by how
+-- it takes in
+abbrev pub IsTickOfConsumer : Loss → Consumer → Consumer → Record → Record → ConsumerAnswer → Type 0
+IsTickOfConsumer loss old new before after tick =
     IsTickBy (start_event old.start old.principal old.host old.fetcher before.journal) loss old new
     before after tick
+
+-- the tick has to be made again
+abbrev pub is_repeat_of_consumer : ConsumerAnswer → Bool
+is_repeat_of_consumer (readings.Placed position) = false
+is_repeat_of_consumer (readings.Took count) = false
+is_repeat_of_consumer readings.Committed = false
+is_repeat_of_consumer readings.Idle = false
+is_repeat_of_consumer readings.Repeat = true
+is_repeat_of_consumer (readings.Stopped reason) = false
+
+-- one tick of a consumer, whose first call has this loss
+abbrev pub IsConsumerTick : Loss → Consumer → Consumer → Record → Record → ConsumerAnswer → Type 0
+IsConsumerTick loss old new before after tick =
+    IsTickOfConsumer loss old new before after tick
+    × HasLoss loss (is_repeat_of_consumer tick) (length before.journal) (length after.journal)
 
 -- What the steps of a scene do, and what they print.
 

@@ -7,6 +7,7 @@ ghost use Rattle.kob_inbox.specs.Run.{start as new_state};
 ghost use Rattle.kob_scene_play.specs.Faults.{stop_of_consumer};
 ghost use Rattle.kob_scene_play.specs.Begins.{IsBegun, commit_event, start_event};
 ghost use Rattle.kob_scene_play.specs.Steps.{IsAheadTick, IsCalled, IsConsumerTick, IsOwnTick};
+ghost use Rattle.kob_scene_play.specs.Steps.{IsTickOfConsumer, is_repeat_of_consumer};
 ghost use Rattle.kob_scene_play.specs.Steps.{IsTakingTick, Restarts, consumer_state};
 ghost use Rattle.kob_scene_play.specs.Takings.{asked_event, inbox_by, inbox_with};
 ghost use Rattle.kob_scene_play.specs.declared.holding.Holding.TheVariants.{Nothing};
@@ -15,7 +16,7 @@ ghost use Rattle.kob_scene_text.specs.declared.scene.Taking.TheVariants.{Commits
 use crate::ask::{ask, committed_by, event_of};
 use crate::commits_before::{handle_reply, take_held};
 use crate::every::Every;
-use crate::fault::{PlayFault, line_fault, loses_first, unless};
+use crate::fault::{PlayFault, has_loss, line_fault, loses_first, unless};
 use crate::holding::{Holding, asked_next};
 use crate::line::take_over;
 use kob_delivery_check::start_due;
@@ -147,7 +148,6 @@ impl ConsumerWorker {
     /// journal under its number, its principal and its host. One that begins at the end first
     /// commits the end of each partition on which it knows no position and its group has no commit,
     /// a step each.
-    #[tactic(auto, using(crate::proofs::Ticking::tick_begun, crate::proofs::Ticking::tick_own))]
     pub fn tick(
         &mut self,
         alloc: Global,
@@ -155,6 +155,27 @@ impl ConsumerWorker {
         loss: Loss,
     ) -> Result<Tick, PlayFault>
         ensures { IfOk result (IsConsumerTick loss self.old self.new recorded.old recorded.new) }
+    {
+        let before = recorded.journal().len();
+        let tick = self.make_tick(alloc, recorded, loss)?;
+        let after = recorded.journal().len();
+        if has_loss(loss, is_repeat(&tick), before, after) {
+            Ok(tick)
+        } else {
+            drop(tick);
+            Err(PlayFault::NotLost)
+        }
+    }
+
+    /// One step, by where it begins and how it takes in.
+    #[tactic(auto, using(crate::proofs::Ticking::tick_begun, crate::proofs::Ticking::tick_own))]
+    fn make_tick(
+        &mut self,
+        alloc: Global,
+        recorded: &mut Recorded,
+        loss: Loss,
+    ) -> Result<Tick, PlayFault>
+        ensures { IfOk result (IsTickOfConsumer loss self.old self.new recorded.old recorded.new) }
     {
         let taking = self.taking();
         match self.start_due(alloc, recorded.journal())? {
@@ -378,5 +399,15 @@ fn stopped_by(tick: &Tick) -> Option<PlayFault>
         Tick::Stopped(StopReason::Memory(refused)) => Some(PlayFault::Memory(*refused)),
         Tick::Stopped(StopReason::Store) => Some(PlayFault::Store),
         _ => None,
+    }
+}
+
+/// Whether a step has to be made again.
+fn is_repeat(tick: &Tick) -> bool
+    ensures { result ≡ is_repeat_of_consumer tick.now }
+{
+    match tick {
+        Tick::Repeat => true,
+        Tick::Placed(_) | Tick::Took(_) | Tick::Committed | Tick::Idle | Tick::Stopped(_) => false,
     }
 }

@@ -1,6 +1,7 @@
 //! What ends a scene before its last step.
 
 ghost use Rattle.std.specs.Prelude.{◌≡◌, IfOk, IsTrue, OnOk, true};
+ghost use Rattle.kob_scene_play.specs.Asked.{HasLoss};
 ghost use Rattle.kob_scene_play.specs.Steps.{LosesFirst};
 
 use kob_inbox::InboxFault;
@@ -28,8 +29,8 @@ pub enum PlayFault {
     /// The settings have more bindings than can be in force. A scene's own have none.
     #[error("too many bindings")]
     TooMany,
-    /// A call was answered of which a message was to be lost.
-    #[error("a call that was to be lost was answered")]
+    /// A call of which a message was to be lost was answered, or was not served as it was to be.
+    #[error("a call was not lost as it was to be")]
     NotLost,
     /// The FETCH or the commit of what a consumer holds is not the one that is due to it.
     #[error("what a consumer holds is not due to it")]
@@ -122,6 +123,18 @@ pub(crate) fn loses_first(loss: Loss, calls: &[Call]) -> bool
             Loss::BeforeServe => first.heard.is_none(),
             Loss::AfterServe => first.heard.is_none(),
         },
+    }
+}
+
+/// Whether the journal has what it is to have of a tick whose first call has this loss.
+pub(crate) fn has_loss(loss: Loss, is_repeat: bool, before: usize, after: usize) -> bool
+    ensures { IsTrue result → HasLoss loss is_repeat before after }
+{
+    match loss {
+        Loss::None => true,
+        Loss::BeforeServe => after == before,
+        Loss::AfterServe if is_repeat => after > before && after - before == 1,
+        Loss::AfterServe => after == before,
     }
 }
 

@@ -4,7 +4,8 @@ ghost use Rattle.std.specs.Prelude.{◌≡◌, ◌++◌, IfOk, OnOk, flat_map, l
 ghost use Rattle.std.specs.Fmt.{decimal};
 ghost use Rattle.kob_router.specs.Line.{one_more};
 ghost use Rattle.std.specs.Option.{option_copied};
-ghost use Rattle.kob_scene_play.specs.Laws.{IsAnswered, IsCoverage, IsLaw, IsTaken, breach_text};
+ghost use Rattle.kob_scene_play.specs.Laws.{IsAltered, IsAnswered, IsCoverage, IsLaw, IsTaken};
+ghost use Rattle.kob_scene_play.specs.Laws.{altered_text, breach_text};
 ghost use Rattle.kob_scene_play.specs.Laws.{broken_text};
 ghost use Rattle.kob_scene_play.specs.Laws.{coverage_text, first_at, law_text, misplaced_text};
 ghost use Rattle.kob_scene_play.specs.Laws.{name_text, order_text, premise_text, taken_text};
@@ -17,7 +18,7 @@ use crate::fault::PlayFault;
 use crate::output::{Output, push_counted};
 use crate::service_worker::ServiceWorker;
 use crate::stage::Stage;
-use kob_delivery_check::{Early, count_taken, unread_of};
+use kob_delivery_check::{Early, altered_row, count_taken, unread_of};
 use kob_names::Text;
 use kob_pipeline::{Breach, Premise, first_breach};
 use kob_router::Place;
@@ -33,6 +34,8 @@ pub(crate) struct Coverage {
     taken: usize,
     /// The place of the first row of the inbox that is out of order.
     misplaced: Option<u64>,
+    /// The place of the first row of the inbox with another key or value than was recorded.
+    altered: Option<u64>,
     /// The partitions that the service has sent to and the consumer does not read.
     unread: Vec<Place>,
 }
@@ -41,8 +44,8 @@ pub(crate) struct Coverage {
 /// consumer commits for its group on them, and nobody deleted one. Otherwise prints `N law says
 /// nothing` with the premise that is broken, and the first entry that breaks it. After that it
 /// prints how many of the service's rows the inbox has, whether it has of each aggregate the first
-/// ones, in their order, and each partition that the service has sent to and the consumer does not
-/// read.
+/// ones, in their order, the first row that has another key or value than was recorded, and each
+/// partition that the service has sent to and the consumer does not read.
 pub(crate) fn show_law(
     alloc: Global,
     stage: &mut Stage<'_>,
@@ -132,12 +135,14 @@ fn coverage_of(
     let early = early_at(alloc, sender, taker)?;
     let misplaced = first_at(&early);
     let taken = taken_at(alloc, sender, taker)?;
+    let altered = altered_at(alloc, sender, taker)?;
     let assignment = taker.subscription().assignment.as_slice();
     let unread = unread_of(alloc, journal, sender.number(), assignment)?;
     Ok(Coverage {
         recorded: recorded_at(sender),
         taken,
         misplaced,
+        altered,
         unread,
     })
 }
@@ -160,6 +165,19 @@ fn taken_at(
 {
     let rows = taker.rows(alloc)?;
     Ok(count_taken(alloc, sender.recorded(), &rows)?)
+}
+
+/// The first row of the inbox with another key or value than was recorded.
+fn altered_at(
+    alloc: Global,
+    sender: &ServiceWorker<'_>,
+    taker: &mut ConsumerWorker,
+) -> Result<Option<u64>, PlayFault>
+    ensures altered { IfOk result (λ place. IsAltered sender.now taker.old place) }
+    ensures same { taker.new ≡ taker.old }
+{
+    let rows = taker.rows(alloc)?;
+    Ok(altered_row(alloc, sender.recorded(), &rows)?)
 }
 
 /// Where the first of the events came that are out of order.
@@ -235,6 +253,7 @@ fn push_coverage(out: &mut Vec<u8>, coverage: &Coverage) -> Result<(), AllocErro
 {
     push_taken(out, coverage.taken, coverage.recorded)?;
     push_order(out, coverage.misplaced)?;
+    push_altered(out, coverage.altered)?;
     push_each_unread(out, &coverage.unread)?;
     out.extend_from_slice(b"\n")
 }
@@ -261,6 +280,15 @@ fn push_misplaced(out: &mut Vec<u8>, place: u64) -> Result<(), AllocError>
     ensures { OnOk result (out.new.items ≡ out.old.items ++ misplaced_text place) }
 {
     push_labelled(out, b", out of order at row ", place)
+}
+
+fn push_altered(out: &mut Vec<u8>, altered: Option<u64>) -> Result<(), AllocError>
+    ensures { OnOk result (out.new.items ≡ out.old.items ++ altered_text altered) }
+{
+    match altered {
+        None => out.extend_from_slice(b""),
+        Some(place) => push_labelled(out, b", not as recorded at row ", place),
+    }
 }
 
 /// A number behind a text.

@@ -6,11 +6,11 @@ ghost use Rattle.kob_outbox.specs.Contents.{empty, id_text, stored_row, first_ba
 ghost use Rattle.kob_outbox.specs.Contents.{first_after, state_at, up_to, is_recorded, next_seq};
 ghost use Rattle.kob_router.specs.Run.Move.{Recorded as RecordedMove, Restarted, Swept};
 ghost use Rattle.kob_scene_play.specs.Services.{Does, GivesUp, GoesOn, IsRouterTick, IsSeenTick};
-ghost use Rattle.kob_scene_play.specs.Services.{IsServiceTick, Skips, StartsAgain, sent_bare};
-ghost use Rattle.kob_scene_play.specs.Services.{sent_by, sent_whole};
+ghost use Rattle.kob_scene_play.specs.Services.{IsServiceTick, IsTickOfService, Skips, StartsAgain};
+ghost use Rattle.kob_scene_play.specs.Services.{is_repeat, sent_bare, sent_by, sent_whole};
 
 use crate::bare_line::BareLine;
-use crate::fault::{PlayFault, line_fault, loses_first, stop_of_service, unless};
+use crate::fault::{PlayFault, has_loss, line_fault, loses_first, stop_of_service, unless};
 use crate::line::{send_bare_over, send_over};
 use crate::poll::Poll;
 use crate::skip::skip_first;
@@ -149,7 +149,6 @@ impl<'s> ServiceWorker<'s> {
     /// One step over the broker, whose first call has this loss. Its calls get their entries in the
     /// journal under its number, its principal and its host. A variant does what it does before and
     /// after such a step. One that sees hidden rows alone makes no call, and is idle.
-    #[tactic(auto, using(crate::proofs::Polling::tick_as_ever, crate::proofs::Polling::tick_past, crate::proofs::Polling::tick_sees_none, crate::proofs::Polling::none_in_flight))]
     pub fn tick(
         &mut self,
         alloc: Global,
@@ -157,6 +156,27 @@ impl<'s> ServiceWorker<'s> {
         loss: Loss,
     ) -> Result<Tick, PlayFault>
         ensures { IfOk result (IsServiceTick loss self.old self.new recorded.old recorded.new) }
+    {
+        let before = recorded.journal().len();
+        let tick = self.make_tick(alloc, recorded, loss)?;
+        let after = recorded.journal().len();
+        if has_loss(loss, is_repeat(&tick), before, after) {
+            Ok(tick)
+        } else {
+            drop(tick);
+            Err(PlayFault::NotLost)
+        }
+    }
+
+    /// One step, by what its router sees.
+    #[tactic(auto, using(crate::proofs::Polling::tick_as_ever, crate::proofs::Polling::tick_past, crate::proofs::Polling::tick_sees_none, crate::proofs::Polling::none_in_flight))]
+    fn make_tick(
+        &mut self,
+        alloc: Global,
+        recorded: &mut Recorded,
+        loss: Loss,
+    ) -> Result<Tick, PlayFault>
+        ensures { IfOk result (IsTickOfService loss self.old self.new recorded.old recorded.new) }
     {
         match self.poll()? {
             Poll::Own => self.tick_seen(alloc, recorded, loss),
@@ -383,5 +403,15 @@ impl<'s> ServiceWorker<'s> {
         ensures same { self.new ≡ self.old }
     {
         self.outbox.business(kind, id)
+    }
+}
+
+/// Whether a step has to be made again.
+fn is_repeat(tick: &Tick) -> bool
+    ensures { result ≡ is_repeat tick.now }
+{
+    match tick {
+        Tick::Repeat => true,
+        Tick::Moved(_) | Tick::Idle | Tick::Stopped(_) => false,
     }
 }
