@@ -1,7 +1,9 @@
 -- What an event more adds to the events that were recorded before others.
-use Rattle.std.proofs.Common.{List, None, Option, Some, [], ap, arith, cond, get_or, length, map, reverse, string_bytes, sym, take, unwrap_or, ℕ, ◌++◌, ◌+◌, ◌<◌, ◌==◌, ◌∙◌, ◌∷◌, ◌≡◌}
+use Rattle.std.proofs.Common.{Bor, List, None, Option, Some, [], ap, arith, cond, get_or, length, map, reverse, string_bytes, sym, take, unwrap_or, ℕ, ◌++◌, ◌+◌, ◌<◌, ◌==◌, ◌∙◌, ◌∷◌, ◌≡◌}
 use Rattle.std.proofs.lemmas.Grind.{common_steps}
 use Rattle.std.proofs.lemmas.List.{map-append, reverse-append, take_more}
+use Rattle.std.specs.Option.{option_copied}
+use Rattle.kob_delivery_check.specs.Altered.{event_with}
 use Rattle.kob_delivery_check.specs.Logs.{number_of}
 use Rattle.kob_delivery_check.specs.Order.{id_before, is_of_aggregate, last_of}
 use Rattle.kob_outbox.specs.declared.event.OutboxEvent.{OutboxEvent}
@@ -23,3 +25,9 @@ pub before_more : (id : ℕ) (event : OutboxEvent) (history : List OutboxEvent) 
     → before ≡ last_of (string_bytes event.aggregate_type) (string_bytes event.aggregate_id) history
     → unwrap_or was None ≡ id_before id history → unwrap_or is None ≡ id_before id (event ∷ history)
 before_more id event history was is before now last so_far = grind (arith, common_steps)
+
+-- of the event with an id
+pub event_more : (id : ℕ) (event : Bor OutboxEvent) (history : List OutboxEvent) (was is : Option (Bor OutboxEvent))
+    → is ≡ cond (number_of event.now.id == id) (Some event) was → option_copied was ≡ event_with id history
+    → option_copied is ≡ event_with id (event.now ∷ history)
+event_more id event history was is now so_far = grind (arith, common_steps)

@@ -1,4 +1,5 @@
 mod Earlier
+mod First
 mod Listed
 mod More
 mod Placed

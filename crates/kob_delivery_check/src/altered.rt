@@ -1,10 +1,11 @@
 //! Which rows of an inbox have another key or value than their event was recorded with.
 
-ghost use Rattle.std.specs.Prelude.{◌≡◌, ℕ, IfOk, map, nat_eq, option_map, reverse};
+ghost use Rattle.std.specs.Prelude.{◌≡◌, ℕ, List, IfOk, map, nat_eq, reverse};
 ghost use Rattle.std.specs.HashMap.{get};
 ghost use Rattle.std.specs.Option.{option_copied};
-ghost use Rattle.kob_delivery_check.specs.Altered.{altered_row, event_with, is_altered_from};
-ghost use Rattle.kob_delivery_check.specs.Altered.{is_copy, is_key};
+ghost use Rattle.kob_delivery_check.specs.Altered.{altered_row, event_with, is_altered};
+ghost use Rattle.kob_delivery_check.specs.Altered.{is_altered_from, is_copy, is_key};
+ghost use Rattle.kob_outbox.specs.declared.event.OutboxEvent.{OutboxEvent};
 
 use kob_inbox::InboxRow;
 use kob_names::Bytes;
@@ -15,6 +16,7 @@ use std::collections::HashMap;
 /// The place of the first row of an inbox whose key is not the aggregate's id of its event, or whose
 /// value is not its payload. Rows of events that the service did not record are skipped. The error
 /// is out of memory.
+#[tactic(auto, using(crate::proofs::First::found_at, crate::proofs::First::none_more))]
 pub fn altered_row(
     alloc: Global,
     events: &[&OutboxEvent],
@@ -25,11 +27,20 @@ pub fn altered_row(
 {
     let recorded = events_by_id(alloc, events)?;
     for row in rows {
-        if is_altered_from(recorded.get(&row.id.as_u128()).copied(), row) {
+        if is_altered(&recorded, row) {
             return Ok(Some(row.place));
         }
     }
     Ok(None)
+}
+
+/// Whether a row has another key or value than the event with its id, if there is one.
+fn is_altered(recorded: &HashMap<u128, &OutboxEvent>, row: &InboxRow) -> bool
+    ensures { (events : List OutboxEvent)
+        → ((id : ℕ) → option_copied (get nat_eq recorded.now id) ≡ event_with id (reverse events))
+        → result ≡ is_altered events row.now }
+{
+    is_altered_from(recorded.get(&row.id.as_u128()).copied(), row)
 }
 
 /// Each event by its id.
@@ -38,7 +49,7 @@ fn events_by_id<'e>(
     events: &[&'e OutboxEvent],
 ) -> Result<HashMap<u128, &'e OutboxEvent>, AllocError>
     ensures { IfOk result (λ recorded. (id : ℕ)
-        → option_map (λ event. event.now) (get nat_eq recorded id)
+        → option_copied (get nat_eq recorded id)
         ≡ event_with id (reverse (map (λ event. event.now) events.now))) }
 {
     let mut recorded = HashMap::new(alloc);
@@ -49,7 +60,7 @@ fn events_by_id<'e>(
 }
 
 fn is_altered_from(recorded: Option<&OutboxEvent>, row: &InboxRow) -> bool
-    ensures { result ≡ is_altered_from (option_map (λ event. event.now) recorded) row.now }
+    ensures { result ≡ is_altered_from (option_copied recorded.entry) row.now }
 {
     match recorded {
         Some(event) => !is_copy(event, row),
