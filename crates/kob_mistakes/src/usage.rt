@@ -59,7 +59,7 @@ static LINES: [(&str, &str); 8] = [
     ),
     (
         "consumer",
-        "consumer NAME PRINCIPAL HOST group GROUP max N [start latest] reads TOPIC:PARTITION ..",
+        "consumer NAME PRINCIPAL HOST group GROUP max N [start latest] [commits before|no dedup] reads TOPIC:PARTITION ..",
     ),
     ("journal", "journal"),
     ("law", "law SERVICE CONSUMER"),
@@ -140,7 +140,7 @@ static WORDS: [&str; 50] = [
 ];
 
 /// The words of declarations and steps behind their first two.
-static PARTS: [&str; 21] = [
+static PARTS: [&str; 25] = [
     "partitions",
     "retries",
     "new",
@@ -155,6 +155,10 @@ static PARTS: [&str; 21] = [
     "max",
     "start",
     "latest",
+    "commits",
+    "before",
+    "no",
+    "dedup",
     "reads",
     "lose-request",
     "lose-reply",
