@@ -142,7 +142,8 @@ hexadecimal digits stand for a byte. A line that begins with # is a comment.
     NAME record ID AGGREGATETYPE AGGREGATEID TYPE PAYLOAD KIND KEY STATE [crash|late]
     NAME tick [lose-request|lose-reply]     NAME run    NAME restart    NAME sweep    NAME outbox
     NAME business KIND KEY                  NAME visible
-  consumer NAME PRINCIPAL HOST group GROUP max N [start latest] reads TOPIC:PARTITION ..
+  consumer NAME PRINCIPAL HOST group GROUP max N [start latest] [commits before|no dedup]
+          reads TOPIC:PARTITION ..
     NAME tick [lose-request|lose-reply]     NAME run    NAME restart    NAME inbox
   journal               every request that was served, with its reply
   law SERVICE CONSUMER  whether the laws of delivery apply to the two
