@@ -141,7 +141,7 @@ static WORDS: [&str; 50] = [
 ];
 
 /// The words of declarations and steps behind their first two.
-static PARTS: [&str; 25] = [
+static PARTS: [&str; 29] = [
     "partitions",
     "retries",
     "new",
