@@ -8,6 +8,7 @@ use Rattle.kob_delivery_check.specs.PrintedOrder.{record_lines, row_lines}
 use Rattle.kob_delivery_check.specs.PrintedPieces.{counted, event_text, place_text}
 use Rattle.kob_delivery_check.specs.PrintedRecords.{doubled_lines, lost_lines}
 use Rattle.kob_delivery_check.specs.Unrecorded.{unrecorded_lines}
+use Rattle.kob_delivery_check.specs.declared.cause.Loss.{Loss}
 use Rattle.kob_delivery_check.specs.declared.printed.Found.{Found}
 use Rattle.kob_delivery_check.specs.declared.fate.Fate.{Fate}
 use Rattle.kob_delivery_check.specs.declared.fate.Fate.TheVariants.{Delivered, Ahead, Outbox, Lost}
@@ -47,14 +48,19 @@ head_text number fates unrecorded =
     ++ codes " waiting" ++ counted (count_by is_waiting fates)
     ++ codes " lost" ++ counted (count_by is_lost fates + length unrecorded) ++ codes "\n"
 
+-- a line for each event that is lost, and then for each that was never recorded
+unfoldable pub missing_lines : List Entry → List Place → List OutboxEvent → List OutboxEvent → List Loss
+    → List ℕ
+missing_lines journal assignment events unrecorded losses =
+    lost_lines journal assignment events losses ++ unrecorded_lines unrecorded
+
 -- the whole answer to a check
 abbrev pub check_text : ℕ → List Entry → List OutboxEvent → List OutboxEvent → Found → List Place
     → List ℕ
 check_text number journal events unrecorded found assignment =
     head_text number found.fates.items unrecorded
     ++ waits_text events found.fates.items assignment
-    ++ lost_lines journal assignment events found.losses.items
-    ++ unrecorded_lines unrecorded
+    ++ missing_lines journal assignment events unrecorded found.losses.items
     ++ doubled_lines journal assignment events found.repeats.items
     ++ double_lines events found.doubled_rows.items
     ++ row_lines events found.early_rows.items

@@ -15,12 +15,18 @@ has_new_id events event = is_none (place_of (number_of event.id) events)
 abbrev pub unrecorded_of : List OutboxEvent → List OutboxEvent → List OutboxEvent
 unrecorded_of recorded unwritten = filter (λ event. has_new_id recorded event) unwritten
 
+-- ID AGGREGATETYPE AGGREGATEID
+abbrev pub aggregate_text : OutboxEvent → List ℕ
+aggregate_text event =
+    spaced (id_text event.id) ++ spaced (string_bytes event.aggregate_type)
+    ++ spaced (string_bytes event.aggregate_id)
+
+unfoldable pub no_row_text : List ℕ
+no_row_text = codes ", no row: its service crashed before it recorded the event\n"
+
 -- the line of such an event
 abbrev pub unrecorded_line : OutboxEvent → List ℕ
-unrecorded_line event =
-    codes "lost" ++ spaced (id_text event.id) ++ spaced (string_bytes event.aggregate_type)
-    ++ spaced (string_bytes event.aggregate_id)
-    ++ codes ", no row: its service crashed before it recorded the event\n"
+unrecorded_line event = codes "lost" ++ aggregate_text event ++ no_row_text
 
 -- a line for each
 abbrev pub unrecorded_lines : List OutboxEvent → List ℕ

@@ -4,8 +4,8 @@ ghost use Rattle.std.specs.Prelude.{◌≡◌, ◌++◌, OnOk, map, slice_get};
 ghost use Rattle.std.specs.List.{count_by, position};
 ghost use Rattle.std.specs.Option.{option_copied};
 ghost use Rattle.kob_delivery_check.specs.Fates.{is_delivered, is_lost, is_waiting};
-ghost use Rattle.kob_delivery_check.specs.Printed.{check_text, head_text, waits_at, waits_line};
-ghost use Rattle.kob_delivery_check.specs.Printed.{waits_text, where_text};
+ghost use Rattle.kob_delivery_check.specs.Printed.{check_text, head_text, missing_lines, waits_at};
+ghost use Rattle.kob_delivery_check.specs.Printed.{waits_line, waits_text, where_text};
 
 use crate::cause::{Loss, event_at};
 use crate::come::count_of;
@@ -135,6 +135,24 @@ fn lost(fates: &[Fate]) -> usize
     fates.iter().filter(|fate| fate.is_lost()).count()
 }
 
+/// A line for each event that is lost, and then for each that was never recorded.
+#[tactic(auto, using(kob_words::proofs::Appending::appending), unfolding(crate::specs::Printed::missing_lines))]
+fn push_missing(
+    out: &mut Vec<u8>,
+    journal: &Journal,
+    assignment: &[Place],
+    events: &[&OutboxEvent],
+    unrecorded: &[&OutboxEvent],
+    losses: &[Loss],
+) -> Result<(), AllocError>
+    ensures { OnOk result (out.new.items ≡ out.old.items
+        ++ missing_lines journal.now assignment.now (map (λ event. event.now) events.now)
+        (map (λ event. event.now) unrecorded.now) losses.now) }
+{
+    push_losses(out, journal, assignment, events, losses)?;
+    push_unrecorded(out, unrecorded)
+}
+
 /// What a check found: where each event is that a service recorded, in their order; the lost events,
 /// each with its cause; the records of events in the consumer's partitions that have an earlier
 /// record of the same event; the rows of the inbox that have an earlier row of the same event; and
@@ -176,8 +194,7 @@ pub fn print_check(
 {
     push_head(out, number, &found.fates, unrecorded)?;
     push_first_waiting(out, events, &found.fates, assignment)?;
-    push_losses(out, journal, assignment, events, &found.losses)?;
-    push_unrecorded(out, unrecorded)?;
+    push_missing(out, journal, assignment, events, unrecorded, &found.losses)?;
     push_doubles(out, journal, assignment, events, &found.repeats)?;
     push_doubled_rows(out, events, &found.doubled_rows)?;
     push_rows(out, events, &found.early_rows)?;
