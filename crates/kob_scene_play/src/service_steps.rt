@@ -112,6 +112,7 @@ fn record_late<'s>(
 }
 
 /// Writes the business row of a change, without the event.
+#[tactic(auto, using(crate::proofs::Kept::crashes))]
 fn crash<'s>(
     service: &mut ServiceWorker<'s>,
     change: &Change,

@@ -1,8 +1,8 @@
 //! What variants of services do beside a service with the proved router.
 
-ghost use Rattle.std.specs.Prelude.{◌≡◌, IfOk, None, OnOk, length, map};
-ghost use Rattle.kob_scene_play.specs.Services.{hides, passed_to, poll_of, shown};
-ghost use Rattle.kob_scene_play.specs.Steps.{Crashes};
+ghost use Rattle.std.specs.Prelude.{◌≡◌, IfOk, IsErrOf, None, OnErr, OnOk, Some, length, map};
+ghost use Rattle.kob_outbox.specs.Contents.{first_bad_of_change};
+ghost use Rattle.kob_scene_play.specs.Services.{crashed, hides, passed_to, poll_of, shown};
 
 use crate::fault::PlayFault;
 use crate::poll::{Poll, poll_by};
@@ -17,7 +17,12 @@ impl<'s> ServiceWorker<'s> {
     /// Writes the business row of a change alone: the service crashes before the transaction that
     /// records the event, whose id stays free.
     pub fn crash(&mut self, change: &Change, event: &'s OutboxEvent) -> Result<(), RecordFault>
-        ensures { Crashes change.now event.now self.old self.new result }
+        ensures ok { OnOk result (self.new ≡ crashed change.now event.now self.old) }
+        ensures good { OnOk result (first_bad_of_change change.now ≡ None) }
+        ensures err { OnErr result (self.new ≡ self.old) }
+        ensures bad { (column : _) → IsErrOf result (RecordFault.BadField column)
+            → first_bad_of_change change.now ≡ Some column }
+        ensures duplicate { IsErrOf result RecordFault.DuplicateId → ⊥ }
     {
         if let Err(refused) = self.unwritten.reserve(1) {
             return Err(RecordFault::Memory(refused));
