@@ -36,12 +36,16 @@ doubled_rows rows = doubles_in (map row_arrival rows)
 
 -- How they are printed.
 
+-- its place, and that of the first row
+abbrev pub places_text : DoubledRow → List ℕ
+places_text double =
+    inbox_place double.at ++ codes ", first at" ++ counted double.first ++ codes "\n"
+
 -- the line of a row, by the event at this place of those that were recorded
 abbrev pub double_text : ℕ → DoubledRow → Option OutboxEvent → List ℕ
 double_text place double None = []
 double_text place double (Some event) =
-    codes "doubled" ++ event_text (one_more place) event ++ inbox_place double.at
-    ++ codes ", first at" ++ counted double.first ++ codes "\n"
+    codes "doubled" ++ event_text (one_more place) event ++ places_text double
 
 abbrev pub double_named : List OutboxEvent → DoubledRow → Option ℕ → List ℕ
 double_named events double None = []

@@ -3,15 +3,26 @@
 ghost use Rattle.std.specs.Prelude.{◌≡◌, ◌<◌, ◌++◌, OnOk, Some, length, map, slice_get};
 ghost use Rattle.std.specs.Option.{option_copied};
 ghost use Rattle.kob_delivery_check.specs.Doubles.{double_line, double_lines, double_text};
+ghost use Rattle.kob_delivery_check.specs.Doubles.{places_text};
 
 use crate::cause::event_at;
 use crate::printed_order::push_inbox_place;
-use crate::printed_pieces::push_event;
-use crate::printed_records::push_labelled;
+use crate::printed_pieces::{push_counted, push_event};
 use crate::row_doubles::DoubledRow;
 use crate::sent::place_of;
 use kob_outbox::OutboxEvent;
 use std::alloc::AllocError;
+
+/// The place of a row, and that of the first row of its event.
+#[tactic(auto, using(kob_words::proofs::Appending::appending))]
+fn push_places(out: &mut Vec<u8>, double: DoubledRow) -> Result<(), AllocError>
+    ensures { OnOk result (out.new.items ≡ out.old.items ++ places_text double) }
+{
+    push_inbox_place(out, double.at)?;
+    out.extend_from_slice(b", first at")?;
+    push_counted(out, double.first)?;
+    out.extend_from_slice(b"\n")
+}
 
 #[tactic(auto, using(kob_words::proofs::Appending::appending))]
 fn push_text(
@@ -28,9 +39,7 @@ fn push_text(
     };
     out.extend_from_slice(b"doubled")?;
     push_event(out, (place as u64).saturating_add(1), event)?;
-    push_inbox_place(out, double.at)?;
-    push_labelled(out, b", first at", double.first)?;
-    out.extend_from_slice(b"\n")
+    push_places(out, double)
 }
 
 /// The line of a row; nothing if its event is none of these.
