@@ -19,6 +19,7 @@ PASSED = (
     "impl From<AllocError> for Fault {\n    fn from(refused: AllocError) -> Fault {\n"
     "        Fault::Memory(refused)\n    }\n}",
     "        Err(AllocError) => Ok(()),",
+    "    let Err(AllocError) = read(text) else {",
     "    parts.push(part).map_err(AllocError::from)?;",
     "fn f() -> Result<Vec<(u8, u8)>, AllocError> {",
     "fn f(\n) -> Result<(), AllocError>\n    ensures { IfOk result P }",

@@ -86,6 +86,16 @@ class Model(unittest.TestCase):
         self.assertEqual(scene.text, LINES)
         self.assertEqual(scene.output, PRINTED)
 
+    def test_a_repeated_batch_stands_there_once_and_is_swept_once(self) -> None:
+        scene = Scene("One.", "super User:root")
+        service, _ = pair(scene, 0)
+        play(service, ["tick", "record", "tick lose-reply", "tick", "tick"], iter([1]))
+        service.sweeps()
+        service.sweeps()
+        answers = ["idle", "ok recorded 1", "repeat", "moved 1", "idle", "ok swept 1", "ok swept 0"]
+        self.assertEqual([it.partition(" ")[2] for it in scene.printed[-7:]], answers)
+        self.assertEqual(scene.topics[service.topic], [1])
+
     def test_without_the_right_a_tick_stops(self) -> None:
         scene = Scene("One.", "super User:root")
         service, _ = pair(scene, 0)

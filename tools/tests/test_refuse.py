@@ -44,7 +44,7 @@ class Refuse(unittest.TestCase):
         self.assertEqual(refuse.late_silence([(one, early), (other, late)]), [late])
         self.assertEqual(refuse.late_silence([(one, late), (other, early)]), [])
         self.assertEqual(refuse.late_silence([(one, early), ({"first": 2, "times": 2}, late)]), [])
-        self.assertEqual(refuse.late_silence([(one, early), ({"least": 8}, late)]), [])
+        self.assertEqual(refuse.late_silence([({"least": 1}, early), ({"least": 8}, late)]), [])
 
     def test_what_scenarios_come_to_is_counted(self) -> None:
         counts = refuse.Counts()

@@ -44,7 +44,8 @@ class Start(unittest.TestCase):
         self.assertIn(" are of Sochullwa, commit ", (made / "ORIGIN").read_text())
 
     def test_a_name_that_is_none_or_is_taken_is_refused(self) -> None:
-        for place in ("Shop", "my-shop", "9shop", "kob_low", str(TOP / "shop"), str(self.room / "kit")):
+        names = ("Shop", "my-shop", "9shop", "kob_names", "kit")
+        for place in (*(str(self.room / it) for it in names), str(TOP / "shop")):
             with self.assertRaises(SystemExit):
                 start.start(place)
         self.assertFalse((TOP / "shop").exists())
