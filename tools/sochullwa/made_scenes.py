@@ -14,34 +14,41 @@ EVENTS = range(1, 10_000)
 # Both sides of each limit that takes a long line.
 
 
-def batch(scene: Scene, records: Sequence[str], answer: str) -> None:
-    scene.root(f"produce t 0 -{''.join(' ' + it for it in records)}", answer)
+def batch(records: Sequence[str]) -> str:
+    return f"produce t 0 - {' '.join(records)}"
+
+
+def on_a_topic(comment: str, *steps: tuple[str, str]) -> Scene:
+    """A topic t of one partition, and requests of the super user with their answers."""
+    made = Scene(comment, "super User:root")
+    made.topic("t")
+    for command, answer in steps:
+        made.root(command, answer)
+    return made
 
 
 def batch_of_1000_records() -> Scene:
-    made = Scene("A batch has 1 to 1,000 records.", "super User:root")
-    made.topic("t")
-    batch(made, ["v"] * 1001, "refused 42 INVALID_REQUEST TooManyRecords")
-    batch(made, ["v"] * 1000, "ok offset 0")
-    return made
+    return on_a_topic(
+        "A batch has 1 to 1,000 records.",
+        (batch(["v"] * 1001), "refused 42 INVALID_REQUEST TooManyRecords"),
+        (batch(["v"] * 1000), "ok offset 0"),
+    )
 
 
 def fetch_of_1000_records() -> Scene:
-    made = Scene("A fetch returns at most 1,000 records, whatever it asks for.", "super User:root")
-    made.topic("t")
-    batch(made, ["v"] * 1000, "ok offset 0")
-    batch(made, ["last"], "ok offset 1000")
-    made.root("fetch t 0 1 1000", "ok records" + "".join(f" {at}:v" for at in range(1, 1000)) + " 1000:last")
-    made.root("fetch t 0 0 1001", "ok records" + "".join(f" {at}:v" for at in range(1000)))
-    return made
+    return on_a_topic(
+        "A fetch returns at most 1,000 records, whatever it asks for.",
+        (batch(["v"] * 1000), "ok offset 0"),
+        (batch(["last"]), "ok offset 1000"),
+        ("fetch t 0 1 1000", "ok records" + "".join(f" {at}:v" for at in range(1, 1000)) + " 1000:last"),
+        ("fetch t 0 0 1001", "ok records" + "".join(f" {at}:v" for at in range(1000))),
+    )
 
 
 def deletions_across_a_chunk() -> Scene:
-    comment = "Records are deleted up to an offset within a chunk of 256, and the start never goes back."
-    made = Scene(comment, "super User:root")
-    made.topic("t")
-    batch(made, [f"v{at}" for at in range(300)], "ok offset 0")
-    for command, answer in (
+    return on_a_topic(
+        "Records are deleted up to an offset within a chunk of 256, and the start never goes back.",
+        (batch([f"v{at}" for at in range(300)]), "ok offset 0"),
         ("delete-records t 0 260", "ok start 260"),
         ("fetch t 0 259 1", "refused 1 OFFSET_OUT_OF_RANGE OutOfRange"),
         ("fetch t 0 260 2", "ok records 260:v260 261:v261"),
@@ -56,9 +63,7 @@ def deletions_across_a_chunk() -> Scene:
         ("fetch t 0 300 1", "ok records 300:next"),
         ("delete-records t 0 -1", "ok start 301"),
         ("fetch t 0 301 1", "ok records"),
-    ):
-        made.root(command, answer)
-    return made
+    )
 
 
 def names() -> Scene:
@@ -81,15 +86,8 @@ def names() -> Scene:
     return made
 
 
-COLUMNS = {
-    "aggregatetype": "orders",
-    "aggregateid": "42",
-    "type": "OrderPaid",
-    "payload": "{}",
-    "kind": "order",
-    "key": "42",
-    "state": "paid",
-}
+COLUMNS = {"aggregatetype": "orders", "aggregateid": "42", "type": "OrderPaid", "payload": "{}"}
+COLUMNS |= {"kind": "order", "key": "42", "state": "paid"}
 
 
 def columns(scene: Scene, answer: str, event: int, **texts: str) -> None:

@@ -11,11 +11,12 @@ measure = program("bench/measure.py")
 event = program("bench/event.py")
 policies = program("bench/policies.py")
 scene = program("bench/scene.py")
+workloads = program("bench/workloads.py")
 
 
 class Measure(unittest.TestCase):
     def test_a_workload_is_a_script_in_two_parts(self) -> None:
-        work = next(it for it in measure.WORKLOADS if it.name == "delete-topic, with a group each")
+        work = next(it for it in workloads.WORKLOADS if it.name == "delete-topic, with a group each")
         first = ["super User:root", *(f"User:root h create-topic t00000{i} 1" for i in range(2))]
         first += [f"User:root h commit g00000{i} t00000{i} 0 0" for i in range(2)]
         whole = first + [f"User:root h delete-topic t00000{i}" for i in range(2)]
@@ -23,13 +24,13 @@ class Measure(unittest.TestCase):
         self.assertEqual(work.texts(2), wanted)
 
     def test_work_grows_with_n(self) -> None:
-        for work in measure.WORKLOADS:
+        for work in workloads.WORKLOADS:
             few, many = work.texts(1_000), work.texts(2_000)
             self.assertLess(len(few[0]), len(few[1]), work.name)
             self.assertLess(len(few[1]), len(many[1]), work.name)
 
     def test_names_are_spread_over_those_that_are_there(self) -> None:
-        self.assertEqual(measure.turns(12, 100, "{i}"), ["0", *map(str, range(10, 100, 10)), "0", "10"])
+        self.assertEqual(workloads.turns(12, 100, "{i}"), ["0", *map(str, range(10, 100, 10)), "0", "10"])
 
     def test_the_table_ends_with_the_mean_of_its_ratios(self) -> None:
         rows = [["one", "10", "2.00"], ["two", "20", "8.00"], ["three", "30", ""]]

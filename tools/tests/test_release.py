@@ -58,8 +58,3 @@ class Release(unittest.TestCase):
             list(release.manual(MAN.replace("json", "trace").replace("kob export", "kob other"), KNOWN)),
             ["release/kob.1 and kob help differ: --json --trace", "release/kob.1 has no kob export"],
         )
-
-    def test_a_text_that_lacks_what_is_sought_is_an_error(self) -> None:
-        self.assertEqual(release.found_in("kob (.*)", "kob 1"), "1")
-        with self.assertRaises(LookupError):
-            release.found_in("kob (.*)", "other")
