@@ -1,5 +1,7 @@
 import json
+import os
 import pathlib
+import subprocess
 import tempfile
 import unittest
 from unittest import mock
@@ -27,6 +29,17 @@ class Gate(unittest.TestCase):
                     (["/bin/sh", "-c", "rattle"], None),
                 ):
                     self.assertEqual(gate.work_of(words), work, words)
+
+    def test_what_runs_below_a_process_is_found(self) -> None:
+        with tempfile.TemporaryDirectory() as folder:
+            program_file = pathlib.Path(folder) / "kob_it"
+            program_file.symlink_to("/bin/sleep")
+            with subprocess.Popen([program_file, "30"]) as running:
+                found = gate.processes(os.getpid())
+                elsewhere = gate.processes(running.pid + 1_000_000)
+                running.kill()
+        works = {number: work for (number, _), (work, _) in found.items()}
+        self.assertEqual((works, elsewhere), ({running.pid: ("kob_it", "run")}, {}))
 
     def test_a_module_belongs_to_a_function_of_the_crate(self) -> None:
         for module, function in {

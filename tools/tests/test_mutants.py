@@ -14,7 +14,40 @@ def edit(name: str, *functions: str, file: str = "src/a.rt") -> Edit:
     return Edit(pathlib.Path(f"{name}.edit"), (Change(file, "old", "new"),), of or None, {})
 
 
+SOURCE = "pub fn f() -> u8 {\n    1\n}\n\npub fn g() -> u8 {\n    2\n}\n\npub fn h() -> u8 {\n    3\n}\n"
+# A prover that sees the wrong bodies of f and g, the second only by its stored answer.
+PROVER = """
+answers=proofs/a/g/Answers.antt
+grep -q wrong_f src/a.rt && echo 'src/a.rt:2:5: error: the goal is open' && exit 1
+grep -q wrong_g src/a.rt && [ -e $answers ] && echo "$answers:1:1: error: no" && exit 1
+exit 0
+"""
+
+
 class Mutants(unittest.TestCase):
+    def test_each_edit_is_tried_until_something_clear_is_said_of_it(self) -> None:
+        with tempfile.TemporaryDirectory() as folder:
+            room = pathlib.Path(folder)
+            put(room, {"crates/kob_a/src/a.rt": SOURCE, "crates/kob_a/proofs/a/g/Answers.antt": ""})
+            for name, digit in (("f", 1), ("g", 2), ("h", 3), ("gone", 4)):
+                text = f"file: src/a.rt\nold:     {digit}\nnew:     wrong_{name}\n"
+                put(room, {f"mutants/kob_a/{name}.edit": text})
+            put(room, {"mutants/kob_a/rule.edit": "file: src/a.rt\nold:     3\nnew:     Err(AllocError)\n"})
+            files = sorted((room / "mutants/kob_a").glob("*.edit"))
+            calls: list[list[str]] = []
+
+            def command(crate: str, kept: pathlib.Path, functions: list[str]) -> list[str]:
+                calls.append(functions)
+                return ["sh", "-c", PROVER]
+
+            with mock.patch.object(mutants, "CRATES", room / "crates"):
+                with mock.patch.object(mutants.proving, "command", command):
+                    found = {at.stem: verdict[0] for at, verdict in mutants.tried("kob_a", files)}
+        wanted = {"gone": "not applicable", "rule": "rule", "f": "clause", "g": "PROVED", "h": "PROVED"}
+        self.assertEqual(found, wanted)
+        # (all in one check; then g alone, without its answers, and h alone)
+        self.assertEqual(calls, [["a::f", "a::g", "a::h"], ["a::g"], ["a::g"], ["a::h"]])
+
     def test_a_round_has_each_function_once(self) -> None:
         one, two, three = edit("one", "f"), edit("two", "f", "g"), edit("three", "h")
         outside, last = edit("outside"), edit("last", "g")
