@@ -1,15 +1,17 @@
+import contextlib
+import io
 import pathlib
-import shutil
 import subprocess
-import sys
 import tempfile
 import unittest
+from unittest import mock
 
-from sochullwa.repository import TOP
-from tests import put
+from sochullwa import quoting, repository
+from tests import program, put
 
+guide = program("tools/guide")
 PAGES = ("README.md", "CONTRIBUTING.md", "CHANGELOG.md", "SECURITY.md", "docs/PAGE.md", "bench/README.md")
-# A small repository with the programs, to which a page is added.
+# A small repository, to which a page is added.
 FILES = {
     **{name: "# Page\n" for name in PAGES},
     "crates.txt": "# name: libraries\nkob_low: uuid\nkob: kob_low\n",
@@ -36,20 +38,24 @@ class Guide(unittest.TestCase):
         self.addCleanup(room.cleanup)
         self.room = pathlib.Path(room.name)
         put(self.room, FILES)
-        (self.room / "tools").mkdir()
-        shutil.copy(TOP / "tools/guide", self.room / "tools")
-        shutil.copytree(TOP / "tools/sochullwa", self.room / "tools/sochullwa")
         text = self.room / "docs/pictures/two.dot"
         told = subprocess.run(["sha256sum", text], capture_output=True, text=True, check=True).stdout
         picture = f"<svg/>\n<!-- drawn of two.dot, {told.split()[0]} -->\n"
         put(self.room, {"docs/pictures/two.svg": picture})
         subprocess.run(["git", "init", "-q", "."], cwd=self.room, check=True)
+        for module in (repository, quoting, guide):
+            change = mock.patch.object(module, "TOP", self.room)
+            change.start()
+            self.addCleanup(change.stop)
+        change = mock.patch.object(quoting, "CRATES", self.room / "crates")
+        change.start()
+        self.addCleanup(change.stop)
 
     def guide(self, *words: str) -> tuple[int, str]:
         subprocess.run(["git", "add", "-A"], cwd=self.room, check=True)
-        command = [sys.executable, "-B", "tools/guide", *words]
-        ran = subprocess.run(command, cwd=self.room, capture_output=True, text=True, check=False)
-        return ran.returncode, ran.stdout + ran.stderr
+        with contextlib.redirect_stdout(io.StringIO()) as said, contextlib.redirect_stderr(said):
+            status = guide.main(list(words))
+        return status, said.getvalue()
 
     def refused(self, page: str, difference: str) -> None:
         """The page of these lines is refused, for this alone."""
@@ -147,8 +153,8 @@ class Guide(unittest.TestCase):
         put(self.room, {"bin/kob": "#!/bin/sh\necho played $*\n"})
         for printed, status in (("played it", 0), ("no", 1)):
             put(self.room, {"README.md": f"```sh\nbin/kob it\n```\n\n```output it\n{printed}\n```\n"})
-            found, said = self.guide("--play", "--with", "bin/kob")
+            found, said = self.guide("--play", "--with", str(self.room / "bin/kob"))
             last = f"1 commands of the pages were run, {status} print something else"
             self.assertEqual((found, said.splitlines()[-1]), (status, last))
         put(self.room, {"README.md": "# Page\n"})
-        self.assertEqual(self.guide("--play", "--with", "bin/kob")[0], 1)
+        self.assertEqual(self.guide("--play", "--with", str(self.room / "bin/kob"))[0], 1)
