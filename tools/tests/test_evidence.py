@@ -1,6 +1,14 @@
+import contextlib
+import io
+import pathlib
+import tempfile
 import unittest
+from unittest import mock
 
 from sochullwa.evidence import values
+from tests import program, put
+
+evidence = program("tools/evidence")
 
 REFUSED = (
     "fn f() -> Result<u8, AllocError> {\n    Err(AllocError)\n}",
@@ -37,6 +45,25 @@ class Evidence(unittest.TestCase):
         for text in PASSED:
             with self.subTest(text):
                 self.assertEqual(values(text), [])
+
+    def test_a_file_that_makes_the_error_is_among_those_that_may(self) -> None:
+        with tempfile.TemporaryDirectory() as folder:
+            room = pathlib.Path(folder)
+            for name in ("kob_a/src/a.rt", "kob_tests_b/src/b.rt"):
+                put(room, {name: "fn f() {\n    Err(AllocError)\n}\n"})
+            for made, status, lines in (
+                ({"kob_a/src/a.rt": "it"}, 0, []),
+                ({}, 1, ["crates/kob_a/src/a.rt writes AllocError as a value on line 2"]),
+                (
+                    {"kob_a/src/a.rt": "it", "kob_c/src/c.rt": "it"},
+                    1,
+                    ["crates/kob_c/src/c.rt no longer writes AllocError as a value: take it out of MADE"],
+                ),
+            ):
+                with mock.patch.multiple(evidence, CRATES=room, MADE=made):
+                    with contextlib.redirect_stdout(io.StringIO()) as said:
+                        self.assertEqual(evidence.main(), status)
+                self.assertEqual(said.getvalue().splitlines(), lines)
 
     def test_a_value_has_its_line(self) -> None:
         self.assertEqual(values("// AllocError\nlet it = \"AllocError\";\nErr(AllocError)\n"), [3])
