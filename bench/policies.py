@@ -1,10 +1,11 @@
-#!/usr/bin/env python3
+#!/usr/bin/env -S python3 -B
 """Makes a list of N bindings as a cluster has them: about 12 a principal, 20 hosts, patterns all different.
 
     bench/policies.py N [SEED]      writes what `kafka-acls --list` prints
 """
 import random
 import sys
+from collections.abc import Iterator
 
 KINDS = [
     (45, "TOPIC", "LITERAL", "team{t}.app{i}.events", ["READ", "DESCRIBE"]),
@@ -15,7 +16,10 @@ KINDS = [
 ]
 
 
-def headings(count, rng):
+Row = tuple[str, str, str, str]
+
+
+def headings(count: int, rng: random.Random) -> Iterator[tuple[str, str, str, list[Row]]]:
     """Headings with their bindings (principal, host, operation, permission), `count` bindings in all."""
     principals = max(1, count // 12)
     made = 0
@@ -32,15 +36,17 @@ def headings(count, rng):
         place += 1
 
 
-def main():
-    count = int(sys.argv[1])
-    rng = random.Random(int(sys.argv[2]) if len(sys.argv) > 2 else 1)
-    for kind, pattern, name, rows in headings(count, rng):
-        print(f"Current ACLs for resource `ResourcePattern(resourceType={kind}, name={name}, patternType={pattern})`: ")
+def main(words: list[str]) -> int:
+    rng = random.Random(int(words[1]) if words[1:] else 1)
+    for kind, pattern, name, rows in headings(int(words[0]), rng):
+        resource = f"resourceType={kind}, name={name}, patternType={pattern}"
+        print(f"Current ACLs for resource `ResourcePattern({resource})`: ")
         for principal, host, operation, permission in rows:
-            print(f" \t(principal={principal}, host={host}, operation={operation}, permissionType={permission})")
+            rule = f"host={host}, operation={operation}, permissionType={permission}"
+            print(f" \t(principal={principal}, {rule})")
         print()
+    return 0
 
 
 if __name__ == "__main__":
-    main()
+    sys.exit(main(sys.argv[1:]))
