@@ -1,6 +1,6 @@
 //! Events that are taken in as often as their records come.
 
-ghost use Rattle.std.specs.Prelude.{◌≡◌, ◌++◌, ◌+◌, [], IfOk, OnOk, flat_map, length, map};
+ghost use Rattle.std.specs.Prelude.{◌≡◌, ◌++◌, [], IfOk, OnOk, flat_map, map};
 ghost use Rattle.std.specs.List.{enumerate_from};
 ghost use Rattle.kob_inbox.specs.Contents.{intake_of, placed_intake};
 ghost use Rattle.kob_inbox.specs.Run.{place_at};

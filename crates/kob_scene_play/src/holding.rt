@@ -1,6 +1,6 @@
 //! What a consumer holds that commits before it takes in.
 
-ghost use Rattle.std.specs.Prelude.{◌≡◌, ℕ, ◌<◌, Err, IfOk, Ok, Result, option_map};
+ghost use Rattle.std.specs.Prelude.{◌≡◌, ℕ, ◌<◌, IfOk};
 ghost use Rattle.std.specs.List.{All};
 ghost use Rattle.kob_inbox.specs.Run.{behind};
 ghost use Rattle.kob_names.specs.declared.record.Record.{Record};
