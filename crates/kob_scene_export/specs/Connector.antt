@@ -21,13 +21,15 @@ router_text =
     codes "transforms=outbox\n"
     ++ codes "transforms.outbox.type=io.debezium.transforms.outbox.EventRouter\n"
 
+-- the column that has a field of an event
+unfoldable pub column_text : List ℕ → List ℕ
+column_text column = codes "transforms.outbox.table.field.event." ++ column ++ codes "\n"
+
 -- the columns of an event
 unfoldable pub columns_text : List ℕ
 columns_text =
-    codes "transforms.outbox.table.field.event.id=id\n"
-    ++ codes "transforms.outbox.table.field.event.key=aggregateid\n"
-    ++ codes "transforms.outbox.table.field.event.type=type\n"
-    ++ codes "transforms.outbox.table.field.event.payload=payload\n"
+    column_text (codes "id=id") ++ column_text (codes "key=aggregateid")
+    ++ column_text (codes "type=type") ++ column_text (codes "payload=payload")
 
 -- keys and values as they are
 unfoldable pub converters_text : List ℕ

@@ -1,9 +1,8 @@
 //! The router of a service, as properties of Debezium's outbox event router.
 
 ghost use Rattle.std.specs.Prelude.{◌≡◌, ◌++◌, OnOk};
-ghost use Rattle.kob_scene_export.specs.Connector.{table_text};
-ghost use Rattle.kob_scene_export.specs.Connector.{by_text, columns_text, connector_text};
-ghost use Rattle.kob_scene_export.specs.Connector.{converters_text, name_text, placement_text};
+ghost use Rattle.kob_scene_export.specs.Connector.{by_text, column_text, columns_text, connector_text};
+ghost use Rattle.kob_scene_export.specs.Connector.{converters_text, name_text, placement_text, table_text};
 ghost use Rattle.kob_scene_export.specs.Connector.{property_text, replacement_text, route_text, router_text};
 
 use crate::plain::{is_value, push_mark};
@@ -44,10 +43,20 @@ fn router_text() -> &'static str
 fn push_columns(out: &mut Vec<u8>) -> Result<(), AllocError>
     ensures { OnOk result (out.new.items ≡ out.old.items ++ columns_text) }
 {
-    out.extend_from_slice(b"transforms.outbox.table.field.event.id=id\n")?;
-    out.extend_from_slice(b"transforms.outbox.table.field.event.key=aggregateid\n")?;
-    out.extend_from_slice(b"transforms.outbox.table.field.event.type=type\n")?;
-    out.extend_from_slice(b"transforms.outbox.table.field.event.payload=payload\n")
+    push_column(out, b"id=id")?;
+    push_column(out, b"key=aggregateid")?;
+    push_column(out, b"type=type")?;
+    push_column(out, b"payload=payload")
+}
+
+/// The column that has a field of an event.
+#[tactic(auto, using(kob_words::proofs::Appending::appending), unfolding(crate::specs::Connector::column_text))]
+fn push_column(out: &mut Vec<u8>, column: &[u8]) -> Result<(), AllocError>
+    ensures { OnOk result (out.new.items ≡ out.old.items ++ column_text column.now) }
+{
+    out.extend_from_slice(b"transforms.outbox.table.field.event.")?;
+    out.extend_from_slice(column)?;
+    out.extend_from_slice(b"\n")
 }
 
 /// Keys and values as they are.
