@@ -21,9 +21,12 @@ router_text =
     codes "transforms=outbox\n"
     ++ codes "transforms.outbox.type=io.debezium.transforms.outbox.EventRouter\n"
 
+unfoldable pub field_text : List ℕ
+field_text = codes "transforms.outbox.table.field.event."
+
 -- the column that has a field of an event
 unfoldable pub column_text : List ℕ → List ℕ
-column_text column = codes "transforms.outbox.table.field.event." ++ column ++ codes "\n"
+column_text column = field_text ++ column ++ codes "\n"
 
 -- the columns of an event
 unfoldable pub columns_text : List ℕ

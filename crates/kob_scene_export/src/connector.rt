@@ -2,8 +2,8 @@
 
 ghost use Rattle.std.specs.Prelude.{◌≡◌, ◌++◌, OnOk};
 ghost use Rattle.kob_scene_export.specs.Connector.{by_text, column_text, columns_text, connector_text};
-ghost use Rattle.kob_scene_export.specs.Connector.{converters_text, name_text, placement_text, table_text};
-ghost use Rattle.kob_scene_export.specs.Connector.{property_text, replacement_text, route_text, router_text};
+ghost use Rattle.kob_scene_export.specs.Connector.{converters_text, field_text, name_text, placement_text};
+ghost use Rattle.kob_scene_export.specs.Connector.{property_text, replacement_text, route_text, router_text, table_text};
 
 use crate::plain::{is_value, push_mark};
 use kob_names::Text;
@@ -49,12 +49,19 @@ fn push_columns(out: &mut Vec<u8>) -> Result<(), AllocError>
     push_column(out, b"payload=payload")
 }
 
+#[tactic(auto, unfolding(crate::specs::Connector::field_text))]
+fn field_text() -> &'static str
+    ensures { result.now ≡ field_text }
+{
+    "transforms.outbox.table.field.event."
+}
+
 /// The column that has a field of an event.
 #[tactic(auto, using(kob_words::proofs::Appending::appending), unfolding(crate::specs::Connector::column_text))]
 fn push_column(out: &mut Vec<u8>, column: &[u8]) -> Result<(), AllocError>
     ensures { OnOk result (out.new.items ≡ out.old.items ++ column_text column.now) }
 {
-    out.extend_from_slice(b"transforms.outbox.table.field.event.")?;
+    out.extend_from_slice(field_text().as_bytes())?;
     out.extend_from_slice(column)?;
     out.extend_from_slice(b"\n")
 }
