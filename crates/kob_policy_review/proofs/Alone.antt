@@ -63,19 +63,22 @@ of_both serial denies allows opened opened' =
     (only_one (map (λ (e : ℕ × Binding). e.0) denies) (map (λ (e : ℕ × Binding). e.0) allows)))
 
 -- where bindings decide, at most one is needed
-sole : (serial low high : ℕ) (denies allows : List (ℕ × Binding)) → IsRising low denies high → IsRising low allows high
+sole : (serial low high : ℕ) (denies allows : List (ℕ × Binding)) → IsRising low denies high
+    → IsRising low allows high
     → ((deny allow : ℕ × Binding) (more more' : List (ℕ × Binding)) → denies ≡ deny ∷ more → allows ≡ allow ∷ more'
     → deny.0 ≡ allow.0 → ⊥) → of_both serial denies allows false false
 sole serial low high [] [] denying allowing apart = refl
 sole serial low high [] (allow ∷ []) denying allowing apart =
-    elim (allow.0 == serial) as (λ b. differs true (not false && (some_of (cond (not b) (allow ∷ []) []) || false)) ≡ (b || false)) [
+    elim (allow.0 == serial) as (λ b. differs true (not false && (some_of (cond (not b) (allow ∷ []) []) || false))
+    ≡ (b || false)) [
       | true ↦ refl
       | false ↦ refl
     ]
 sole serial low high [] (allow ∷ (other ∷ more)) denying allowing apart =
     rw (some_left serial low high allow other more allowing) refl
 sole serial low high (deny ∷ []) [] denying allowing apart =
-    elim (deny.0 == serial) as (λ b. differs false (not (some_of (cond (not b) (deny ∷ []) [])) && (false || false)) ≡ false) [
+    elim (deny.0 == serial) as (λ b. differs false (not (some_of (cond (not b) (deny ∷ []) [])) && (false || false))
+    ≡ false) [
       | true ↦ refl
       | false ↦ refl
     ]
@@ -83,7 +86,8 @@ sole serial low high (deny ∷ []) (allow ∷ more) denying allowing apart =
     elim (cases_Bool (deny.0 == serial)) [
       | inl gone ↦
           let stays : (allow.0 == serial) ≡ false =
-          ne_eqb allow.0 serial (λ same. apart deny allow [] more refl refl (eqb-true deny.0 serial gone ∙ sym same)) in
+          ne_eqb allow.0 serial (λ same.
+          apart deny allow [] more refl refl (eqb-true deny.0 serial gone ∙ sym same)) in
           rw (gone, stays) refl
       | inr stays ↦ rw stays refl
     ]
@@ -134,7 +138,8 @@ one_of_serial low high (first ∷ rest) x y rising in_x in_y same =
 module _ (serial low high : ℕ) (host : Option (List ℕ)) (operation : Operation) where
   -- what is needed among those that ask
   among : (asking : List (ℕ × Binding)) → IsRising low asking high
-      → of_both serial (filter (is_met Deny host operation) asking) (filter (is_met Allow host operation) asking) false false
+      → of_both serial (filter (is_met Deny host operation) asking) (filter (is_met Allow host operation) asking)
+      false false
   among asking rising =
       sole serial low high (filter (is_met Deny host operation) asking) (filter (is_met Allow host operation) asking)
       (rising_filter (is_met Deny host operation) low high asking rising)
@@ -151,7 +156,8 @@ module _ (serial low high : ℕ) (host : Option (List ℕ)) (operation : Operati
   Told everyone matching principal =
       differs (yes_in false everyone matching principal host operation)
       (yes_in false everyone (left serial matching) principal host operation)
-      ≡ list_any (λ s. s == serial) (needed_to (closing everyone matching) (filter (is_for principal) matching) host operation)
+      ≡ list_any (λ s. s == serial)
+      (needed_to (closing everyone matching) (filter (is_for principal) matching) host operation)
 
   -- the one binding that matches, where all is else open
   closes : (entry : ℕ × Binding) (principal : Option (List ℕ)) → Told true (entry ∷ []) principal
@@ -195,7 +201,8 @@ module _ (serial low high : ℕ) (host : Option (List ℕ)) (operation : Operati
       ]
 
   -- where it is not alone, only what asks counts
-  decided : (everyone opened : Bool) (matching : List (ℕ × Binding)) (principal : Option (List ℕ)) → IsRising low matching high
+  decided : (everyone opened : Bool) (matching : List (ℕ × Binding)) (principal : Option (List ℕ))
+      → IsRising low matching high
       → (everyone && not (some_of matching)) ≡ false → (everyone && not (some_of (left serial matching))) ≡ false
       → closing everyone matching ≡ None → Told everyone matching principal
   unfolding needed_to
@@ -217,7 +224,8 @@ module _ (serial low high : ℕ) (host : Option (List ℕ)) (operation : Operati
   nothing_told principal = refl
 
   -- an answer changes without a binding exactly where that is needed for it
-  pub told : (everyone : Bool) (matching : List (ℕ × Binding)) (principal : Option (List ℕ)) → IsRising low matching high
+  pub told : (everyone : Bool) (matching : List (ℕ × Binding)) (principal : Option (List ℕ))
+      → IsRising low matching high
       → Told everyone matching principal
   told false matching principal rising = decided false false matching principal rising refl refl refl
   told true [] principal rising = nothing_told principal

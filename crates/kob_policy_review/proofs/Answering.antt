@@ -40,9 +40,11 @@ module _ {A : Type 0} where
         | false ↦ filter_both p q xs
       ]
 
-verdict_same : (everyone super : Bool) (deny deny' allow allow' : Option ℕ) (found found' : Bool) → found ≡ found' → super ≡ false
+verdict_same : (everyone super : Bool) (deny deny' allow allow' : Option ℕ) (found found' : Bool) → found ≡ found'
+    → super ≡ false
     → deny ≡ deny' → allow ≡ allow'
-    → unless_open (everyone && not found) (verdict_of super deny allow) ≡ verdict_by (everyone && not found') deny' allow'
+    → unless_open (everyone && not found) (verdict_of super deny allow)
+    ≡ verdict_by (everyone && not found') deny' allow'
 verdict_same everyone super deny deny' allow allow' found found' f s d a = rw (f, s, d, a) refl
 
 -- a decision is that of the class that stands for its question
@@ -58,13 +60,17 @@ decided_as rules question target principal host stands plain =
     ap first_serial (filter_in (is_hit permission question)
     (λ entry. is_on target entry && (is_for principal entry && is_met permission host question.operation entry))
     rules.entries (hit_is question target principal host rules.entries stands permission)
-    ∙ filter_both (is_on target) (λ entry. is_for principal entry && is_met permission host question.operation entry) rules.entries
-    ∙ filter_both (is_for principal) (is_met permission host question.operation) (filter (is_on target) rules.entries))
-    ∙ first_serial_found (is_met permission host question.operation) (filter (is_for principal) (filter (is_on target) rules.entries)) in
+    ∙ filter_both (is_on target) (λ entry. is_for principal entry && is_met permission host question.operation entry)
+    rules.entries
+    ∙ filter_both (is_for principal) (is_met permission host question.operation)
+    (filter (is_on target) rules.entries))
+    ∙ first_serial_found (is_met permission host question.operation)
+    (filter (is_for principal) (filter (is_on target) rules.entries)) in
     let matched : list_any (is_match question) rules.entries ≡ some_in (filter (is_on target) rules.entries) =
     any_alike (is_match question) (is_on target) rules.entries (λ entry there. sym (stands.on entry there))
     ∙ any_some (is_on target) rules.entries ∙ sym (some_same (filter (is_on target) rules.entries)) in
-    verdict_same rules.everyone (is_super rules.supers question.principal) _ _ _ _ _ _ matched plain (hits Deny) (hits Allow)
+    verdict_same rules.everyone (is_super rules.supers question.principal) _ _ _ _ _ _ matched plain (hits Deny)
+    (hits Allow)
 
 module _ (rules : Contents) (operation : Operation) (target : Target) where
   abbrev matching : List (ℕ × Binding)
@@ -75,7 +81,8 @@ module _ (rules : Contents) (operation : Operation) (target : Target) where
 
   by_list : (principal : Option (List ℕ)) → is_super_party rules.supers principal ≡ false
       → answers_by rules.supers (is_open_on rules target) matching operation principal
-      ≡ map (answer_at (is_open_on rules target) (asking principal) operation principal) (hosts_named (asking principal))
+      ≡ map (answer_at (is_open_on rules target) (asking principal) operation principal)
+      (hosts_named (asking principal))
   unfolding answers_by
   by_list principal plain = rw plain refl
 
@@ -89,7 +96,8 @@ module _ (rules : Contents) (operation : Operation) (target : Target) where
   unfolding answers_on
   on_list = refl
 
-  answer_is : (principal host : Option (List ℕ)) → answer_at (is_open_on rules target) (asking principal) operation principal host
+  answer_is : (principal host : Option (List ℕ))
+      → answer_at (is_open_on rules target) (asking principal) operation principal host
       ≡ record {
         principal = principal;
         host = host;
@@ -106,27 +114,33 @@ module _ (rules : Contents) (operation : Operation) (target : Target) where
       decided_as rules (representative (spare rules) (class_of target principal host operation)) target principal host
       (stands_marked (spare rules) (class_of target principal host operation) rules.entries
       (λ entry there. omega (arith, in_sum weight rules.entries entry there)))
-      (super_marked (spare rules) rules.supers principal (λ user there. omega (arith, in_sum sum rules.supers user there)) ∙ plain)
+      (super_marked (spare rules) rules.supers principal
+      (λ user there. omega (arith, in_sum sum rules.supers user there)) ∙ plain)
       ∙ sym (ap (λ (a : Answer). a.verdict) (answer_is principal host))
 
   sound_of : (answer : Answer) → Contains (answers_on rules operation target) answer
-      → decide rules (representative (spare rules) (class_of target answer.principal answer.host operation)) ≡ answer.verdict
+      → decide rules (representative (spare rules) (class_of target answer.principal answer.host operation))
+      ≡ answer.verdict
   sound_of answer there =
-      let (principal, (named, at_principal)) = from_flat (answers_by rules.supers (is_open_on rules target) matching operation)
+      let (principal, (named, at_principal)) =
+      from_flat (answers_by rules.supers (is_open_on rules target) matching operation)
       (principals_named matching) answer (subst (λ (as' : List Answer). Contains as' answer) on_list there) in
       elim (cases_Bool (is_super_party rules.supers principal)) [
         | inl super ↦
             let none = subst (λ (as' : List Answer). Contains as' answer) (by_none principal super) at_principal in
             absurd (omega (arith, none.1))
         | inr plain ↦
-            let (host, (where_from, is)) = given_by (answer_at (is_open_on rules target) (asking principal) operation principal)
+            let (host, (where_from, is)) =
+            given_by (answer_at (is_open_on rules target) (asking principal) operation principal)
             (hosts_named (asking principal)) answer
             (subst (λ (as' : List Answer). Contains as' answer) (by_list principal plain) at_principal) in
             let parts = sym (answer_is principal host) ∙ is in
             let whom : principal ≡ answer.principal = ap (λ (a : Answer). a.principal) parts in
             let from : host ≡ answer.host = ap (λ (a : Answer). a.host) parts in
-            subst (λ (p : Option (List ℕ)). decide rules (representative (spare rules) (class_of target p answer.host operation)) ≡ answer.verdict) whom
-            (subst (λ (h : Option (List ℕ)). decide rules (representative (spare rules) (class_of target principal h operation)) ≡ answer.verdict) from
+            subst (λ (p : Option (List ℕ)). decide rules
+            (representative (spare rules) (class_of target p answer.host operation)) ≡ answer.verdict) whom
+            (subst (λ (h : Option (List ℕ)). decide rules
+            (representative (spare rules) (class_of target principal h operation)) ≡ answer.verdict) from
             (sound_at principal host plain ∙ ap (λ (a : Answer). a.verdict) is))
       ]
 
@@ -143,11 +157,13 @@ module _ (rules : Contents) (operation : Operation) (target : Target) where
         on = on.same;
         asks = λ entry there is_on_it.
             covers_same (codes "User:*") entry.1.principal question.principal (principals_of matching)
-            (among_mapped (λ (e : ℕ × Binding). e.1.principal) matching entry (kept_by_filter (is_on target) rules.entries entry there is_on_it));
+            (among_mapped (λ (e : ℕ × Binding). e.1.principal) matching entry
+            (kept_by_filter (is_on target) rules.entries entry there is_on_it));
         from = λ entry there is_on_it asks.
             covers_same (codes "*") entry.1.host question.host hosts
             (among_mapped (λ (e : ℕ × Binding). e.1.host) (asking principal) entry
-            (kept_by_filter (is_for principal) matching entry (kept_by_filter (is_on target) rules.entries entry there is_on_it) asks));
+            (kept_by_filter (is_for principal) matching entry
+            (kept_by_filter (is_on target) rules.entries entry there is_on_it) asks));
       } in
       let is = decided_as rules question target principal host stands plain in
       let answer : Answer = answer_at (is_open_on rules target) (asking principal) operation principal host in
@@ -155,22 +171,27 @@ module _ (rules : Contents) (operation : Operation) (target : Target) where
       let parts = answer_is principal host in
       let at_host : Contains (answers_by rules.supers (is_open_on rules target) matching operation principal) answer =
       subst (λ (as' : List Answer). Contains as' answer) (sym (by_list principal no_super))
-      (among_mapped (answer_at (is_open_on rules target) (asking principal) operation principal) (hosts_named (asking principal)) host
-      (subst (λ (ps : List (Option (List ℕ))). Contains ps host) (sym (hosts_are (asking principal))) (party_there hosts question.host))) in
+      (among_mapped (answer_at (is_open_on rules target) (asking principal) operation principal)
+      (hosts_named (asking principal)) host
+      (subst (λ (ps : List (Option (List ℕ))). Contains ps host) (sym (hosts_are (asking principal)))
+      (party_there hosts question.host))) in
       let there : Contains (answers_on rules operation target) answer =
       subst (λ (as' : List Answer). Contains as' answer) (sym on_list)
-      (in_flat (answers_by rules.supers (is_open_on rules target) matching operation) (principals_named matching) principal answer
+      (in_flat (answers_by rules.supers (is_open_on rules target) matching operation) (principals_named matching)
+      principal answer
       (subst (λ (ps : List (Option (List ℕ))). Contains ps principal) (sym (principals_are matching))
       (party_there (principals_of matching) question.principal)) at_host) in (
         answer,
         (
           there,
           (
-            subst (SpeaksOf question.principal) (sym (ap (λ (a : Answer). a.principal) parts)) (speaks question.principal (principals_of matching)),
+            subst (SpeaksOf question.principal) (sym (ap (λ (a : Answer). a.principal) parts))
+                (speaks question.principal (principals_of matching)),
             (
               subst (SpeaksOf question.host) (sym (ap (λ (a : Answer). a.host) parts)) (speaks question.host hosts),
               ap (λ (a : Answer). a.verdict) parts
-                  ∙ sym (is ∙ ap (λ (o : Operation). verdict_by (is_open_on rules target) (first_met Deny host o (asking principal))
+                  ∙ sym (is ∙ ap (λ (o : Operation).
+                  verdict_by (is_open_on rules target) (first_met Deny host o (asking principal))
                   (first_met Allow host o (asking principal))) same),
             ),
           ),

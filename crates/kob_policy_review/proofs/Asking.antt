@@ -38,11 +38,13 @@ module _ (tree : PrefixMap) (entries : List (ℕ × Binding)) (is : IsIndex prin
   askers_lead_to (Some text) covered =
       elim (or_cases (same_text entry.1.principal text) (same_text entry.1.principal (codes "User:*")) covered) [
         | inl own ↦ Contains-append_right (held tree (codes "User:*")).0 (held tree text).0 entry.0 (of_text text own)
-        | inr all ↦ Contains-append_left (held tree (codes "User:*")).0 (held tree text).0 entry.0 (of_text (codes "User:*") all)
+        | inr all ↦ Contains-append_left (held tree (codes "User:*")).0 (held tree text).0 entry.0
+            (of_text (codes "User:*") all)
       ]
 
 -- serials still rise where entries are left out
-pub still_rising : (test : ℕ × Binding → Bool) (low high : ℕ) (entries : List (ℕ × Binding)) → IsRising low entries high
+pub still_rising : (test : ℕ × Binding → Bool) (low high : ℕ) (entries : List (ℕ × Binding))
+    → IsRising low entries high
     → AreRising (filter test entries)
 still_rising test low high entries rising =
     are_rising low high (filter test entries) (rising_filter test low high entries rising)

@@ -51,7 +51,8 @@ module _ {A B : Type 0} (f : A → List B) where
   flat_empty : (xs : List A) → ((x : A) → Contains xs x → f x ≡ []) → flat_map f xs ≡ []
   flat_empty [] none = refl
   flat_empty (first ∷ rest) none =
-      rw (none first (at_head first rest)) (flat_empty rest (λ x there. none x (Contains-append_right (first ∷ []) rest x there)))
+      rw (none first (at_head first rest))
+      (flat_empty rest (λ x there. none x (Contains-append_right (first ∷ []) rest x there)))
 
 -- Outcomes.
 
@@ -96,7 +97,8 @@ module _ (told : Option (List ℕ) → Option (List ℕ) → Outcome) where
     same = same;
   }
 
-  found_anywhere : (principal : List ℕ) (host : Option (List ℕ)) → told (Some principal) None ≡ told (Some principal) host
+  found_anywhere : (principal : List ℕ) (host : Option (List ℕ))
+      → told (Some principal) None ≡ told (Some principal) host
       → told (Some principal) host ≢ Same → Found (Some principal) host
   found_anywhere principal host same other =
       elim (cases_Bool (same_outcome (told (Some principal) None) (told None None))) [
@@ -157,7 +159,8 @@ pub some_same : (entries : List (ℕ × Binding)) → some_in entries ≡ some_o
 some_same [] = refl
 some_same (entry ∷ rest) = refl
 
-yes_is_in : (everyone : Bool) (matching : List (ℕ × Binding)) (principal host : Option (List ℕ)) (operation : Operation)
+yes_is_in : (everyone : Bool) (matching : List (ℕ × Binding)) (principal host : Option (List ℕ))
+    (operation : Operation)
     → yes_to (everyone && not (some_in matching)) (filter (is_for principal) matching) host operation
     ≡ yes_in false everyone matching principal host operation
 yes_is_in everyone matching principal host operation =
@@ -239,7 +242,8 @@ word_or all own wide plain (inl same) = ap (names_all all) same ∙ plain
 word_or all own wide plain (inr none) = ap (names_all all) none
 
 -- membership that a wider party keeps
-among_or : (parties : List (Option (List ℕ))) (own wide : Option (List ℕ)) → Contains parties own → Contains parties None
+among_or : (parties : List (Option (List ℕ))) (own wide : Option (List ℕ)) → Contains parties own
+    → Contains parties None
     → (wide ≡ own) ⊎ (wide ≡ None) → Contains parties wide
 among_or parties own wide in_own in_none (inl same) = subst (Contains parties) (sym same) in_own
 among_or parties own wide in_own in_none (inr all) = subst (Contains parties) (sym all) in_none
@@ -263,13 +267,15 @@ targets_join before after = sym (fold-append with_target_of open_targets before.
 
 -- all others come first
 others_kept : (step : List (Option (List ℕ)) → ℕ × Binding → List (Option (List ℕ))) (made : List (Option (List ℕ)))
-    (entries : List (ℕ × Binding)) → ((m : List (Option (List ℕ))) (e : ℕ × Binding) → Contains m None → Contains (step m e) None)
+    (entries : List (ℕ × Binding))
+    → ((m : List (Option (List ℕ))) (e : ℕ × Binding) → Contains m None → Contains (step m e) None)
     → Contains made None → Contains (fold step made entries) None
 others_kept step made [] keeps there = there
 others_kept step made (entry ∷ rest) keeps there =
     others_kept step (step made entry) rest keeps (keeps made entry there)
 
-party_keeps : (made : List (Option (List ℕ))) (text : List ℕ) → Contains made None → Contains (with_party made text) None
+party_keeps : (made : List (Option (List ℕ))) (text : List ℕ) → Contains made None
+    → Contains (with_party made text) None
 party_keeps made text there =
     elim (list_any (is_party text) made) as (λ b. Contains (cond b made (made ++ Some text ∷ [])) None) [
       | true ↦ there
@@ -302,7 +308,8 @@ host_there sides principal host of_whom from_where (inl both) there =
 host_there sides principal host of_whom from_where (inr all) there =
     let asked : Sides = asked_by of_whom sides in
     subst (Contains (hosts_in asked)) (sym all)
-    (subst (λ (ps : List (Option (List ℕ))). Contains ps None) (sym (hosts_join asked)) (host_others (asked.before ++ asked.after)))
+    (subst (λ (ps : List (Option (List ℕ))). Contains ps None) (sym (hosts_join asked))
+    (host_others (asked.before ++ asked.after)))
 
 module _ (before after : Contents) where
   abbrev mark : ℕ
@@ -313,7 +320,8 @@ module _ (before after : Contents) where
 
   -- what becomes of a class
   abbrev told_on : Target → Operation → Option (List ℕ) → Option (List ℕ) → Outcome
-  told_on target operation principal host = outcome_to (asked_by principal (sides_on before after target)) host operation
+  told_on target operation principal host =
+      outcome_to (asked_by principal (sides_on before after target)) host operation
 
   -- what becomes of a question is what becomes of the class that stands for it
   outcome_is : (question : Question) (target : Target) (principal host : Option (List ℕ))
@@ -324,12 +332,14 @@ module _ (before after : Contents) where
       let one : is_yes before question ≡ yes_to (sides_on before after target).open_before
       (asked_by principal (sides_on before after target)).before host question.operation =
       answered_as question target principal host before stands_before
-      ∙ ap (λ s. yes_in s before.everyone (filter (is_on target) before.entries) principal host question.operation) plain_before
+      ∙ ap (λ s. yes_in s before.everyone (filter (is_on target) before.entries) principal host question.operation)
+      plain_before
       ∙ sym (yes_is_in before.everyone (filter (is_on target) before.entries) principal host question.operation) in
       let other : is_yes after question ≡ yes_to (sides_on before after target).open_after
       (asked_by principal (sides_on before after target)).after host question.operation =
       answered_as question target principal host after stands_after
-      ∙ ap (λ s. yes_in s after.everyone (filter (is_on target) after.entries) principal host question.operation) plain_after
+      ∙ ap (λ s. yes_in s after.everyone (filter (is_on target) after.entries) principal host question.operation)
+      plain_after
       ∙ sym (yes_is_in after.everyone (filter (is_on target) after.entries) principal host question.operation) in
       ap (λ b. outcome_of b (is_yes after question)) one
       ∙ ap (outcome_of (yes_to (sides_on before after target).open_before
@@ -344,17 +354,20 @@ module _ (before after : Contents) where
   plain_marked_before : (principal : Option (List ℕ)) → is_super_party before.supers principal ≡ false
       → is_super before.supers (party_text mark principal) ≡ false
   plain_marked_before principal plain =
-      super_marked mark before.supers principal (λ user there. omega (arith, in_sum sum before.supers user there)) ∙ plain
+      super_marked mark before.supers principal (λ user there. omega (arith, in_sum sum before.supers user there))
+      ∙ plain
 
   plain_marked_after : (principal : Option (List ℕ)) → is_super_party after.supers principal ≡ false
       → is_super after.supers (party_text mark principal) ≡ false
   plain_marked_after principal plain =
-      super_marked mark after.supers principal (λ user there. omega (arith, in_sum sum after.supers user there)) ∙ plain
+      super_marked mark after.supers principal (λ user there. omega (arith, in_sum sum after.supers user there))
+      ∙ plain
 
   -- what becomes of the representative
   represented : (class : Class) → is_super_party before.supers class.principal ≡ false
       → is_super_party after.supers class.principal ≡ false
-      → outcome before after (representative mark class) ≡ told_on class.target class.operation class.principal class.host
+      → outcome before after (representative mark class)
+      ≡ told_on class.target class.operation class.principal class.host
   represented class plain_before plain_after =
       outcome_is (representative mark class) class.target class.principal class.host
       (stands_marked mark class before.entries clear_before) (stands_marked mark class after.entries clear_after)
@@ -364,7 +377,8 @@ module _ (before after : Contents) where
   to_list : (target : Target) (principal host : Option (List ℕ)) (operation : Operation)
       → changes_to (asked_by principal (sides_on before after target)) (asked_by None (sides_on before after target))
       target principal host operation
-      ≡ cond (is_listed principal host (told_on target operation principal host) (told_on target operation principal None)
+      ≡ cond (is_listed principal host (told_on target operation principal host)
+      (told_on target operation principal None)
       (told_on target operation None host) (told_on target operation None None))
       (change_of target principal host operation (told_on target operation principal host) ∷ []) []
   unfolding changes_to
@@ -374,7 +388,8 @@ module _ (before after : Contents) where
       → is_super_party before.supers principal ≡ false
       → is_super_party after.supers principal ≡ false
       → changes_by before.supers after.supers (sides_on before after target) target principal
-      ≡ flat_map (changes_from (asked_by principal (sides_on before after target)) (asked_by None (sides_on before after target))
+      ≡ flat_map (changes_from (asked_by principal (sides_on before after target))
+      (asked_by None (sides_on before after target))
       target principal) (hosts_in (asked_by principal (sides_on before after target)))
   unfolding changes_by
   by_list target principal one plain_before plain_after = rw (one, plain_before, plain_after) refl
@@ -387,14 +402,17 @@ module _ (before after : Contents) where
   by_none target principal super = rw super refl
 
   from_list : (target : Target) (principal host : Option (List ℕ)) → names_all (codes "*") host ≡ false
-      → changes_from (asked_by principal (sides_on before after target)) (asked_by None (sides_on before after target)) target principal host
-      ≡ flat_map (changes_to (asked_by principal (sides_on before after target)) (asked_by None (sides_on before after target))
+      → changes_from (asked_by principal (sides_on before after target))
+      (asked_by None (sides_on before after target)) target principal host
+      ≡ flat_map (changes_to (asked_by principal (sides_on before after target))
+      (asked_by None (sides_on before after target))
       target principal host) operations
   unfolding changes_from
   from_list target principal host one = rw one refl
 
   from_none : (target : Target) (principal host : Option (List ℕ)) → names_all (codes "*") host ≡ true
-      → changes_from (asked_by principal (sides_on before after target)) (asked_by None (sides_on before after target)) target principal host
+      → changes_from (asked_by principal (sides_on before after target))
+      (asked_by None (sides_on before after target)) target principal host
       ≡ []
   unfolding changes_from
   from_none target principal host all = rw all refl
@@ -417,23 +435,32 @@ module _ (before after : Contents) where
       → Contains (hosts_in (asked_by principal (sides_on before after target))) host → Contains operations operation
       → is_listed principal host (told_on target operation principal host) (told_on target operation principal None)
       (told_on target operation None host) (told_on target operation None None) ≡ true
-      → Contains (changes_of before after) (change_of target principal host operation (told_on target operation principal host))
-  row_there target principal host operation on who one_principal one_host plain_before plain_after where_from op listed =
+      → Contains (changes_of before after)
+      (change_of target principal host operation (told_on target operation principal host))
+  row_there target principal host operation on who one_principal one_host plain_before plain_after where_from op
+      listed =
       let sides : Sides = sides_on before after target in
       let change : Change = change_of target principal host operation (told_on target operation principal host) in
-      let at_operation : Contains (changes_to (asked_by principal sides) (asked_by None sides) target principal host operation) change =
+      let at_operation : Contains
+      (changes_to (asked_by principal sides) (asked_by None sides) target principal host operation) change =
       subst (λ (cs : List Change). Contains cs change)
-      (sym (to_list target principal host operation ∙ ap (λ b. cond b (change ∷ []) []) listed)) (at_head change []) in
-      let at_host : Contains (changes_from (asked_by principal sides) (asked_by None sides) target principal host) change =
+      (sym (to_list target principal host operation ∙ ap (λ b. cond b (change ∷ []) []) listed))
+      (at_head change []) in
+      let at_host : Contains (changes_from (asked_by principal sides) (asked_by None sides) target principal host)
+      change =
       subst (λ (cs : List Change). Contains cs change) (sym (from_list target principal host one_host))
-      (in_flat (changes_to (asked_by principal sides) (asked_by None sides) target principal host) operations operation change op at_operation) in
+      (in_flat (changes_to (asked_by principal sides) (asked_by None sides) target principal host) operations
+      operation change op at_operation) in
       let at_principal : Contains (changes_by before.supers after.supers sides target principal) change =
-      subst (λ (cs : List Change). Contains cs change) (sym (by_list target principal one_principal plain_before plain_after))
-      (in_flat (changes_from (asked_by principal sides) (asked_by None sides) target principal) (hosts_in (asked_by principal sides)) host
+      subst (λ (cs : List Change). Contains cs change)
+      (sym (by_list target principal one_principal plain_before plain_after))
+      (in_flat (changes_from (asked_by principal sides) (asked_by None sides) target principal)
+      (hosts_in (asked_by principal sides)) host
       change where_from at_host) in
       let at_target : Contains (changes_on before after target) change =
       subst (λ (cs : List Change). Contains cs change) (sym (on_list target))
-      (in_flat (changes_by before.supers after.supers sides target) (principals_in sides) principal change who at_principal) in
+      (in_flat (changes_by before.supers after.supers sides target) (principals_in sides) principal change who
+      at_principal) in
       subst (λ (cs : List Change). Contains cs change) (sym of_list)
       (in_flat (changes_on before after) (targets_in before after) target change on at_target)
 
@@ -447,7 +474,8 @@ module _ (before after : Contents) where
     plain_before : is_super_party before.supers principal ≡ false
     plain_after : is_super_party after.supers principal ≡ false
     op : Contains operations operation
-    listed : is_listed principal host (told_on target operation principal host) (told_on target operation principal None)
+    listed : is_listed principal host (told_on target operation principal host)
+        (told_on target operation principal None)
         (told_on target operation None host) (told_on target operation None None) ≡ true
     is : change_of target principal host operation (told_on target operation principal host) ≡ change
 
@@ -466,20 +494,24 @@ module _ (before after : Contents) where
   row_from : (change : Change) (target : Target) → Contains (targets_in before after) target
       → (principal : Option (List ℕ)) → is_super_party before.supers principal ≡ false
       → is_super_party after.supers principal ≡ false → (host : Option (List ℕ))
-      → Contains (changes_from (asked_by principal (sides_on before after target)) (asked_by None (sides_on before after target))
+      → Contains (changes_from (asked_by principal (sides_on before after target))
+      (asked_by None (sides_on before after target))
       target principal host) change → Row change
   row_from change target on principal plain_before plain_after host at_host =
       let sides : Sides = sides_on before after target in
       elim (cases_Bool (names_all (codes "*") host)) [
         | inl all ↦
-            let none = subst (λ (cs : List Change). Contains cs change) (from_none target principal host all) at_host in
+            let none = subst (λ (cs : List Change). Contains cs change) (from_none target principal host all)
+            at_host in
             absurd (omega (arith, none.1))
         | inr one ↦
-            let (operation, (op, at_operation)) = from_flat (changes_to (asked_by principal sides) (asked_by None sides) target principal host)
+            let (operation, (op, at_operation)) =
+            from_flat (changes_to (asked_by principal sides) (asked_by None sides) target principal host)
             operations change
             (subst (λ (cs : List Change). Contains cs change) (from_list target principal host one) at_host) in
             let (listed, is) = not_empty _ _ change
-            (subst (λ (cs : List Change). Contains cs change) (to_list target principal host operation) at_operation) in
+            (subst (λ (cs : List Change). Contains cs change) (to_list target principal host operation)
+            at_operation) in
             record {
               target = target;
               principal = principal;
@@ -499,30 +531,36 @@ module _ (before after : Contents) where
       let (target, (on, at_target)) = from_flat (changes_on before after) (targets_in before after) change
       (subst (λ (cs : List Change). Contains cs change) of_list there) in
       let sides : Sides = sides_on before after target in
-      let (principal, (who, at_principal)) = from_flat (changes_by before.supers after.supers sides target) (principals_in sides) change
+      let (principal, (who, at_principal)) =
+      from_flat (changes_by before.supers after.supers sides target) (principals_in sides) change
       (subst (λ (cs : List Change). Contains cs change) (on_list target) at_target) in
       elim (cases_Bool (names_all (codes "User:*") principal
       || (is_super_party before.supers principal || is_super_party after.supers principal))) [
         | inl super ↦
-            let none = subst (λ (cs : List Change). Contains cs change) (by_none target principal super) at_principal in
+            let none = subst (λ (cs : List Change). Contains cs change) (by_none target principal super)
+            at_principal in
             absurd (omega (arith, none.1))
         | inr plain ↦
             let (one, no_super) = or_none _ _ plain in
             let (plain_before, plain_after) = or_none _ _ no_super in
-            let (host, (where_from, at_host)) = from_flat (changes_from (asked_by principal sides) (asked_by None sides) target principal)
+            let (host, (where_from, at_host)) =
+            from_flat (changes_from (asked_by principal sides) (asked_by None sides) target principal)
             (hosts_in (asked_by principal sides)) change
-            (subst (λ (cs : List Change). Contains cs change) (by_list target principal one plain_before plain_after) at_principal) in
+            (subst (λ (cs : List Change). Contains cs change) (by_list target principal one plain_before plain_after)
+            at_principal) in
             row_from change target on principal plain_before plain_after host at_host
       ]
 
-  sound_row : (change : Change) → Row change → outcome before after (representative mark change.class) ≡ change.outcome
+  sound_row : (change : Change) → Row change
+      → outcome before after (representative mark change.class) ≡ change.outcome
   sound_row change row =
       subst (λ (c : Change). outcome before after (representative mark c.class) ≡ c.outcome) row.is
       (represented (class_of row.target row.principal row.host row.operation) row.plain_before row.plain_after)
 
   on_a_target : (target : Target) → Contains (targets_in before after) target → Contains (targets entries) target
   on_a_target target on =
-      only_named open_targets entries target (subst (λ (ts : List Target). Contains ts target) (targets_join before after) on)
+      only_named open_targets entries target
+      (subst (λ (ts : List Target). Contains ts target) (targets_join before after) on)
 
   -- where nothing changes, nothing is listed
   no_row : ((question : Question) → IsPlain before after question → outcome before after question ≡ Same)
@@ -534,12 +572,14 @@ module _ (before after : Contents) where
       λ principal host plain_before plain_after.
       sym (represented (class_of row.target principal host row.operation) plain_before plain_after)
       ∙ none (representative mark (class_of row.target principal host row.operation)) (record {
-        askable = askable_marked mark (class_of row.target principal host row.operation) entries row.op (on_a_target row.target row.on);
+        askable = askable_marked mark (class_of row.target principal host row.operation) entries row.op
+            (on_a_target row.target row.on);
         plain_before = plain_marked_before principal plain_before;
         plain_after = plain_marked_after principal plain_after;
       }) in
       both_ways _ (none_listed (told_on row.target row.operation) row.principal row.host
-      (stays row.principal row.host row.plain_before row.plain_after) (stays row.principal None row.plain_before row.plain_after)
+      (stays row.principal row.host row.plain_before row.plain_after)
+      (stays row.principal None row.plain_before row.plain_after)
       (stays None row.host refl refl) (stays None None refl refl)) row.listed
 
   empty_where_none : (found : List Change) → ((change : Change) → Contains found change → ⊥) → found ≡ []
@@ -548,7 +588,8 @@ module _ (before after : Contents) where
 
   -- the list tells every change
   told_row : (question : Question) → IsPlain before after question → outcome before after question ≢ Same
-      → (change : Change) × (Contains (changes_of before after) change × Tells change question (outcome before after question))
+      → (change : Change) × (Contains (changes_of before after) change
+      × Tells change question (outcome before after question))
   told_row question plain other =
       let target : Target = target_for entries question.resource question.name in
       let sides : Sides = sides_on before after target in
@@ -559,17 +600,20 @@ module _ (before after : Contents) where
       let host : Option (List ℕ) = party_but (codes "*") hosts question.host in
       let in_before : (entry : ℕ × Binding) → Contains before.entries entry → is_on target entry ≡ true
       → Contains (sides.before ++ sides.after) entry =
-      λ entry there on. Contains-append_left sides.before sides.after entry (kept_by_filter (is_on target) before.entries entry there on) in
+      λ entry there on. Contains-append_left sides.before sides.after entry
+      (kept_by_filter (is_on target) before.entries entry there on) in
       let in_after : (entry : ℕ × Binding) → Contains after.entries entry → is_on target entry ≡ true
       → Contains (sides.before ++ sides.after) entry =
-      λ entry there on. Contains-append_right sides.before sides.after entry (kept_by_filter (is_on target) after.entries entry there on) in
+      λ entry there on. Contains-append_right sides.before sides.after entry
+      (kept_by_filter (is_on target) after.entries entry there on) in
       let stands_before : Stands before.entries question target principal host = record {
         on = λ entry there.
             on_for entries question.resource question.name plain.askable.name entry
             (Contains-append_left before.entries after.entries entry there);
         asks = λ entry there on.
             covers_but (codes "User:*") entry.1.principal question.principal texts
-            (among_mapped (λ (e : ℕ × Binding). e.1.principal) (sides.before ++ sides.after) entry (in_before entry there on));
+            (among_mapped (λ (e : ℕ × Binding). e.1.principal) (sides.before ++ sides.after) entry
+            (in_before entry there on));
         from = λ entry there on asks.
             covers_but (codes "*") entry.1.host question.host hosts
             (among_mapped (λ (e : ℕ × Binding). e.1.host) (asked.before ++ asked.after) entry
@@ -582,14 +626,16 @@ module _ (before after : Contents) where
             (Contains-append_right before.entries after.entries entry there);
         asks = λ entry there on.
             covers_but (codes "User:*") entry.1.principal question.principal texts
-            (among_mapped (λ (e : ℕ × Binding). e.1.principal) (sides.before ++ sides.after) entry (in_after entry there on));
+            (among_mapped (λ (e : ℕ × Binding). e.1.principal) (sides.before ++ sides.after) entry
+            (in_after entry there on));
         from = λ entry there on asks.
             covers_but (codes "*") entry.1.host question.host hosts
             (among_mapped (λ (e : ℕ × Binding). e.1.host) (asked.before ++ asked.after) entry
             (Contains-append_right asked.before asked.after entry (kept_by_filter (is_for principal) sides.after entry
             (kept_by_filter (is_on target) after.entries entry there on) asks)));
       } in
-      let is = outcome_is question target principal host stands_before stands_after plain.plain_before plain.plain_after in
+      let is = outcome_is question target principal host stands_before stands_after plain.plain_before
+      plain.plain_after in
       let row = found (told_on target question.operation) principal host (λ same. other (is ∙ same)) in
       let on : Contains (targets_in before after) target =
       subst (λ (ts : List Target). Contains ts target) (sym (targets_join before after))
@@ -619,7 +665,8 @@ module _ (before after : Contents) where
       (plain_or after.supers principal row.of_whom
       (plain_but (codes "User:*") after.supers texts question.principal plain.plain_after) row.whom)
       where_from (asked_there question.operation plain.askable.operation) row.listed in (
-        change_of target row.of_whom row.from_where question.operation (told_on target question.operation row.of_whom row.from_where),
+        change_of target row.of_whom row.from_where question.operation
+            (told_on target question.operation row.of_whom row.from_where),
         (
           there,
           record {
@@ -637,7 +684,8 @@ pub lists_changes : (before after : Contents) (found : List Change) → found �
     → ListsChanges before after found
 lists_changes before after found is = record {
   sound = λ change there.
-      sound_row before after change (row_of before after change (subst (λ (cs : List Change). Contains cs change) is there));
+      sound_row before after change
+      (row_of before after change (subst (λ (cs : List Change). Contains cs change) is there));
   complete = λ question plain other.
       let (change, (there, tells)) = told_row before after question plain other in
       (change, (subst (λ (cs : List Change). Contains cs change) (sym is) there, tells));

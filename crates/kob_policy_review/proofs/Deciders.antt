@@ -76,7 +76,8 @@ module _ (one other : Contents) (question : Question) (askable : IsAskable quest
       (λ entry there _ _. among_mapped (λ (e : ℕ × Binding). e.1.host) entries entry (among entry there))) in
       let represented = answered_as (representative mark class) class.target class.principal class.host rules
       (stands_marked mark class rules.entries clear) in
-      let super = sym (super_same rules.supers named) ∙ sym (super_marked mark rules.supers class.principal clear_user) in
+      let super = sym (super_same rules.supers named)
+      ∙ sym (super_marked mark rules.supers class.principal clear_user) in
       asked
       ∙ ap (λ s. yes_in s rules.everyone (filter (is_on class.target) rules.entries) class.principal class.host
       question.operation) super

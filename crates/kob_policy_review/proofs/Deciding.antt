@@ -79,7 +79,8 @@ pub record Stands (entries : List (ℕ × Binding)) (question : Question) (targe
   pub on : (entry : ℕ × Binding) → Contains entries entry → is_on target entry ≡ is_match question entry
   pub asks : (entry : ℕ × Binding) → Contains entries entry → is_on target entry ≡ true
       → is_for principal entry ≡ covers_text (codes "User:*") entry.1.principal question.principal
-  pub from : (entry : ℕ × Binding) → Contains entries entry → is_on target entry ≡ true → is_for principal entry ≡ true
+  pub from : (entry : ℕ × Binding) → Contains entries entry → is_on target entry ≡ true
+      → is_for principal entry ≡ true
       → covers_party (codes "*") entry.1.host host ≡ covers_text (codes "*") entry.1.host question.host
 
 hit_bools : (permission resource name who where_from reach on for_who at : Bool)
@@ -97,11 +98,13 @@ hit_bools permission true true true where_from reach on for_who at is asks from 
 
 pub granted_same : (super denied denied' allowed allowed' everyone matched matched' : Bool) → denied ≡ denied'
     → allowed ≡ allowed' → matched ≡ matched'
-    → granted super denied allowed (everyone && not matched) ≡ granted super denied' allowed' (everyone && not matched')
+    → granted super denied allowed (everyone && not matched)
+    ≡ granted super denied' allowed' (everyone && not matched')
 granted_same super denied denied' allowed allowed' everyone matched matched' d a m = cc
 
 module _ (question : Question) (target : Target) (principal host : Option (List ℕ)) where
-  pub hit_is : (entries : List (ℕ × Binding)) → Stands entries question target principal host → (permission : Permission)
+  pub hit_is : (entries : List (ℕ × Binding)) → Stands entries question target principal host
+      → (permission : Permission)
       (entry : ℕ × Binding) → Contains entries entry
       → is_hit permission question entry
       ≡ (is_on target entry && (is_for principal entry && is_met permission host question.operation entry))
@@ -113,16 +116,20 @@ module _ (question : Question) (target : Target) (principal host : Option (List 
       (covers_party (codes "*") entry.1.host host) (stands.on entry there) (stands.asks entry there)
       (stands.from entry there)
 
-  pub hits_are : (entries : List (ℕ × Binding)) → Stands entries question target principal host → (permission : Permission)
+  pub hits_are : (entries : List (ℕ × Binding)) → Stands entries question target principal host
+      → (permission : Permission)
       → list_any (is_hit permission question) entries
-      ≡ some_of (filter (is_met permission host question.operation) (filter (is_for principal) (filter (is_on target) entries)))
+      ≡ some_of (filter (is_met permission host question.operation)
+      (filter (is_for principal) (filter (is_on target) entries)))
   hits_are entries stands permission =
       any_alike (is_hit permission question)
       (λ entry. is_on target entry && (is_for principal entry && is_met permission host question.operation entry))
       entries (hit_is entries stands permission)
-      ∙ sym (any_kept (is_on target) (λ entry. is_for principal entry && is_met permission host question.operation entry) entries)
+      ∙ sym (any_kept (is_on target)
+      (λ entry. is_for principal entry && is_met permission host question.operation entry) entries)
       ∙ sym (any_kept (is_for principal) (is_met permission host question.operation) (filter (is_on target) entries))
-      ∙ any_some (is_met permission host question.operation) (filter (is_for principal) (filter (is_on target) entries))
+      ∙ any_some (is_met permission host question.operation)
+      (filter (is_for principal) (filter (is_on target) entries))
 
   -- a question is answered as the class that stands for it
   pub answered_as : (rules : Contents) → Stands rules.entries question target principal host

@@ -77,7 +77,8 @@ module _ (test : ℕ × Binding → Bool) (high : ℕ) where
   abbrev SamePassing : List (ℕ × Binding) → List ℕ → Type 0
   SamePassing entries serials = filter test (picked entries serials) ≡ filter test entries
 
-  behind : (x : ℕ × Binding) (xs : List (ℕ × Binding)) (entry : ℕ × Binding) → Contains xs entry → Contains (x ∷ xs) entry
+  behind : (x : ℕ × Binding) (xs : List (ℕ × Binding)) (entry : ℕ × Binding) → Contains xs entry
+      → Contains (x ∷ xs) entry
   behind x xs entry there = Contains-append_right (x ∷ []) xs entry there
 
   at_front : (x : ℕ × Binding) (xs : List (ℕ × Binding)) → Contains (x ∷ xs) x
@@ -221,3 +222,12 @@ names_lead_to tree entries is target entry there on =
     by_pattern (held tree) entry.1.pattern.kind entry.1.pattern.name (text_of target.names) entry.0
     (on_text entry.1.pattern.kind entry.1.pattern.name target.names parts.1)
     (at_its_place pattern_place tree entries entry is there)
+
+-- serials in order, among which are those that match the text of a target's names, lead to all entries on the target
+pub all_on : (tree : PrefixMap) (next : ℕ) (entries : List (ℕ × Binding)) → IsIndex pattern_place tree entries
+    → IsRising 1 entries next → (target : Target) (serials : List ℕ) → RiseFrom 0 serials
+    → ((serial : ℕ) → Contains (matching_serials (held tree) (text_of target.names)) serial → Contains serials serial)
+    → filter (is_on target) (picked entries serials) ≡ filter (is_on target) entries
+all_on tree next entries is rising target serials rise among =
+    same_passing (is_on target) next 1 entries rising 0 serials rise
+    (λ entry there on. among entry.0 (names_lead_to tree entries is target entry there on))

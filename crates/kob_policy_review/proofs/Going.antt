@@ -22,21 +22,25 @@ filter_both : {A : Type 0} (p q : A → Bool) (xs : List A)
 filter_both p q [] = refl
 filter_both p q (x ∷ xs) =
     elim (q x) as (λ b. filter p (cond b (x ∷ filter q xs) (filter q xs))
-    ≡ cond (cond b (p x) false) (x ∷ filter (λ y. cond (q y) (p y) false) xs) (filter (λ y. cond (q y) (p y) false) xs)) [
+    ≡ cond (cond b (p x) false) (x ∷ filter (λ y. cond (q y) (p y) false) xs)
+    (filter (λ y. cond (q y) (p y) false) xs)) [
       | true ↦ ap (λ ys. cond (p x) (x ∷ ys) ys) (filter_both p q xs)
       | false ↦ filter_both p q xs
     ]
 
 module _ (rules : Contents) (rising : IsRising 1 rules.entries rules.next) where
   -- the set and one serial more
-  one_more : (gone : List ℕ) (serial : ℕ) → without serial (without_all gone rules) ≡ without_all (gone ++ serial ∷ []) rules
+  one_more : (gone : List ℕ) (serial : ℕ)
+      → without serial (without_all gone rules) ≡ without_all (gone ++ serial ∷ []) rules
   one_more gone serial =
       ap (λ (es : List (ℕ × Binding)). record rules { entries = es })
       (filter_both (λ (entry : ℕ × Binding). not (entry.0 == serial)) (is_outside (is_among gone)) rules.entries
       ∙ filter_alike _ _ rules.entries (λ (entry : ℕ × Binding).
-      outside (is_among gone entry.0) entry.0 ∙ ap not (sym (list_any-append (λ other. other == entry.0) gone (serial ∷ [])))))
+      outside (is_among gone entry.0) entry.0
+      ∙ ap not (sym (list_any-append (λ other. other == entry.0) gone (serial ∷ [])))))
     where
-      outside : (before : Bool) (s : ℕ) → cond (not before) (not (s == serial)) false ≡ not (before || ((serial == s) || false))
+      outside : (before : Bool) (s : ℕ)
+          → cond (not before) (not (s == serial)) false ≡ not (before || ((serial == s) || false))
       outside true s = refl
       outside false s =
           elim (cases_Bool (s == serial)) [
@@ -116,14 +120,16 @@ module _ (rules : Contents) (rising : IsRising 1 rules.entries rules.next) where
       ]
 
   -- later entries add nothing below
-  rest_out : (bound low high : ℕ) (gone : List ℕ) (entries : List (ℕ × Binding)) → bound ≤ low → IsRising low entries high
+  rest_out : (bound low high : ℕ) (gone : List ℕ) (entries : List (ℕ × Binding)) → bound ≤ low
+      → IsRising low entries high
       → filter (below bound) (all_of gone entries) ≡ filter (below bound) gone
   rest_out bound low high gone [] le rises = refl
   rest_out bound low high gone (entry ∷ rest) le rises =
       rest_out bound (entry.0 + 1) high (with_removable rules gone entry) rest (omega (arith, le, rises.0)) rises.1
       ∙ step_out bound gone entry (omega (arith, le, rises.0))
 
-  whole : (bound : ℕ) (gone : List ℕ) → AllByRecursion (λ serial. serial < bound) gone → filter (below bound) gone ≡ gone
+  whole : (bound : ℕ) (gone : List ℕ) → AllByRecursion (λ serial. serial < bound) gone
+      → filter (below bound) gone ≡ gone
   whole bound [] all = refl
   whole bound (first ∷ gone) all = rw (is_below bound first all.0) (ap (λ xs. first ∷ xs) (whole bound gone all.1))
 
@@ -131,7 +137,8 @@ module _ (rules : Contents) (rising : IsRising 1 rules.entries rules.next) where
   Exact serial gone =
       Contains gone serial ↔ AnswerAlike (left_for serial gone rules) (without serial (left_for serial gone rules))
 
-  at_turn : (low high : ℕ) (gone : List ℕ) (entry : ℕ × Binding) (rest : List (ℕ × Binding)) → IsRising low (entry ∷ rest) high
+  at_turn : (low high : ℕ) (gone : List ℕ) (entry : ℕ × Binding) (rest : List (ℕ × Binding))
+      → IsRising low (entry ∷ rest) high
       → AllByRecursion (λ serial. serial < low) gone → Exact entry.0 (all_of gone (entry ∷ rest))
   at_turn low high gone entry rest rises lower =
       let final : List ℕ = all_of gone (entry ∷ rest) in
@@ -146,15 +153,18 @@ module _ (rules : Contents) (rising : IsRising 1 rules.entries rules.next) where
       elim (cases_Bool (needs gone entry)) [
         | inl needed ↦ (
           (λ there.
-              let in_step = kept_by_filter (below (entry.0 + 1)) final entry.0 there (is_below (entry.0 + 1) entry.0 (omega arith)) in
+              let in_step = kept_by_filter (below (entry.0 + 1)) final entry.0 there
+              (is_below (entry.0 + 1) entry.0 (omega arith)) in
               let in_gone = (was_kept (below (entry.0 + 1)) gone entry.0
-              (subst (λ g. Contains g entry.0) (now ∙ ap (filter (below (entry.0 + 1))) (stays gone entry needed)) in_step)).0 in
+              (subst (λ g. Contains g entry.0) (now ∙ ap (filter (below (entry.0 + 1))) (stays gone entry needed))
+              in_step)).0 in
               absurd (omega (arith, rises.0, each (λ s. s < low) gone entry.0 lower in_gone))),
           (λ alike. absurd (changes_without (without_all gone rules) (left_rising gone) entry.0 needed
               (subst Alike before alike))),
         )
         | inr free ↦ (
-          (λ there. subst Alike (sym before) (alike_without (without_all gone rules) (left_rising gone) entry.0 free)),
+          (λ there. subst Alike (sym before)
+              (alike_without (without_all gone rules) (left_rising gone) entry.0 free)),
           (λ alike.
               (was_kept (below (entry.0 + 1)) final entry.0
               (subst (λ g. Contains g entry.0) (sym (now ∙ ap (filter (below (entry.0 + 1))) (goes gone entry free)))

@@ -38,7 +38,8 @@ held_is test operation plain = same_when _ _
 
 hit_bools : (permission resource name who where_from reach on at : Bool) → (who ≡ true → on ≡ (resource && name))
     → (who ≡ true → on ≡ true → at ≡ where_from)
-    → (permission && (resource && (name && ((who && where_from) && reach)))) ≡ (on && (who && (permission && (at && reach))))
+    → (permission && (resource && (name && ((who && where_from) && reach))))
+    ≡ (on && (who && (permission && (at && reach))))
 hit_bools permission resource name false where_from reach on at names hosts =
     ap (λ b. permission && (resource && b)) (and-false name) ∙ ap (λ b. permission && b) (and-false resource)
     ∙ and-false permission ∙ sym (and-false on)
@@ -95,9 +96,11 @@ module _ (rules : Contents) where
       → Contains (holdings_of rules principal host) one
       → one.operations ≡ filter (yes_to false (asking principal one.target) one.host) operations
   listed_is principal host one there =
-      let (target, (_, on)) = from_flat (holdings_on rules principal host) (targets_named (own_entries rules principal)) one
+      let (target, (_, on)) = from_flat (holdings_on rules principal host)
+      (targets_named (own_entries rules principal)) one
       (subst (λ (hs : List Holding). Contains hs one) (of_list principal host) there) in
-      let (from, (_, is)) = given_by (holding_from target (asking principal target)) (hosts_asked host (asking principal target)) one
+      let (from, (_, is)) = given_by (holding_from target (asking principal target))
+      (hosts_asked host (asking principal target)) one
       (subst (λ (hs : List Holding). Contains hs one) (on_list principal host target) on) in
       let parts = sym (from_is target (asking principal target) from) ∙ is in
       let at_target : target ≡ one.target = ap (λ (h : Holding). h.target) parts in
@@ -109,7 +112,8 @@ module _ (rules : Contents) where
   module _ (one : Holding) (question : Question) (of_class : IsOf rules question.principal one question) where
     own_there : (entry : ℕ × Binding) → Contains rules.entries entry → is_for (Some question.principal) entry ≡ true
         → Contains (own_entries rules question.principal) entry
-    own_there entry there covered = kept_by_filter (is_for (Some question.principal)) rules.entries entry there covered
+    own_there entry there covered =
+        kept_by_filter (is_for (Some question.principal)) rules.entries entry there covered
 
     -- only the principal's own bindings on the names of the class hit
     hits_own : (permission : Permission) → list_any (is_hit permission question) rules.entries
@@ -122,7 +126,8 @@ module _ (rules : Contents) where
         (λ entry there.
         hit_bools (same_permission entry.1.permission permission) (same_resource entry.1.resource question.resource)
         (matches entry.1.pattern question.name) (is_for (Some question.principal) entry)
-        (covers_party (codes "*") entry.1.host (Some question.host)) (reaches permission entry.1.operation question.operation)
+        (covers_party (codes "*") entry.1.host (Some question.host))
+        (reaches permission entry.1.operation question.operation)
         (is_on one.target entry) (covers_party (codes "*") entry.1.host one.host)
         (λ covered. of_class.names entry (own_there entry there covered))
         (λ covered on. of_class.hosts entry (own_there entry there covered) on))
@@ -153,12 +158,14 @@ module _ (rules : Contents) where
       ap (list_any (same_operation question.operation)) (listed_is question.principal host one there)
       ∙ held_is (yes_to false (asking question.principal one.target) one.host) question.operation askable.operation in
       yes_is rules question
-      ∙ ap (λ s. granted s (list_any (is_hit Deny question) rules.entries) (list_any (is_hit Allow question) rules.entries) opened) plain
+      ∙ ap (λ s. granted s (list_any (is_hit Deny question) rules.entries)
+      (list_any (is_hit Allow question) rules.entries) opened) plain
       ∙ yes_bools (list_any (is_hit Deny question) rules.entries) (list_any (is_hit Allow question) rules.entries)
       rules.everyone matched (hit_matches question)
       ∙ ap (λ d. (not d && (list_any (is_hit Allow question) rules.entries || false)) || opened)
       (hits_own one question of_class Deny)
-      ∙ ap (λ a. (not (list_any (is_met Deny one.host question.operation) (asking question.principal one.target)) && (a || false)) || opened)
+      ∙ ap (λ a. (not (list_any (is_met Deny one.host question.operation) (asking question.principal one.target))
+      && (a || false)) || opened)
       (hits_own one question of_class Allow)
       ∙ ap (λ h. h || opened) (sym held)
 
@@ -170,13 +177,19 @@ module _ (rules : Contents) where
       → (from : Option (List ℕ)) × (Contains (hosts_asked host (asking question.principal (own_target question))) from
       × ((entry : ℕ × Binding) → Contains (asking question.principal (own_target question)) entry
       → covers_party (codes "*") entry.1.host from ≡ covers_party (codes "*") entry.1.host (Some question.host)))
-  host_class question (Some host) speaks =
-      (Some host, (at_head (Some host) [], λ entry there. ap (λ (h : List ℕ). covers_party (codes "*") entry.1.host (Some h)) speaks))
+  host_class question (Some host) speaks = (
+    Some host,
+    (
+      at_head (Some host) [],
+      λ entry there. ap (λ (h : List ℕ). covers_party (codes "*") entry.1.host (Some h)) speaks,
+    ),
+  )
   host_class question None speaks =
       let near : List (ℕ × Binding) = asking question.principal (own_target question) in (
         party_for (hosts_of near) question.host,
         (
-          subst (λ (ps : List (Option (List ℕ))). Contains ps (party_for (hosts_of near) question.host)) (sym (hosts_are near))
+          subst (λ (ps : List (Option (List ℕ))). Contains ps (party_for (hosts_of near) question.host))
+              (sym (hosts_are near))
               (party_there (hosts_of near) question.host),
           λ entry there.
               covers_same (codes "*") entry.1.host question.host (hosts_of near)
@@ -185,7 +198,8 @@ module _ (rules : Contents) where
       )
 
   classed : (question : Question) (host : Option (List ℕ)) → IsAskable question → SpeaksOf question.host host
-      → (one : Holding) × (Contains (holdings_of rules question.principal host) one × IsOf rules question.principal one question)
+      → (one : Holding) × (Contains (holdings_of rules question.principal host) one
+      × IsOf rules question.principal one question)
   classed question host askable speaks =
       let own : List (ℕ × Binding) = own_entries rules question.principal in
       let target : Target = own_target question in
@@ -219,7 +233,8 @@ pub lists_holdings : (rules : Contents) (principal : List ℕ) (host : Option (L
 lists_holdings rules principal host found is = record {
   exact = λ one question there askable plain of_class.
       subst (λ (p : List ℕ). Contains (holdings_of rules p host) one → is_super rules.supers p ≡ false
-      → IsOf rules p one question → is_yes rules question ≡ (is_held question.operation one || is_open_to_all rules question))
+      → IsOf rules p one question
+      → is_yes rules question ≡ (is_held question.operation one || is_open_to_all rules question))
       of_class.asked
       (λ in_list plain' of_class'. decided rules one question host in_list askable plain' of_class')
       (subst (λ (hs : List Holding). Contains hs one) is there) plain of_class;

@@ -27,21 +27,28 @@ or_true : (b : Bool) → (b || (true || false)) ≡ true
 or_true true = refl
 or_true false = refl
 
+-- what stands in a tree after a key is put there
+pub key_put : (keys : PrefixMap) (key text : List ℕ)
+    → is_held (added keys key Literal 0) text ≡ (is_held keys text || (same_text text key || false))
+key_put keys key text =
+    elim (cases_Bool (same_text text key)) [
+      | inl is ↦
+          let equal : text ≡ key = (bytes_eq-Decides text key).0 is in
+          rw is (subst (λ (t : List ℕ). is_held (added keys key Literal 0) t ≡ true) (sym equal)
+          (ap (λ (h : Held). list_any (λ _. true) h.0) (held_added_same keys key Literal 0)
+          ∙ some_last (held keys key).0 0)
+          ∙ sym (or_true (is_held keys text)))
+      | inr other ↦
+          rw other (ap (λ (h : Held). list_any (λ _. true) h.0)
+          (held_added_other keys key Literal 0 text
+          (λ equal. both_ways _ other ((bytes_eq-Decides text key).1 equal)))
+          ∙ sym (or_false (is_held keys text)))
+    ]
+
 pub put_held : (made : List (Option (List ℕ))) (keys : PrefixMap) (key : List ℕ)
     → ((text : List ℕ) → list_any (is_party text) made ≡ is_held keys text)
     → (text : List ℕ) → list_any (is_party text) (made ++ Some key ∷ []) ≡ is_held (added keys key Literal 0) text
 put_held made keys key same text =
     list_any-append (is_party text) made (Some key ∷ [])
-    ∙ elim (cases_Bool (same_text text key)) [
-      | inl is ↦
-          let equal : text ≡ key = (bytes_eq-Decides text key).0 is in
-          rw is (or_true (list_any (is_party text) made)
-          ∙ sym (subst (λ (t : List ℕ). is_held (added keys key Literal 0) t ≡ true) (sym equal)
-          (ap (λ (h : Held). list_any (λ _. true) h.0) (held_added_same keys key Literal 0)
-          ∙ some_last (held keys key).0 0)))
-      | inr other ↦
-          rw other (or_false (list_any (is_party text) made) ∙ same text
-          ∙ sym (ap (λ (h : Held). list_any (λ _. true) h.0)
-          (held_added_other keys key Literal 0 text
-          (λ equal. both_ways _ other ((bytes_eq-Decides text key).1 equal)))))
-    ]
+    ∙ ap (λ b. b || (same_text text key || false)) (same text)
+    ∙ sym (key_put keys key text)

@@ -38,13 +38,16 @@ module _ (rules : Contents) (rising : IsRising 1 rules.entries rules.next) where
         | inr none ↦ ap not none
       ]))
 
-  pub lists_unused : (found : List Unneeded) → found ≡ map (unused_entry rules) (unneeded rules) → ListsUnused rules found
+  pub lists_unused : (found : List Unneeded) → found ≡ map (unused_entry rules) (unneeded rules)
+      → ListsUnused rules found
   lists_unused found is = record {
     exact = λ entry there. (
       (λ has. listed entry there (subst (λ (us : List Unneeded). Contains us (unused_entry rules entry)) is has)),
-      (λ alike. subst (λ (us : List Unneeded). Contains us (unused_entry rules entry)) (sym is) (unlisted entry there alike)),
+      (λ alike. subst (λ (us : List Unneeded). Contains us (unused_entry rules entry)) (sym is)
+          (unlisted entry there alike)),
     );
-    only = all_of (λ (one : Unneeded). (entry : ℕ × Binding) × (Contains rules.entries entry × (one ≡ unused_entry rules entry))) found
+    only = all_of (λ (one : Unneeded). (entry : ℕ × Binding)
+        × (Contains rules.entries entry × (one ≡ unused_entry rules entry))) found
         (λ one there.
         let (entry, (in_list, same)) = given_by (unused_entry rules) (unneeded rules) one
         (subst (λ (us : List Unneeded). Contains us one) is there) in

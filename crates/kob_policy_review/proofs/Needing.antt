@@ -93,7 +93,8 @@ module _ (serial : ℕ) where
   unfolding needed_on
   unfolded_on rules target = refl
 
-  pub unfolded_by : (supers : List (List ℕ)) (everyone : Bool) (matching : List (ℕ × Binding)) (principal : Option (List ℕ))
+  pub unfolded_by : (supers : List (List ℕ)) (everyone : Bool) (matching : List (ℕ × Binding))
+      (principal : Option (List ℕ))
       → is_super_party supers principal ≡ false
       → needed_by supers everyone matching principal
       ≡ flat_map (needed_from (closing everyone matching) (filter (is_for principal) matching))
@@ -101,7 +102,8 @@ module _ (serial : ℕ) where
   unfolding needed_by needed_among
   unfolded_by supers everyone matching principal plain = rw plain refl
 
-  pub super_by : (supers : List (List ℕ)) (everyone : Bool) (matching : List (ℕ × Binding)) (principal : Option (List ℕ))
+  pub super_by : (supers : List (List ℕ)) (everyone : Bool) (matching : List (ℕ × Binding))
+      (principal : Option (List ℕ))
       → is_super_party supers principal ≡ true → list_any is_it (needed_by supers everyone matching principal) ≡ false
   unfolding needed_by needed_among
   super_by supers everyone matching principal super = rw super refl
@@ -159,7 +161,8 @@ module _ (rules : Contents) (rising : IsRising 1 rules.entries rules.next) (seri
             within who where_from) in
             let after = answered_as question target principal host (without serial rules)
             (stands_for all (without serial rules).entries question (principals_of matching) (hosts_of asking)
-            askable (λ entry there. within entry (was_there entry there)) (λ entry there. who entry (was_there entry there))
+            askable (λ entry there. within entry (was_there entry there))
+            (λ entry there. who entry (was_there entry there))
             (λ entry there. where_from entry (was_there entry there))) in
             let at_target = none_flat (is_it serial) (needed_on rules) (targets_named all) target none
             (all_named open_targets all target (target_there all question.resource question.name)) in
@@ -174,7 +177,8 @@ module _ (rules : Contents) (rising : IsRising 1 rules.entries rules.next) (seri
             (subst (λ ps. Contains ps host) (sym (hosts_are asking)) (party_there (hosts_of asking) question.host)) in
             let at_operation = none_flat (is_it serial) (needed_to (closing rules.everyone matching) asking host)
             operations question.operation
-            (ap (list_any (is_it serial)) (sym (unfolded_from serial (closing rules.everyone matching) asking host)) ∙ at_host)
+            (ap (list_any (is_it serial)) (sym (unfolded_from serial (closing rules.everyone matching) asking host))
+            ∙ at_host)
             (asked_there question.operation askable.operation) in
             let same = same_unless _ _ (told_at target principal host question.operation ∙ at_operation) in
             before
@@ -203,35 +207,46 @@ module _ (rules : Contents) (rising : IsRising 1 rules.entries rules.next) (seri
       let before = answered_as question class.target class.principal class.host rules
       (stands_marked (spare rules) class rules.entries clear) in
       let after = answered_as question class.target class.principal class.host (without serial rules)
-      (stands_marked (spare rules) class (without serial rules).entries (λ entry there. clear entry (was_there entry there))) in
+      (stands_marked (spare rules) class (without serial rules).entries
+      (λ entry there. clear entry (was_there entry there))) in
       let same = alike question (askable_marked (spare rules) class all op on) in
       let both : yes_in false rules.everyone (on_target class.target) class.principal class.host class.operation
-      ≡ yes_in false rules.everyone (filter (is_on class.target) (without serial rules).entries) class.principal class.host class.operation =
-      ap (λ s. yes_in s rules.everyone (on_target class.target) class.principal class.host class.operation) (sym no_super)
+      ≡ yes_in false rules.everyone (filter (is_on class.target) (without serial rules).entries) class.principal
+      class.host class.operation =
+      ap (λ s. yes_in s rules.everyone (on_target class.target) class.principal class.host class.operation)
+      (sym no_super)
       ∙ sym before ∙ same ∙ after
-      ∙ ap (λ s. yes_in s rules.everyone (filter (is_on class.target) (without serial rules).entries) class.principal class.host
+      ∙ ap (λ s. yes_in s rules.everyone (filter (is_on class.target) (without serial rules).entries) class.principal
+      class.host
       class.operation) no_super in
       not_same (yes_in false rules.everyone (on_target class.target) class.principal class.host class.operation)
-      (yes_in false rules.everyone (filter (is_on class.target) (without serial rules).entries) class.principal class.host
+      (yes_in false rules.everyone (filter (is_on class.target) (without serial rules).entries) class.principal
+      class.host
       class.operation) both (told_at class.target class.principal class.host class.operation ∙ found)
 
   -- where a binding is needed, an answer changes without it
-  pub changes_over : list_any (is_it serial) (needed_over all rules) ≡ true → AnswerAlike rules (without serial rules) → ⊥
+  pub changes_over : list_any (is_it serial) (needed_over all rules) ≡ true → AnswerAlike rules (without serial rules)
+      → ⊥
   changes_over some alike =
       let (target, (on, at_target)) = some_flat (is_it serial) (needed_on rules) (targets_named all) some in
       let matching : List (ℕ × Binding) = on_target target in
-      let (principal, (named, at_principal)) = some_flat (is_it serial) (needed_by rules.supers rules.everyone matching)
+      let (principal, (named, at_principal)) =
+      some_flat (is_it serial) (needed_by rules.supers rules.everyone matching)
       (principals_named matching) (sym (unfolded_on serial rules target) ∙ at_target) in
       elim (cases_Bool (is_super_party rules.supers principal)) [
         | inl super ↦ both_ways _ (super_by serial rules.supers rules.everyone matching principal super) at_principal
         | inr plain ↦
             let asking : List (ℕ × Binding) = filter (is_for principal) matching in
-            let (host, (from, at_host)) = some_flat (is_it serial) (needed_from (closing rules.everyone matching) asking)
+            let (host, (from, at_host)) =
+            some_flat (is_it serial) (needed_from (closing rules.everyone matching) asking)
             (hosts_named asking)
-            (ap (list_any (is_it serial)) (sym (unfolded_by serial rules.supers rules.everyone matching principal plain)) ∙ at_principal) in
-            let (operation, (op, found)) = some_flat (is_it serial) (needed_to (closing rules.everyone matching) asking host)
+            (ap (list_any (is_it serial))
+            (sym (unfolded_by serial rules.supers rules.everyone matching principal plain)) ∙ at_principal) in
+            let (operation, (op, found)) =
+            some_flat (is_it serial) (needed_to (closing rules.everyone matching) asking host)
             operations
-            (ap (list_any (is_it serial)) (sym (unfolded_from serial (closing rules.everyone matching) asking host)) ∙ at_host) in
+            (ap (list_any (is_it serial)) (sym (unfolded_from serial (closing rules.everyone matching) asking host))
+            ∙ at_host) in
             changed (record { principal = principal; host = host; operation = operation; target = target })
             (only_named open_targets all target on) op plain found alike
       ]

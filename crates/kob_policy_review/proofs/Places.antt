@@ -54,7 +54,8 @@ module _ (place : ℕ) (tree : PrefixMap) (entry : ℕ × Binding) where
       kept_there tree (to_be_bytes w64 entry.0) place (to_be_bytes w64 serial) other there
 
 all_kept : (place : ℕ) (tree : PrefixMap) (entries : List (ℕ × Binding)) (serial other : ℕ)
-    → Contains (places_in tree serial) other → Contains (places_in (fold (with_place place) tree entries) serial) other
+    → Contains (places_in tree serial) other
+    → Contains (places_in (fold (with_place place) tree entries) serial) other
 all_kept place tree [] serial other there = there
 all_kept place tree (entry ∷ rest) serial other there =
     all_kept place (with_place place tree entry) rest serial other (place_kept place tree entry serial other there)
@@ -111,13 +112,16 @@ last_placed targets tree last placed place target at =
     elim (before_or_last targets place target at) [
       | inl before ↦ still_placed targets tree (text_of last.names) (length targets) placed place target before
       | inr is ↦
-          subst (λ p. Contains (held (added tree (text_of last.names) Literal (length targets)) (text_of target.names)).0 p)
+          subst (λ p. Contains (held (added tree (text_of last.names) Literal (length targets))
+          (text_of target.names)).0 p)
           (sym is.0)
-          (subst (λ (t : Target). Contains (held (added tree (text_of last.names) Literal (length targets)) (text_of t.names)).0
+          (subst (λ (t : Target). Contains
+          (held (added tree (text_of last.names) Literal (length targets)) (text_of t.names)).0
           (length targets)) is.1 (put_there tree (text_of last.names) (length targets)))
     ]
   where
-    before_or_last : (xs : List Target) (place : ℕ) (target : Target) → slice_get (xs ++ last ∷ []) place ≡ Some target
+    before_or_last : (xs : List Target) (place : ℕ) (target : Target)
+        → slice_get (xs ++ last ∷ []) place ≡ Some target
         → (slice_get xs place ≡ Some target) ⊎ ((place ≡ length xs) × (last ≡ target))
     before_or_last [] zero target at = inr (refl, (let is : last ≡ target = cc in is))
     before_or_last [] (suc place) target at = absurd cc
@@ -134,7 +138,8 @@ pub listed_at : (targets : List Target) (tree : PrefixMap) (target : Target) →
     ≡ list_any (same_target target) targets
 listed_at targets tree target placed = same_when _ _
     (λ found.
-    let (place, (there, is)) = passing (λ p. is_at target (slice_get targets p)) (held tree (text_of target.names)).0 found in
+    let (place, (there, is)) =
+    passing (λ p. is_at target (slice_get targets p)) (held tree (text_of target.names)).0 found in
     elim (slice_get targets place) as (λ (t : Option Target).
     slice_get targets place ≡ t → is_at target t ≡ true → list_any (same_target target) targets ≡ true) [
       | None ↦ λ _ no_one. absurd cc
@@ -144,7 +149,8 @@ listed_at targets tree target placed = same_when _ _
     ] refl is)
     (λ found.
     let (other, (there, same)) = passing (same_target target) targets found in
-    let at : slice_get targets there.0 ≡ Some other = slice_get_read targets _ there.0 other refl there.1 (sym there.2) in
+    let at : slice_get targets there.0 ≡ Some other =
+    slice_get_read targets _ there.0 other refl there.1 (sym there.2) in
     any_passes (λ p. is_at target (slice_get targets p)) (held tree (text_of target.names)).0 there.0
     (subst (λ (t : Target). Contains (held tree (text_of t.names)).0 there.0) (sym (target_equal target other same))
     (placed there.0 other at))

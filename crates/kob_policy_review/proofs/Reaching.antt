@@ -113,7 +113,8 @@ module _ (rules : Contents) (resource : ResourceKind) (prefix : List ℕ) where
         | inl literal ↦ rw literal starts
         | inr plain ↦
             let longer : length prefix ≤ length (longest resource name more) =
-            longest_most resource name more (as_entry resource prefix) (at_head (as_entry resource prefix) rules.entries)
+            longest_most resource name more (as_entry resource prefix)
+            (at_head (as_entry resource prefix) rules.entries)
             (and_from (same_resource resource resource) (starts_with nat_eq name prefix)
             ((resource_decides resource resource).1 refl) starts) in
             rw plain (sym (starts_below name (longest resource name more) prefix (longest_takes resource name more)
@@ -168,7 +169,8 @@ module _ (rules : Contents) (resource : ResourceKind) (prefix : List ℕ) where
   name_below target there =
       let (in_all, is) = was_kept (is_below resource prefix)
       (fold with_target_of (with_target open_targets (at_prefix resource prefix)) rules.entries) target there in
-      let parts = and_parts (same_resource target.resource resource) (starts_with nat_eq (text_of target.names) prefix) is in
+      let parts = and_parts (same_resource target.resource resource)
+      (starts_with nat_eq (text_of target.names) prefix) is in
       let of_kind = (resource_decides target.resource resource).0 parts.0 in
       let named : Contains (targets more) target =
       only_named open_targets more target
@@ -177,7 +179,8 @@ module _ (rules : Contents) (resource : ResourceKind) (prefix : List ℕ) where
         record {
           begins = name_starts (spare rules) target.names parts.1;
           only = λ of_cluster.
-              ap (λ (t : Target). names_text (spare rules) t.names) (cluster_alone more target named (of_kind ∙ of_cluster));
+              ap (λ (t : Target). names_text (spare rules) t.names)
+              (cluster_alone more target named (of_kind ∙ of_cluster));
         },
       )
 
@@ -187,7 +190,8 @@ module _ (rules : Contents) (resource : ResourceKind) (prefix : List ℕ) where
       kept_by_filter (is_on_one below) rules.entries entry in_rules
       (any_passes (λ t. is_on t entry) below target in_below on)
 
-  module _ (one : Reach) (principal host : List ℕ) (operation : Operation) (of_class : IsAsker rules resource prefix one principal host)
+  module _ (one : Reach) (principal host : List ℕ) (operation : Operation)
+      (of_class : IsAsker rules resource prefix one principal host)
       (plain : is_super rules.supers principal ≡ false) where
     abbrev asking : List (ℕ × Binding)
     asking = filter (is_for one.principal) near
@@ -196,12 +200,14 @@ module _ (rules : Contents) (resource : ResourceKind) (prefix : List ℕ) where
     asked name = question_of principal host operation resource name
 
     module _ (target : Target) (in_below : Contains below target) (name : List ℕ)
-        (on : (entry : ℕ × Binding) → Contains rules.entries entry → is_on target entry ≡ is_match (asked name) entry) where
+        (on : (entry : ℕ × Binding) → Contains rules.entries entry
+        → is_on target entry ≡ is_match (asked name) entry) where
       hits_there : (permission : Permission) → list_any (is_hit permission (asked name)) rules.entries
           ≡ list_any (is_met_on target permission one.host operation) asking
       hits_there permission =
           any_alike (is_hit permission (asked name))
-          (λ entry. is_on_one below entry && (is_for one.principal entry && is_met_on target permission one.host operation entry))
+          (λ entry. is_on_one below entry
+          && (is_for one.principal entry && is_met_on target permission one.host operation entry))
           rules.entries
           (λ entry there.
           hit_bools (same_permission entry.1.permission permission) (same_resource entry.1.resource resource)
@@ -211,7 +217,8 @@ module _ (rules : Contents) (resource : ResourceKind) (prefix : List ℕ) where
           (covers_party (codes "*") entry.1.host one.host) (on entry there)
           (λ is_on_it. any_passes (λ t. is_on t entry) below target in_below is_on_it)
           (λ is_near. of_class.who entry (kept_by_filter (is_on_one below) rules.entries entry there is_near))
-          (λ is_near covered. of_class.hosts entry (kept_by_filter (is_on_one below) rules.entries entry there is_near) covered))
+          (λ is_near covered. of_class.hosts entry
+          (kept_by_filter (is_on_one below) rules.entries entry there is_near) covered))
           ∙ sym (any_kept (is_on_one below) (λ entry. is_for one.principal entry
           && is_met_on target permission one.host operation entry) rules.entries)
           ∙ sym (any_kept (is_for one.principal) (is_met_on target permission one.host operation) near)
@@ -220,7 +227,8 @@ module _ (rules : Contents) (resource : ResourceKind) (prefix : List ℕ) where
       decided_there : is_yes rules (asked name) ≡ yes_at asking one.host operation (place_on rules target)
       decided_there =
           yes_is rules (asked name)
-          ∙ ap (λ s. granted s (list_any (is_hit Deny (asked name)) rules.entries) (list_any (is_hit Allow (asked name)) rules.entries)
+          ∙ ap (λ s. granted s (list_any (is_hit Deny (asked name)) rules.entries)
+          (list_any (is_hit Allow (asked name)) rules.entries)
           (rules.everyone && not (list_any (is_match (asked name)) rules.entries))) plain
           ∙ granted_same false _ _ _ _ rules.everyone _ _ (hits_there Deny) (hits_there Allow)
           (any_alike (is_match (asked name)) (is_on target) rules.entries (λ entry there. sym (on entry there)))
@@ -238,10 +246,12 @@ module _ (rules : Contents) (resource : ResourceKind) (prefix : List ℕ) where
         decided_there target there (name_on target) (on_marked target (name_below target there).0)
 
     on_name : (name : List ℕ) → BeginsWith resource prefix name
-        → is_yes rules (asked name) ≡ yes_at asking one.host operation (place_on rules (target_for more resource name))
+        → is_yes rules (asked name)
+        ≡ yes_at asking one.host operation (place_on rules (target_for more resource name))
     on_name name is =
         decided_there (target_for more resource name) (stands_below name is) name
-        (λ entry there. on_for more resource name is.only entry (Contains-append_right (as_entry resource prefix ∷ []) rules.entries entry there))
+        (λ entry there. on_for more resource name is.only entry
+        (Contains-append_right (as_entry resource prefix ∷ []) rules.entries entry there))
 
     abbrev places : List Place
     places = map (place_on rules) below
@@ -315,7 +325,8 @@ module _ (rules : Contents) (resource : ResourceKind) (prefix : List ℕ) where
 
     by_list : (principal : Option (List ℕ)) → is_super_party rules.supers principal ≡ false
         → reaches_by rules.supers (map (place_on rules) below) near operation principal
-        ≡ map (reach_from (map (place_on rules) below) (own principal) operation principal) (hosts_named (own principal))
+        ≡ map (reach_from (map (place_on rules) below) (own principal) operation principal)
+        (hosts_named (own principal))
     unfolding reaches_by
     by_list principal plain = rw plain refl
 
@@ -342,16 +353,19 @@ module _ (rules : Contents) (resource : ResourceKind) (prefix : List ℕ) where
               let none = subst (λ (rs : List Reach). Contains rs one) (by_none principal super) at_principal in
               absurd (omega (arith, none.1))
           | inr plain ↦
-              let (host, (_, is)) = given_by (reach_from (map (place_on rules) below) (own principal) operation principal)
+              let (host, (_, is)) = given_by
+              (reach_from (map (place_on rules) below) (own principal) operation principal)
               (hosts_named (own principal)) one
               (subst (λ (rs : List Reach). Contains rs one) (by_list principal plain) at_principal) in
               let parts = sym (from_is principal host) ∙ is in
               let whom : principal ≡ one.principal = ap (λ (r : Reach). r.principal) parts in
               let from : host ≡ one.host = ap (λ (r : Reach). r.host) parts in
               sym (ap (λ (r : Reach). r.share) parts)
-              ∙ ap (λ (p : Option (List ℕ)). share_of (list_any (yes_at (own p) host operation) (map (place_on rules) below))
+              ∙ ap (λ (p : Option (List ℕ)).
+              share_of (list_any (yes_at (own p) host operation) (map (place_on rules) below))
               (list_all (yes_at (own p) host operation) (map (place_on rules) below))) whom
-              ∙ ap (λ (h : Option (List ℕ)). share_of (list_any (yes_at (own one.principal) h operation) (map (place_on rules) below))
+              ∙ ap (λ (h : Option (List ℕ)).
+              share_of (list_any (yes_at (own one.principal) h operation) (map (place_on rules) below))
               (list_all (yes_at (own one.principal) h operation) (map (place_on rules) below))) from
         ]
 
@@ -367,11 +381,14 @@ module _ (rules : Contents) (resource : ResourceKind) (prefix : List ℕ) where
         let parts = from_is party from in
         let at_host : Contains (reaches_by rules.supers (map (place_on rules) below) near operation party) one =
         subst (λ (rs : List Reach). Contains rs one) (sym (by_list party no_super))
-        (among_mapped (reach_from (map (place_on rules) below) (own party) operation party) (hosts_named (own party)) from
-        (subst (λ (ps : List (Option (List ℕ))). Contains ps from) (sym (hosts_are (own party))) (party_there hosts host))) in
+        (among_mapped (reach_from (map (place_on rules) below) (own party) operation party) (hosts_named (own party))
+        from
+        (subst (λ (ps : List (Option (List ℕ))). Contains ps from) (sym (hosts_are (own party)))
+        (party_there hosts host))) in
         let there : Contains (reaches_below rules operation resource prefix) one =
         subst (λ (rs : List Reach). Contains rs one) (sym below_list)
-        (in_flat (reaches_by rules.supers (map (place_on rules) below) near operation) (principals_named near) party one
+        (in_flat (reaches_by rules.supers (map (place_on rules) below) near operation) (principals_named near) party
+        one
         (subst (λ (ps : List (Option (List ℕ))). Contains ps party) (sym (principals_are near))
         (party_there (principals_of near) principal)) at_host) in
         let asker : IsAsker rules resource prefix (record {
@@ -390,7 +407,8 @@ module _ (rules : Contents) (resource : ResourceKind) (prefix : List ℕ) where
         } in
         (one, (there, subst (λ (r : Reach). IsAsker rules resource prefix r principal host) (sym parts) asker))
 
-pub lists_reaches : (rules : Contents) (operation : Operation) (resource : ResourceKind) (prefix : List ℕ) (found : List Reach)
+pub lists_reaches : (rules : Contents) (operation : Operation) (resource : ResourceKind) (prefix : List ℕ)
+    (found : List Reach)
     → found ≡ reaches_below rules operation resource prefix → ListsReaches rules operation resource prefix found
 lists_reaches rules operation resource prefix found is = record {
   exact = λ one principal host there plain of_class.

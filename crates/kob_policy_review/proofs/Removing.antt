@@ -45,7 +45,8 @@ for_some None (deny ∷ (other ∷ more)) [] s found = absurd cc
 for_some None (deny ∷ (other ∷ more)) (allow ∷ rest) s found = absurd cc
 
 -- what is met asks
-met_asks : (permission : Permission) (host : Option (List ℕ)) (operation : Operation) (asking : List (ℕ × Binding)) (s : ℕ)
+met_asks : (permission : Permission) (host : Option (List ℕ)) (operation : Operation) (asking : List (ℕ × Binding))
+    (s : ℕ)
     → Contains (met permission host operation asking) s → (x : ℕ × Binding) × (Contains asking x × (x.0 ≡ s))
 met_asks permission host operation asking s there =
     let (x, (in_list, same)) = given_by (λ (entry : ℕ × Binding). entry.0) _ s there in
@@ -62,7 +63,8 @@ to_some alone asking host operation s found =
       | inr (inr allows) ↦ inr (met_asks Allow host operation asking s allows)
     ]
 
-module _ (supers : List (List ℕ)) (everyone : Bool) (matching : List (ℕ × Binding)) (principal : Option (List ℕ)) (s : ℕ) where
+module _ (supers : List (List ℕ)) (everyone : Bool) (matching : List (ℕ × Binding)) (principal : Option (List ℕ))
+    (s : ℕ) where
   by_some : list_any (is_it s) (needed_by supers everyone matching principal) ≡ true
       → (closing everyone matching ≡ Some s)
       ⊎ ((x : ℕ × Binding) × (Contains matching x × ((is_for principal x ≡ true) × (x.0 ≡ s))))
@@ -72,8 +74,10 @@ module _ (supers : List (List ℕ)) (everyone : Bool) (matching : List (ℕ × B
         | inr plain ↦
             let asking : List (ℕ × Binding) = filter (is_for principal) matching in
             let (host, (from, at_host)) = some_flat (is_it s) (needed_from (closing everyone matching) asking)
-            (hosts_named asking) (ap (list_any (is_it s)) (sym (unfolded_by s supers everyone matching principal plain)) ∙ found) in
-            let (operation, (op, at)) = some_flat (is_it s) (needed_to (closing everyone matching) asking host) operations
+            (hosts_named asking) (ap (list_any (is_it s))
+            (sym (unfolded_by s supers everyone matching principal plain)) ∙ found) in
+            let (operation, (op, at)) =
+            some_flat (is_it s) (needed_to (closing everyone matching) asking host) operations
             (ap (list_any (is_it s)) (sym (unfolded_from s (closing everyone matching) asking host)) ∙ at_host) in
             elim (to_some (closing everyone matching) asking host operation s at) [
               | inl closes ↦ inl closes
@@ -190,7 +194,8 @@ module _ (rules : Contents) (rising : IsRising 1 rules.entries rules.next) (gone
       narrowed rules.supers rules.everyone matching entry
       (λ x there same.
       one_of_serial 1 rules.next rules.entries x entry rising
-      ((was_kept (is_on target) rules.entries x (was_kept (is_outside gone) (filter (is_on target) rules.entries) x there).0).0)
+      ((was_kept (is_on target) rules.entries x
+      (was_kept (is_outside gone) (filter (is_on target) rules.entries) x there).0).0)
       in_force same)
       ∙ ap (λ (m : List (ℕ × Binding)). list_any (is_it entry.0)
       (flat_map (needed_by rules.supers rules.everyone m) (principals_named m)))
@@ -208,7 +213,8 @@ module _ (rules : Contents) (rising : IsRising 1 rules.entries rules.next) (gone
       (within x (was_kept (is_on target) left.entries x in_list).0) in_force same) principal holds in
       (was_kept (is_on target) left.entries entry found_it.0).1
 
-  module _ (tree : PrefixMap) (leads : LeadsToRows (map (row_on rules.entries) (targets_named rules.entries)) tree) where
+  module _ (tree : PrefixMap)
+      (leads : LeadsToRows (map (row_on rules.entries) (targets_named rules.entries)) tree) where
     abbrev at_place : ℕ → Bool
     at_place place = is_needed_at rules gone entry (slice_get (targets_named rules.entries) place)
 
@@ -232,12 +238,14 @@ module _ (rules : Contents) (rising : IsRising 1 rules.entries rules.next) (gone
     some_at : list_any (is_it entry.0) (needed_over rules.entries left) ≡ true
         → list_any at_place (places_in tree entry.0) ≡ true
     some_at found =
-        let (target, (there, holds)) = some_flat (is_it entry.0) (needed_on left) (targets_named rules.entries) found in
+        let (target, (there, holds)) =
+        some_flat (is_it entry.0) (needed_on left) (targets_named rules.entries) found in
         let at : slice_get (targets_named rules.entries) there.0 ≡ Some target =
         slice_get_read (targets_named rules.entries) _ there.0 target refl there.1 (sym there.2) in
         any_passes at_place (places_in tree entry.0) there.0
         (leads there.0 (row_on rules.entries target) entry
-        (slice_get-map (row_on rules.entries) (targets_named rules.entries) there.0 ∙ ap (option_map (row_on rules.entries)) at)
+        (slice_get-map (row_on rules.entries) (targets_named rules.entries) there.0
+        ∙ ap (option_map (row_on rules.entries)) at)
         (kept_by_filter (is_on target) rules.entries entry in_force (on_it target holds)))
         (ap (is_needed_at rules gone entry) at ∙ at_target target ∙ holds)
 
@@ -267,7 +275,8 @@ by_row rules gone entry (Some row) = is_needed_in rules.supers rules.everyone (f
 module _ {A : Type 0} (rules : Contents) (gone : ℕ → Bool) (entry : ℕ × Binding) (near : List (Vec (ℕ × Binding) A))
     (rows : rows_of near ≡ map (row_on rules.entries) (targets_named rules.entries)) where
   of_vec : (row : Option (Vec (ℕ × Binding) A))
-      → is_needed_of rules gone entry row ≡ by_row rules gone entry (option_map (λ (vec : Vec (ℕ × Binding) A). vec.items) row)
+      → is_needed_of rules gone entry row
+      ≡ by_row rules gone entry (option_map (λ (vec : Vec (ℕ × Binding) A). vec.items) row)
   of_vec None = refl
   of_vec (Some row) = refl
 

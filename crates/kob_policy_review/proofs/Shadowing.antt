@@ -30,7 +30,8 @@ module _ (beaten : Bool) (rules : Contents) (rising : IsRising 1 rules.entries r
 
   to_list : (target : Target) (principal host : Option (List ℕ)) (operation : Operation)
       → (beaten && list_any (is_met Deny host operation) (asking target principal)) ≡ false
-      → bearing_to beaten (asking target principal) host operation ≡ met Allow host operation (asking target principal)
+      → bearing_to beaten (asking target principal) host operation
+      ≡ met Allow host operation (asking target principal)
   unfolding bearing_to
   to_list target principal host operation open' = rw open' refl
 
@@ -40,7 +41,8 @@ module _ (beaten : Bool) (rules : Contents) (rising : IsRising 1 rules.entries r
   unfolding bearing_to
   to_none target principal host operation shut = rw shut refl
 
-  from_list : (target : Target) (principal host : Option (List ℕ)) → bearing_from beaten (asking target principal) host
+  from_list : (target : Target) (principal host : Option (List ℕ))
+      → bearing_from beaten (asking target principal) host
       ≡ flat_map (bearing_to beaten (asking target principal) host) operations
   unfolding bearing_from
   from_list target principal host = refl
@@ -81,7 +83,8 @@ module _ (beaten : Bool) (rules : Contents) (rising : IsRising 1 rules.entries r
       (λ e in_rules. omega (arith, in_sum weight rules.entries e in_rules)) in
       let (other, (kept, same)) = given_by (λ (e : ℕ × Binding). e.0)
       (filter (is_met Allow class.host class.operation) (asking class.target class.principal)) entry.0 is_met_there in
-      let at_met = was_kept (is_met Allow class.host class.operation) (asking class.target class.principal) other kept in
+      let at_met = was_kept (is_met Allow class.host class.operation) (asking class.target class.principal) other
+      kept in
       let at_for = was_kept (is_for class.principal) (matching class.target) other at_met.0 in
       let at_on = was_kept (is_on class.target) rules.entries other at_for.0 in
       let is : other ≡ entry = one_of_serial 1 rules.next rules.entries other entry rising at_on.0 there same in
@@ -110,7 +113,8 @@ module _ (beaten : Bool) (rules : Contents) (rising : IsRising 1 rules.entries r
       let (target, (on, at_target)) = from_flat (bearing_on beaten rules) (targets_named rules.entries) entry.0
       (subst (λ (ss : List ℕ). Contains ss entry.0) of_list found) in
       let (principal, (who, at_principal)) = from_flat (bearing_by beaten rules.supers (matching target))
-      (principals_named (matching target)) entry.0 (subst (λ (ss : List ℕ). Contains ss entry.0) (on_list target) at_target) in
+      (principals_named (matching target)) entry.0
+      (subst (λ (ss : List ℕ). Contains ss entry.0) (on_list target) at_target) in
       elim (cases_Bool (is_super_party rules.supers principal)) [
         | inl super ↦
             let none = subst (λ (ss : List ℕ). Contains ss entry.0) (by_none target principal super) at_principal in
@@ -119,20 +123,25 @@ module _ (beaten : Bool) (rules : Contents) (rising : IsRising 1 rules.entries r
             let (host, (where_from, at_host)) = from_flat (bearing_from beaten (asking target principal))
             (hosts_named (asking target principal)) entry.0
             (subst (λ (ss : List ℕ). Contains ss entry.0) (by_list target principal plain) at_principal) in
-            let (operation, (op, at_operation)) = from_flat (bearing_to beaten (asking target principal) host) operations entry.0
+            let (operation, (op, at_operation)) =
+            from_flat (bearing_to beaten (asking target principal) host) operations entry.0
             (subst (λ (ss : List ℕ). Contains ss entry.0) (from_list target principal host) at_host) in
             elim (cases_Bool (beaten && list_any (is_met Deny host operation) (asking target principal))) [
               | inl shut ↦
-                  let none = subst (λ (ss : List ℕ). Contains ss entry.0) (to_none target principal host operation shut) at_operation in
+                  let none = subst (λ (ss : List ℕ). Contains ss entry.0)
+                  (to_none target principal host operation shut) at_operation in
                   absurd (omega (arith, none.1))
               | inr open' ↦
-                  bears_at (record { principal = principal; host = host; operation = operation; target = target }) entry there on
-                  plain op open' (subst (λ (ss : List ℕ). Contains ss entry.0) (to_list target principal host operation open') at_operation)
+                  bears_at (record { principal = principal; host = host; operation = operation; target = target })
+                  entry there on
+                  plain op open' (subst (λ (ss : List ℕ). Contains ss entry.0)
+                  (to_list target principal host operation open') at_operation)
             ]
       ]
 
   -- and what bears somewhere is found
-  pub bears_found : (entry : ℕ × Binding) → Contains rules.entries entry → Bears entry → Contains (bearing beaten rules) entry.0
+  pub bears_found : (entry : ℕ × Binding) → Contains rules.entries entry → Bears entry
+      → Contains (bearing beaten rules) entry.0
   bears_found entry there bears =
       let question : Question = bears.0 in
       let bears_on = bears.1.0 in
@@ -140,21 +149,26 @@ module _ (beaten : Bool) (rules : Contents) (rising : IsRising 1 rules.entries r
       let principal : Option (List ℕ) = party_for (principals_of (matching target)) question.principal in
       let hosts : List (List ℕ) = hosts_of (asking target principal) in
       let host : Option (List ℕ) = party_for hosts question.host in
-      let stands = stands_for rules.entries rules.entries question (principals_of (matching target)) hosts bears_on.askable
+      let stands = stands_for rules.entries rules.entries question (principals_of (matching target)) hosts
+      bears_on.askable
       (λ e in_rules. in_rules)
       (λ e in_rules on. among_mapped (λ (x : ℕ × Binding). x.1.principal) (matching target) e
       (kept_by_filter (is_on target) rules.entries e in_rules on))
       (λ e in_rules on asks. among_mapped (λ (x : ℕ × Binding). x.1.host) (asking target principal) e
-      (kept_by_filter (is_for principal) (matching target) e (kept_by_filter (is_on target) rules.entries e in_rules on) asks)) in
+      (kept_by_filter (is_for principal) (matching target) e
+      (kept_by_filter (is_on target) rules.entries e in_rules on) asks)) in
       let plain = plain_party rules.supers (principals_of (matching target)) question.principal bears_on.plain in
-      let parts = and_parts _ _ (sym (hit_is question target principal host rules.entries stands Allow entry there) ∙ bears_on.hit) in
+      let parts = and_parts _ _
+      (sym (hit_is question target principal host rules.entries stands Allow entry there) ∙ bears_on.hit) in
       let more = and_parts _ _ parts.1 in
       let denies = hits_are question target principal host rules.entries stands Deny
       ∙ sym (any_some (is_met Deny host question.operation) (asking target principal)) in
       let open' : (beaten && list_any (is_met Deny host question.operation) (asking target principal)) ≡ false =
       ap (λ b. beaten && b) (sym denies) ∙ bears.1.1 in
-      let at_operation = subst (λ (ss : List ℕ). Contains ss entry.0) (sym (to_list target principal host question.operation open'))
-      (among_mapped (λ (e : ℕ × Binding). e.0) (filter (is_met Allow host question.operation) (asking target principal)) entry
+      let at_operation = subst (λ (ss : List ℕ). Contains ss entry.0)
+      (sym (to_list target principal host question.operation open'))
+      (among_mapped (λ (e : ℕ × Binding). e.0)
+      (filter (is_met Allow host question.operation) (asking target principal)) entry
       (kept_by_filter (is_met Allow host question.operation) (asking target principal) entry
       (kept_by_filter (is_for principal) (matching target) entry
       (kept_by_filter (is_on target) rules.entries entry there parts.0) more.0) more.1)) in
@@ -166,12 +180,14 @@ module _ (beaten : Bool) (rules : Contents) (rising : IsRising 1 rules.entries r
       (subst (λ (ps : List (Option (List ℕ))). Contains ps host) (sym (hosts_are (asking target principal)))
       (party_there hosts question.host)) at_host) in
       let at_target = subst (λ (ss : List ℕ). Contains ss entry.0) (sym (on_list target))
-      (in_flat (bearing_by beaten rules.supers (matching target)) (principals_named (matching target)) principal entry.0
+      (in_flat (bearing_by beaten rules.supers (matching target)) (principals_named (matching target)) principal
+      entry.0
       (subst (λ (ps : List (Option (List ℕ))). Contains ps principal) (sym (principals_are (matching target)))
       (party_there (principals_of (matching target)) question.principal)) at_principal) in
       subst (λ (ss : List ℕ). Contains ss entry.0) (sym of_list)
       (in_flat (bearing_on beaten rules) (targets_named rules.entries) target entry.0
-      (all_named open_targets rules.entries target (target_there rules.entries question.resource question.name)) at_target)
+      (all_named open_targets rules.entries target (target_there rules.entries question.resource question.name))
+      at_target)
 
 in_list : (serials : List ℕ) (serial : ℕ) → list_any (λ s. s == serial) serials ≡ true → Contains serials serial
 in_list serials serial found =
@@ -192,7 +208,8 @@ module _ (rules : Contents) (rising : IsRising 1 rules.entries rules.next) (entr
               | inl denied ↦ denied
               | inr free ↦
                   absurd (both_ways _ (not-true _ parts.1)
-                  (any_list (bearing true rules) entry.0 (bears_found true rules rising entry there (question, (bears, free)))))
+                  (any_list (bearing true rules) entry.0
+                  (bears_found true rules rising entry there (question, (bears, free)))))
             ];
         somewhere =
             let (question, (bears, open')) = found_bears false rules rising entry there
@@ -216,11 +233,13 @@ both_same : (one one' other other' : Bool) → one ≡ one' → other ≡ other'
 both_same one one' other other' first second = cc
 
 pub lists_shadowed : (rules : Contents) → IsRising 1 rules.entries rules.next → (found : List ℕ)
-    → found ≡ map (λ (entry : ℕ × Binding). entry.0) (filter (is_shadowed rules) rules.entries) → ListsShadowed rules found
+    → found ≡ map (λ (entry : ℕ × Binding). entry.0) (filter (is_shadowed rules) rules.entries)
+    → ListsShadowed rules found
 lists_shadowed rules rising found is = record {
   exact = λ entry there. (
     (λ has.
-        let (other, (kept, same)) = given_by (λ (e : ℕ × Binding). e.0) (filter (is_shadowed rules) rules.entries) entry.0
+        let (other, (kept, same)) =
+        given_by (λ (e : ℕ × Binding). e.0) (filter (is_shadowed rules) rules.entries) entry.0
         (subst (λ (ss : List ℕ). Contains ss entry.0) is has) in
         let was = was_kept (is_shadowed rules) rules.entries other kept in
         let equal : other ≡ entry = one_of_serial 1 rules.next rules.entries other entry rising was.0 there same in
@@ -228,7 +247,8 @@ lists_shadowed rules rising found is = record {
     (λ shadowed.
         subst (λ (ss : List ℕ). Contains ss entry.0) (sym is)
         (among_mapped (λ (e : ℕ × Binding). e.0) (filter (is_shadowed rules) rules.entries) entry
-        (kept_by_filter (is_shadowed rules) rules.entries entry there (is_shadowed_so rules rising entry there shadowed)))),
+        (kept_by_filter (is_shadowed rules) rules.entries entry there
+        (is_shadowed_so rules rising entry there shadowed)))),
   );
 }
 

@@ -41,9 +41,11 @@ module _ (rules : Contents) (resource : ResourceKind) (prefix : List ℕ) where
       let own = own_first rules resource prefix one entry in_those on in
       and_from (is_below resource prefix (first_of start entry)) (is_on (first_of start entry) entry) own.0 own.1.0)
       (λ is.
-      let parts = and_parts (is_below resource prefix (first_of start entry)) (is_on (first_of start entry) entry) is in
+      let parts = and_parts (is_below resource prefix (first_of start entry)) (is_on (first_of start entry) entry)
+      is in
       any_passes (λ t. is_on t entry) those (first_of start entry)
-      (in_below rules resource prefix (first_of start entry) (first_named rules resource prefix entry there) parts.0) parts.1)
+      (in_below rules resource prefix (first_of start entry) (first_named rules resource prefix entry there) parts.0)
+      parts.1)
 
   filter_alike : (xs : List (ℕ × Binding)) → ((x : ℕ × Binding) → Contains xs x → Contains rules.entries x)
       → filter (is_near start resource prefix) xs ≡ filter (is_on_one those) xs
@@ -76,7 +78,8 @@ module _ (rules : Contents) (resource : ResourceKind) (prefix : List ℕ) where
     own_there : (entry : ℕ × Binding) → Contains asking entry
         → (Contains those (first_of start entry)) × (is_on (first_of start entry) entry ≡ true)
     own_there entry there =
-        let is = (was_kept (is_on_one those) rules.entries entry (was_kept (is_for principal) close entry there).0).1 in
+        let is = (was_kept (is_on_one those) rules.entries entry
+        (was_kept (is_for principal) close entry there).0).1 in
         let parts = and_parts (is_below resource prefix (first_of start entry)) (is_on (first_of start entry) entry)
         (sym (near_is entry (in_rules entry there)) ∙ is) in (
           in_below rules resource prefix (first_of start entry)
@@ -149,7 +152,8 @@ module _ (rules : Contents) (resource : ResourceKind) (prefix : List ℕ) where
         let own = own_first rules resource prefix one entry in_those parts.0 in
         let free : denied (first_of start entry) ≡ false =
         false_from_ne_true (denied (first_of start entry)) (λ denies.
-        let (other, (other_there, met)) = passing (is_met_on (first_of start entry) Deny host operation) asking denies in
+        let (other, (other_there, met)) =
+        passing (is_met_on (first_of start entry) Deny host operation) asking denies in
         let both = met_parts (first_of start entry) other met in
         both_ways _ none (any_passes (is_met_on one Deny host operation) asking other other_there
         (and_from (is_on one other) (is_met Deny host operation other) (own.1.1 other both.0) both.1))) in
@@ -170,7 +174,8 @@ module _ (rules : Contents) (resource : ResourceKind) (prefix : List ℕ) where
         elim (or_cases (allowed one) ((place_on rules one).opened) parts.1) [
           | inl allow ↦ or_right (list_any is_opened spots) _ (by_allow one in_those parts.0 allow)
           | inr open_one ↦
-              or_left (list_any is_opened spots) _ (any_passes is_opened spots place there (ap is_opened (sym is) ∙ open_one))
+              or_left (list_any is_opened spots) _
+              (any_passes is_opened spots place there (ap is_opened (sym is) ∙ open_one))
         ])
 
     -- each deny is on some of the names
@@ -195,7 +200,8 @@ module _ (rules : Contents) (resource : ResourceKind) (prefix : List ℕ) where
         ∙ yes_from one
         (false_from_ne_true (denied one) (λ denies.
         let (other, (other_there, met)) = passing (is_met_on one Deny host operation) asking denies in
-        both_ways _ none (any_passes (is_met Deny host operation) asking other other_there (met_parts one other met).1)))
+        both_ways _ none (any_passes (is_met Deny host operation) asking other other_there
+        (met_parts one other met).1)))
         (or_left (allowed one) ((place_on rules one).opened)
         (any_passes (is_met_on one Allow host operation) asking entry there
         (and_from (is_on one entry) (is_met Allow host operation entry)
@@ -204,7 +210,8 @@ module _ (rules : Contents) (resource : ResourceKind) (prefix : List ℕ) where
     all_so : all_yes (names_below rules resource prefix) asking host operation ≡ list_all yes spots
     all_so = same_when _ _
         (λ is.
-        let parts = and_parts (not (list_any (is_met Deny host operation) asking)) (allowed start || list_all yes spots) is in
+        let parts = and_parts (not (list_any (is_met Deny host operation) asking))
+        (allowed start || list_all yes spots) is in
         elim (or_cases (allowed start) (list_all yes spots) parts.1) [
           | inl wide_one ↦ by_wide (not-true _ parts.0) wide_one
           | inr all ↦ all
@@ -228,18 +235,21 @@ module _ (rules : Contents) (resource : ResourceKind) (prefix : List ℕ) where
         (map f (hosts_named (filter (is_for principal) close))))
         (λ i host. reach_so principal host operation i)
 
-    pub reaches_so : flat_map (reaches_near rules.supers (names_below rules resource prefix) close operation) (principals_named close)
+    pub reaches_so : flat_map (reaches_near rules.supers (names_below rules resource prefix) close operation)
+        (principals_named close)
         ≡ reaches_below rules operation resource prefix
     unfolding reaches_below
     reaches_so =
-        ap (λ (f : Option (List ℕ) → List Reach). flat_map f (principals_named close)) (λ i principal. by_so principal i)
+        ap (λ (f : Option (List ℕ) → List Reach). flat_map f (principals_named close))
+        (λ i principal. by_so principal i)
 
 -- some entry passes exactly if some is left of a filter by the test
 pub some_kept : (test : ℕ × Binding → Bool) (entries : List (ℕ × Binding))
     → some_in (filter test entries) ≡ list_any test entries
 some_kept test [] = refl
 some_kept test (entry ∷ rest) =
-    elim (test entry) as (λ b. some_in (cond b (entry ∷ filter test rest) (filter test rest)) ≡ (b || list_any test rest)) [
+    elim (test entry) as (λ b. some_in (cond b (entry ∷ filter test rest) (filter test rest))
+    ≡ (b || list_any test rest)) [
       | true ↦ refl
       | false ↦ some_kept test rest
     ]

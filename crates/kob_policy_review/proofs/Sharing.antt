@@ -39,7 +39,8 @@ or_right false b is = is
 starts_itself : (text : List ℕ) → starts_with nat_eq text text ≡ true
 starts_itself text = begins_so text text [] (sym (append-nil text))
 
-starts_more : (text start front : List ℕ) → starts_with nat_eq text start ≡ true → starts_with nat_eq start front ≡ true
+starts_more : (text start front : List ℕ) → starts_with nat_eq text start ≡ true
+    → starts_with nat_eq start front ≡ true
     → starts_with nat_eq text front ≡ true
 starts_more text start front of_text of_start =
     begins_so text front (drop (length front) start ++ drop (length start) text)
@@ -85,7 +86,8 @@ takes_below Literal name prefix names on starts apart =
       | inr star ↦ absurd (both_ways _ apart star)
     ] in
     rw apart (
-      subst (λ (t : List ℕ). starts_with nat_eq t prefix ≡ true) (sym ((bytes_eq-Decides name (text_of names)).0 same)) starts,
+      subst (λ (t : List ℕ). starts_with nat_eq t prefix ≡ true)
+          (sym ((bytes_eq-Decides name (text_of names)).0 same)) starts,
       or_left (same_text name name) (same_text name (codes "*")) (same_itself name),
     )
 takes_below Prefixed name prefix names on starts apart =
@@ -126,13 +128,15 @@ module _ (rules : Contents) (resource : ResourceKind) (prefix : List ℕ) where
   pub first_named : (entry : ℕ × Binding) → Contains rules.entries entry
       → Contains (targets (as_entry resource prefix ∷ rules.entries)) (first_of first entry)
   first_named entry there =
-      elim (is_on first entry) as (λ b. Contains (targets (as_entry resource prefix ∷ rules.entries)) (cond b first (target_of entry))) [
+      elim (is_on first entry) as (λ b.
+      Contains (targets (as_entry resource prefix ∷ rules.entries)) (cond b first (target_of entry))) [
         | true ↦
             Contains-append_right open_targets (map target_of (as_entry resource prefix ∷ rules.entries)) first
             (among_mapped target_of (as_entry resource prefix ∷ rules.entries) (as_entry resource prefix)
             (at_head (as_entry resource prefix) rules.entries))
         | false ↦
-            Contains-append_right open_targets (map target_of (as_entry resource prefix ∷ rules.entries)) (target_of entry)
+            Contains-append_right open_targets (map target_of (as_entry resource prefix ∷ rules.entries))
+            (target_of entry)
             (among_mapped target_of (as_entry resource prefix ∷ rules.entries) entry
             (Contains-append_right (as_entry resource prefix ∷ []) rules.entries entry there))
       ]
@@ -150,7 +154,8 @@ module _ (rules : Contents) (resource : ResourceKind) (prefix : List ℕ) where
   pub in_below : (one : Target) → Contains (targets (as_entry resource prefix ∷ rules.entries)) one
       → is_below resource prefix one ≡ true → Contains below one
   in_below one named is =
-      let parts = and_parts (same_resource one.resource resource) (starts_with nat_eq (text_of one.names) prefix) is in
+      let parts = and_parts (same_resource one.resource resource) (starts_with nat_eq (text_of one.names) prefix)
+      is in
       target_below rules resource prefix one named ((resource_decides one.resource resource).0 parts.0) parts.1
 
   -- the cluster has one name
@@ -158,23 +163,27 @@ module _ (rules : Contents) (resource : ResourceKind) (prefix : List ℕ) where
     alone : one ≡ first
     alone =
         let (named, is) = of_below one there in
-        let parts = and_parts (same_resource one.resource resource) (starts_with nat_eq (text_of one.names) prefix) is in
+        let parts = and_parts (same_resource one.resource resource) (starts_with nat_eq (text_of one.names) prefix)
+        is in
         cluster_alone (as_entry resource prefix ∷ rules.entries) one named
         ((resource_decides one.resource resource).0 parts.0 ∙ of_cluster)
         ∙ ap (λ k. target_by k (record { kind = Prefixed; name = prefix })) (sym of_cluster)
 
   -- A kind of resource with many names.
 
-  module _ (plain : (pattern : Pattern) → target_by resource pattern ≡ target resource (names_by pattern.kind pattern.name))
+  module _ (plain : (pattern : Pattern)
+      → target_by resource pattern ≡ target resource (names_by pattern.kind pattern.name))
       (one : Target) (there : Contains below one) where
     of_kind : one.resource ≡ resource
     of_kind =
         (resource_decides one.resource resource).0
-        (and_parts (same_resource one.resource resource) (starts_with nat_eq (text_of one.names) prefix) (of_below one there).1).0
+        (and_parts (same_resource one.resource resource) (starts_with nat_eq (text_of one.names) prefix)
+        (of_below one there).1).0
 
     starts : starts_with nat_eq (text_of one.names) prefix ≡ true
     starts =
-        (and_parts (same_resource one.resource resource) (starts_with nat_eq (text_of one.names) prefix) (of_below one there).1).1
+        (and_parts (same_resource one.resource resource) (starts_with nat_eq (text_of one.names) prefix)
+        (of_below one there).1).1
 
     first_is : first ≡ target resource (Below prefix)
     first_is = plain (record { kind = Prefixed; name = prefix })
@@ -182,7 +191,8 @@ module _ (rules : Contents) (resource : ResourceKind) (prefix : List ℕ) where
     -- what is on the names that begin with the prefix is on all that do
     wide : (other : ℕ × Binding) → is_on first other ≡ true → is_on one other ≡ true
     wide other is =
-        let parts = and_parts (same_resource other.1.resource resource) (matches_below other.1.pattern.kind other.1.pattern.name prefix)
+        let parts = and_parts (same_resource other.1.resource resource)
+        (matches_below other.1.pattern.kind other.1.pattern.name prefix)
         (ap (λ (t : Target). is_on t other) (sym first_is) ∙ is) in
         and_from (same_resource other.1.resource one.resource) (matches_names other.1.pattern one.names)
         (ap (same_resource other.1.resource) of_kind ∙ parts.0)
@@ -208,7 +218,8 @@ module _ (rules : Contents) (resource : ResourceKind) (prefix : List ℕ) where
           ∙ of_kind
 
       on_names : matches_names entry.1.pattern one.names ≡ true
-      on_names = (and_parts (same_resource entry.1.resource one.resource) (matches_names entry.1.pattern one.names) on).1
+      on_names = (and_parts (same_resource entry.1.resource one.resource) (matches_names entry.1.pattern one.names)
+          on).1
 
       own_is : target_of entry ≡ target resource (names_by kind_is name_is)
       own_is = ap (λ k. target_by k entry.1.pattern) entry_kind ∙ plain entry.1.pattern
@@ -216,7 +227,8 @@ module _ (rules : Contents) (resource : ResourceKind) (prefix : List ℕ) where
       on_first : is_on first entry ≡ matches_below kind_is name_is prefix
       on_first =
           ap (λ (t : Target). is_on t entry) first_is
-          ∙ ap (λ b. b && matches_below kind_is name_is prefix) ((resource_decides entry.1.resource resource).1 entry_kind)
+          ∙ ap (λ b. b && matches_below kind_is name_is prefix)
+          ((resource_decides entry.1.resource resource).1 entry_kind)
 
       apart_is : is_on first entry ≡ false → matches_below kind_is name_is prefix ≡ false
       apart_is apart = sym on_first ∙ apart
@@ -227,17 +239,21 @@ module _ (rules : Contents) (resource : ResourceKind) (prefix : List ℕ) where
       own_below apart =
           let taken = takes_below kind_is name_is prefix one.names on_names starts (apart_is apart) in (
             ap (is_below resource prefix) own_is
-                ∙ and_from (same_resource resource resource) (starts_with nat_eq (text_of (names_by kind_is name_is)) prefix)
+                ∙ and_from (same_resource resource resource)
+                (starts_with nat_eq (text_of (names_by kind_is name_is)) prefix)
                 ((resource_decides resource resource).1 refl) taken.0,
             ap (λ (t : Target). is_on t entry) own_is
-                ∙ and_from (same_resource entry.1.resource resource) (matches_names entry.1.pattern (names_by kind_is name_is))
+                ∙ and_from (same_resource entry.1.resource resource)
+                (matches_names entry.1.pattern (names_by kind_is name_is))
                 ((resource_decides entry.1.resource resource).1 entry_kind) taken.1,
           )
 
       -- and what is on those that its pattern takes first
-      narrow : is_on first entry ≡ false → (other : ℕ × Binding) → is_on (target_of entry) other ≡ true → is_on one other ≡ true
+      narrow : is_on first entry ≡ false → (other : ℕ × Binding) → is_on (target_of entry) other ≡ true
+          → is_on one other ≡ true
       narrow apart other is =
-          let parts = and_parts (same_resource other.1.resource resource) (matches_names other.1.pattern (names_by kind_is name_is))
+          let parts = and_parts (same_resource other.1.resource resource)
+          (matches_names other.1.pattern (names_by kind_is name_is))
           (ap (λ (t : Target). is_on t other) (sym own_is) ∙ is) in
           and_from (same_resource other.1.resource one.resource) (matches_names other.1.pattern one.names)
           (ap (same_resource other.1.resource) of_kind ∙ parts.0)
@@ -254,7 +270,8 @@ module _ (rules : Contents) where
       Contains (targets_below rules.entries resource prefix) one → is_on one entry ≡ true
       → (is_below resource prefix (first_of (at_prefix resource prefix) entry) ≡ true)
       × ((is_on (first_of (at_prefix resource prefix) entry) entry ≡ true)
-      × ((other : ℕ × Binding) → is_on (first_of (at_prefix resource prefix) entry) other ≡ true → is_on one other ≡ true))
+      × ((other : ℕ × Binding) → is_on (first_of (at_prefix resource prefix) entry) other ≡ true
+      → is_on one other ≡ true))
 
   many_names : (resource : ResourceKind) (prefix : List ℕ)
       → ((pattern : Pattern) → target_by resource pattern ≡ target resource (names_by pattern.kind pattern.name))
@@ -262,7 +279,10 @@ module _ (rules : Contents) where
   many_names resource prefix plain one entry there on =
       elim (cases_Bool (is_on (at_prefix resource prefix) entry)) [
         | inl at ↦
-            rw at (begins_first rules resource prefix plain one there, (at, wide rules resource prefix plain one there))
+            rw at (
+              begins_first rules resource prefix plain one there,
+              (at, wide rules resource prefix plain one there),
+            )
         | inr apart ↦
             let own = own_below rules resource prefix plain one there entry on apart in
             rw apart (own.0, (own.1, narrow rules resource prefix plain one there entry on apart))
@@ -291,4 +311,5 @@ module _ (rules : Contents) where
       subst (λ (t : Target). is_on t entry ≡ true) (sym (alone rules Cluster prefix one there refl)) at
   all_wide Topic prefix one entry there at = wide rules Topic prefix (λ _. refl) one there entry at
   all_wide Group prefix one entry there at = wide rules Group prefix (λ _. refl) one there entry at
-  all_wide TransactionalId prefix one entry there at = wide rules TransactionalId prefix (λ _. refl) one there entry at
+  all_wide TransactionalId prefix one entry there at =
+      wide rules TransactionalId prefix (λ _. refl) one there entry at

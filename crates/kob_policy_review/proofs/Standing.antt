@@ -26,7 +26,8 @@ module _ {A : Type 0} where
   pub any_alike : (f g : A → Bool) (xs : List A) → ((x : A) → Contains xs x → f x ≡ g x)
       → list_any f xs ≡ list_any g xs
   any_alike f g xs agree = same_when _ _
-      (λ found. let (x, (there, passes)) = passing f xs found in any_passes g xs x there (sym (agree x there) ∙ passes))
+      (λ found. let (x, (there, passes)) = passing f xs found in
+      any_passes g xs x there (sym (agree x there) ∙ passes))
       (λ found. let (x, (there, passes)) = passing g xs found in any_passes f xs x there (agree x there ∙ passes))
 
   -- where none is found, none passes
@@ -43,7 +44,8 @@ module _ {A : Type 0} where
   pub any_kept : (p f : A → Bool) (xs : List A) → list_any f (filter p xs) ≡ list_any (λ x. p x && f x) xs
   any_kept p f [] = refl
   any_kept p f (x ∷ xs) =
-      elim (p x) as (λ b. list_any f (cond b (x ∷ filter p xs) (filter p xs)) ≡ ((b && f x) || list_any (λ y. p y && f y) xs)) [
+      elim (p x) as (λ b. list_any f (cond b (x ∷ filter p xs) (filter p xs))
+      ≡ ((b && f x) || list_any (λ y. p y && f y) xs)) [
         | true ↦ ap (λ b. f x || b) (any_kept p f xs)
         | false ↦ any_kept p f xs
       ]
@@ -137,7 +139,8 @@ pub longest_takes : (kind : ResourceKind) (name : List ℕ) (entries : List (ℕ
 unfolding longest
 longest_takes kind name [] = refl
 longest_takes kind name (entry ∷ rest) =
-    elim (cases_Bool (is_prefix_of kind name entry && nat_lt (length (longest kind name rest)) (length entry.1.pattern.name))) [
+    elim (cases_Bool (is_prefix_of kind name entry
+    && nat_lt (length (longest kind name rest)) (length entry.1.pattern.name))) [
       | inl more ↦ rw more (and_parts _ _ ((and_parts _ _ ((and_parts _ _ more).0)).1)).1
       | inr same ↦ rw same (longest_takes kind name rest)
     ]
@@ -157,7 +160,8 @@ longest_from : (kind : ResourceKind) (name : List ℕ) (entries : List (ℕ × B
 unfolding longest
 longest_from kind name [] = inl refl
 longest_from kind name (entry ∷ rest) =
-    elim (cases_Bool (is_prefix_of kind name entry && nat_lt (length (longest kind name rest)) (length entry.1.pattern.name))) [
+    elim (cases_Bool (is_prefix_of kind name entry
+    && nat_lt (length (longest kind name rest)) (length entry.1.pattern.name))) [
       | inl more ↦
           let is = (and_parts _ _ more).0 in
           let parts = and_parts _ _ is in
@@ -279,7 +283,8 @@ module _ (entries : List (ℕ × Binding)) (kind : ResourceKind) (name : List �
             ∙ rw (not-true _ last.1) (ap Exactly same)))
         | inr unnamed ↦
             elim (longest_from kind name entries) [
-              | inl none ↦ rw (unnamed, none) (Contains-append_left open_targets (map target_of entries) (others_on kind) open_one)
+              | inl none ↦ rw (unnamed, none)
+                  (Contains-append_left open_targets (map target_of entries) (others_on kind) open_one)
               | inr some ↦
                   rw unnamed (of_entry some.0 (Below (longest kind name entries)) some.1.0 some.1.1.0
                   (ap (λ (k : PatternKind). names_by k some.0.1.pattern.name) some.1.1.1.0 ∙ ap Below some.1.1.1.1))
@@ -343,7 +348,8 @@ module _ (made : List Target) (entry : ℕ × Binding) where
   known_kept : (t : Target) → Contains made t → Contains (with_target_of made entry) t
   unfolding with_target_of
   known_kept t there =
-      elim (list_any (same_target (target_of entry)) made) as (λ b. Contains (cond b made (made ++ target_of entry ∷ [])) t) [
+      elim (list_any (same_target (target_of entry)) made) as (λ b.
+      Contains (cond b made (made ++ target_of entry ∷ [])) t) [
         | true ↦ there
         | false ↦ Contains-append_left made (target_of entry ∷ []) t there
       ]
@@ -356,7 +362,8 @@ module _ (made : List Target) (entry : ℕ × Binding) where
             let (t, (there, same)) = passing (same_target (target_of entry)) made known in
             rw known (subst (Contains made) (sym (target_equal (target_of entry) t same)) there)
         | inr new ↦
-            rw new (Contains-append_right made (target_of entry ∷ []) (target_of entry) (at_head (target_of entry) []))
+            rw new (Contains-append_right made (target_of entry ∷ []) (target_of entry)
+            (at_head (target_of entry) []))
       ]
 
   only_put : (t : Target) → Contains (with_target_of made entry) t → Contains made t ⊎ (target_of entry ≡ t)
@@ -386,7 +393,8 @@ all_put made [] entry there = absurd (omega (arith, there.1))
 all_put made (first ∷ rest) entry there =
     elim (first_or_rest first rest entry there) [
       | inl same ↦
-          subst (λ (e : ℕ × Binding). Contains (fold with_target_of (with_target_of made first) rest) (target_of e)) same
+          subst (λ (e : ℕ × Binding). Contains (fold with_target_of (with_target_of made first) rest) (target_of e))
+          same
           (all_kept (with_target_of made first) rest (target_of first) (put made first))
       | inr later ↦ all_put (with_target_of made first) rest entry later
     ]

@@ -127,8 +127,8 @@ pub record IsAsker (rules : Contents) (resource : ResourceKind) (prefix : List �
       → covers_party (codes "*") entry.1.host one.host
       ≡ covers_party (codes "*") entry.1.host (Some host)
 
--- Each share is that of every principal and host of its class, and all are of a class, but for super
--- users, to whom all is granted.
+-- Each share is that of every principal and host of its class, and all are of a class, but for
+-- super users, to whom all is granted.
 pub record ListsReaches (rules : Contents) (operation : Operation) (resource : ResourceKind)
     (prefix : List ℕ) (found : List Reach) : Type 0 where
   pub exact : (one : Reach) (principal host : List ℕ) → Contains found one

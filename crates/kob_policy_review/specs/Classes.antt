@@ -38,7 +38,8 @@ representative mark class =
     question_of (party_text mark class.principal) (party_text mark class.host) class.operation
     class.target.resource (names_text mark class.target.names)
 
--- no literal but `*` takes the names below a prefix, and of the prefixes it and those it begins with
+-- no literal but `*` takes the names below a prefix, and of the prefixes it and those
+-- it begins with
 abbrev pub matches_below : PatternKind → List ℕ → List ℕ → Bool
 matches_below Literal pattern start = same_text pattern (codes "*")
 matches_below Prefixed pattern start = starts_with nat_eq start pattern

@@ -25,7 +25,8 @@ outcome_of before after = Same
 abbrev pub outcome : Contents → Contents → Question → Outcome
 outcome before after question = outcome_of (is_yes before question) (is_yes after question)
 
--- The bindings that count before and after, and whether what none matches is open to everyone there.
+-- The bindings that count before and after, and whether what none matches is open
+-- to everyone there.
 pub record Sides : Type 0 where
   pub before : List (ℕ × Binding)
   pub after : List (ℕ × Binding)

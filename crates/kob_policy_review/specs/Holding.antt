@@ -30,7 +30,8 @@ hosts_asked None asking = hosts_named asking
 
 unfoldable pub holdings_on : Contents → List ℕ → Option (List ℕ) → Target → List Holding
 holdings_on rules principal host target =
-    let asking : List (ℕ × Binding) = filter (is_for (Some principal)) (filter (is_on target) rules.entries) in
+    let asking : List (ℕ × Binding) =
+    filter (is_for (Some principal)) (filter (is_on target) rules.entries) in
     map (holding_from target asking) (hosts_asked host asking)
 
 -- what is granted on each name that the principal's bindings tell apart
@@ -58,8 +59,8 @@ pub record IsOf (rules : Contents) (principal : List ℕ) (one : Holding) (quest
       → covers_party (codes "*") entry.1.host one.host
       ≡ covers_party (codes "*") entry.1.host (Some question.host)
 
--- Of one who is no super user: a right on the names of a class is listed exactly if it is granted on
--- each of them, names apart that are open to everyone; and each question is of a class.
+-- Of one who is no super user: a right on the names of a class is listed exactly if it is granted
+-- on each of them, names apart that are open to everyone; and each question is of a class.
 pub record ListsHoldings (rules : Contents) (principal : List ℕ) (host : Option (List ℕ))
     (found : List Holding) : Type 0 where
   pub exact : (one : Holding) (question : Question) → Contains found one → IsAskable question

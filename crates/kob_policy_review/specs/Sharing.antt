@@ -43,7 +43,8 @@ names_below rules resource prefix =
     (map (place_on rules) (targets_below rules.entries resource prefix))
 
 -- the binding allows it on names on which none denies it
-abbrev pub allows_some : Target → Option (List ℕ) → Operation → List (ℕ × Binding) → ℕ × Binding → Bool
+abbrev pub allows_some : Target → Option (List ℕ) → Operation → List (ℕ × Binding) → ℕ × Binding
+    → Bool
 allows_some first host operation asking entry =
     is_met Allow host operation entry
     && not (list_any (is_met_on (first_of first entry) Deny host operation) asking)

@@ -99,7 +99,8 @@ fn named(
     principals: &PrefixTree,
     principal: &Option<Text>,
 ) -> Result<Vec<u64>, AllocError>
-    ensures { IfOk result (λ made. made.items ≡ asking_serials (held principals.now) principal.now) }
+    ensures { IfOk result (λ made. made.items
+        ≡ asking_serials (held principals.now) principal.now) }
 {
     let mut serials: Vec<u64> = principals.literal("User:*".as_bytes()).collect(alloc)?;
     match principal {

@@ -28,8 +28,8 @@ pub enum Share {
     Everything,
 }
 
-/// On which names something is granted to a principal at a host. `None` is every principal, or host,
-/// that no binding on one of the names bears on.
+/// On which names something is granted to a principal at a host. `None` is every principal, or
+/// host, that no binding on one of the names bears on.
 #[derive(Debug, Drop)]
 pub struct Reach {
     pub principal: Option<Text>,
@@ -240,10 +240,10 @@ fn reaches_below(
     reaches_by(alloc, rules.supers(), &names, near.as_slice(), operation)
 }
 
-/// Who may do something on the names of a kind that begin with a prefix: on all of them, on some, or
-/// on none; the name that is the prefix itself is one of them. There is one entry for each principal
-/// and host that a binding on some of the names has, and for all others. Super users are left out, to
-/// whom all is granted.
+/// Who may do something on the names of a kind that begin with a prefix: on all of them, on some,
+/// or on none; the name that is the prefix itself is one of them. There is one entry for each
+/// principal and host that a binding on some of the names has, and for all others. Super users are
+/// left out, to whom all is granted.
 pub fn who_below(
     alloc: Global,
     rules: &Authorizer,

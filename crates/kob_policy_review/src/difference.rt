@@ -67,7 +67,7 @@ fn is_listed(
 }
 
 /// Whether the party is the word for all, which asks as all others do.
-fn names_all(all: &str, party: &Option<Text>) -> bool
+pub fn names_all(all: &str, party: &Option<Text>) -> bool
     ensures { result ≡ names_all all.now party.now }
 {
     match party {

@@ -53,8 +53,8 @@ impl<'a> Finder<'a> {
         self.rules
     }
 
-    /// Copies of the bindings whose patterns match the names. Of the others only those are looked at
-    /// that match the name, or the text that the names begin with. By rising serial.
+    /// Copies of the bindings whose patterns match the names. Of the others only those are looked
+    /// at that match the name, or the text that the names begin with. By rising serial.
     #[tactic(auto, using(kob_authorizer::proofs::Entries::are_rising))]
     pub fn matching(
         &self,
@@ -89,7 +89,8 @@ fn add_name(alloc: Global, names: &mut PrefixTree, entry: &(u64, Binding)) -> Re
     names.add(alloc, pattern.name.as_str().as_bytes(), kind, entry.0)
 }
 
-fn kind_in_tree(kind: PatternKind) -> kob_prefix_tree::PatternKind
+/// The kind of a pattern, as a tree has it.
+pub fn kind_in_tree(kind: PatternKind) -> kob_prefix_tree::PatternKind
     ensures { result ≡ kind_in_tree kind }
 {
     match kind {

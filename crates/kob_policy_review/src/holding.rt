@@ -21,7 +21,8 @@ use std::alloc::{AllocError, Global};
 pub struct Holding {
     pub host: Option<Text>,
     pub target: Target,
-    /// In the order of Kafka's list of operations, without `All`, which is no operation of a request.
+    /// In the order of Kafka's list of operations, without `All`, which is no operation of a
+    /// request.
     pub operations: Items<Operation>,
 }
 
@@ -32,7 +33,8 @@ fn granted(
     asking: &[(u64, Binding)],
     host: &Option<Text>,
 ) -> Result<Vec<Operation>, AllocError>
-    ensures { IfOk result (λ made. made.items ≡ filter (yes_to false asking.now host.now) operations) }
+    ensures { IfOk result (λ made. made.items
+        ≡ filter (yes_to false asking.now host.now) operations) }
 {
     let mut made = Vec::new(alloc);
     for operation in OPERATIONS.as_slice() {
@@ -176,11 +178,11 @@ fn all_rights(
     Ok(out)
 }
 
-/// What a principal that is no super user is granted from a host, or from each host that counts: one
-/// entry for each class of names that its bindings, and those for `User:*`, tell apart, and for each
-/// host that these have on the names. `Names::Below` a prefix speaks of the names below it that no
-/// longer prefix and no literal of these takes. Whether names are open that no binding matches is not
-/// listed.
+/// What a principal that is no super user is granted from a host, or from each host that counts:
+/// one entry for each class of names that its bindings, and those for `User:*`, tell apart, and for
+/// each host that these have on the names. `Names::Below` a prefix speaks of the names below it
+/// that no longer prefix and no literal of these takes. Whether names are open that no binding
+/// matches is not listed.
 pub fn rights(
     alloc: Global,
     rules: &Authorizer,

@@ -24,11 +24,13 @@ mod targets;
 
 pub use below::{Reach, Share, who_below};
 pub use class::{Class, Names, Target};
-pub use difference::{Change, Outcome, changes};
+pub use difference::{Change, Outcome, changes, names_all};
+pub use finder::kind_in_tree;
 pub use granting::{Answer, who};
 pub use holding::{Holding, rights};
 pub use laws::representatives_decide;
+pub use parties::is_held;
 pub use redundant::{Reason, Unneeded, unused};
 pub use removal::removable;
 pub use shadows::shadowed;
-pub use supers::gained_supers;
+pub use supers::{gained_supers, is_super};

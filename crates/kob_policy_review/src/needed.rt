@@ -1,8 +1,6 @@
 //! The bindings without which an answer changes.
 
 ghost use Rattle.std.specs.Prelude.{◌≡◌, ◌++◌, ◌∷◌, [], IfOk, OnOk, flat_map, if◌then◌else◌};
-ghost use Rattle.kob_names.specs.Same.{same_text};
-ghost use Rattle.kob_authorizer.specs.Decide.{is_super};
 ghost use Rattle.kob_policy_review.specs.Classes.{principals_named};
 ghost use Rattle.kob_policy_review.specs.Needed.{closing, is_super_party, met, needed, needed_among};
 ghost use Rattle.kob_policy_review.specs.Needed.{needed_by};
@@ -14,6 +12,7 @@ use crate::class::{Target, is_met};
 use crate::finder::Finder;
 use crate::matching::{OPERATIONS, asking, hosts_of};
 use crate::parties::principals_of;
+use crate::supers::is_super;
 use crate::targets::targets_of;
 use kob_authorizer::Authorizer;
 use kob_names::{Binding, Operation, Permission, Principal, Text};
@@ -91,24 +90,12 @@ fn closing(everyone: bool, entries: &[(u64, Binding)]) -> Option<u64>
     }
 }
 
-fn is_user(principal: &Text, user: &Principal) -> bool
-    ensures { result ≡ same_text principal.now user.now }
-{
-    principal.as_str() == user.as_str()
-}
-
-fn is_super(supers: &[Principal], principal: &Text) -> bool
-    ensures { result ≡ is_super supers.now principal.now }
-{
-    supers.iter().any(|user| is_user(principal, user))
-}
-
 /// Whether the party is one principal, and a super user.
 pub fn is_super_party(supers: &[Principal], principal: &Option<Text>) -> bool
     ensures { result ≡ is_super_party supers.now principal.now }
 {
     match principal {
-        Some(principal) => is_super(supers, principal),
+        Some(principal) => is_super(supers, principal.as_str()),
         None => false,
     }
 }

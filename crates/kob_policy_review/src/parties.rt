@@ -10,8 +10,8 @@ use kob_prefix_tree::{PatternKind, PrefixTree};
 use std::alloc::{AllocError, Global};
 use std::marker::Model;
 
-/// Parties in the order in which they came, and a tree that has the text of each as a key. Contracts
-/// see their list.
+/// Parties in the order in which they came, and a tree that has the text of each as a key.
+/// Contracts see their list.
 #[derive(Drop)]
 struct Parties {
     made: Vec<Option<Text>>,
@@ -108,7 +108,7 @@ impl Parties {
 }
 
 /// Whether the tree has this key.
-fn is_held(keys: &PrefixTree, text: &str) -> bool
+pub fn is_held(keys: &PrefixTree, text: &str) -> bool
     ensures { result ≡ is_held keys.now text.now }
 {
     keys.literal(text.as_bytes()).next().is_some()

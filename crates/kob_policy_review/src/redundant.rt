@@ -10,16 +10,14 @@ ghost use Rattle.kob_policy_review.specs.Redundancy.{ListsUnused, around, bears_
 ghost use Rattle.kob_policy_review.specs.Redundancy.{first_wider, is_outside, is_wider, reaches_all};
 ghost use Rattle.kob_policy_review.specs.Redundancy.{reason_by, reason_of, takes_all};
 ghost use Rattle.kob_policy_review.specs.Redundancy.{unused_entry, unused_in};
-ghost use Rattle.kob_authorizer.specs.Decide.{is_super};
 
 use crate::class::{Names, Target};
 use crate::finder::Finder;
 use crate::matching::OPERATIONS;
 use crate::needed::needed;
+use crate::supers::is_super;
 use kob_authorizer::Authorizer;
-use kob_names::{
-    Binding, Draft, Operation, Pattern, PatternKind, Permission, PlainValue, Principal,
-};
+use kob_names::{Binding, Draft, Operation, Pattern, PatternKind, Permission, PlainValue};
 use std::alloc::{AllocError, Global};
 use std::collections::HashSet;
 
@@ -114,12 +112,6 @@ fn first_wider(
     Some(wider.0)
 }
 
-pub fn is_super(supers: &[Principal], principal: &Principal) -> bool
-    ensures { result ≡ is_super supers.now principal.now }
-{
-    supers.iter().any(|user| principal == user)
-}
-
 fn reason_by(permission: Permission, is_super: bool, same: Option<u64>, deny: Option<u64>) -> Reason
     ensures { result ≡ reason_by permission is_super same deny }
 {
@@ -161,7 +153,7 @@ fn reason_of(
     let near = around(alloc, finder, entry)?;
     let same = first_wider(near.as_slice(), binding.permission, entry);
     let deny = first_wider(near.as_slice(), Permission::Deny, entry);
-    let is_super = is_super(finder.rules().supers(), &binding.principal);
+    let is_super = is_super(finder.rules().supers(), binding.principal.as_str());
     Ok(reason_by(binding.permission, is_super, same, deny))
 }
 

@@ -58,7 +58,8 @@ fn push_from(
     asking: &[(u64, Binding)],
     host: &Option<Text>,
 ) -> Result<(), AllocError>
-    ensures { OnOk result (out.new.items ≡ out.old.items ++ bearing_from beaten asking.now host.now) }
+    ensures { OnOk result (out.new.items
+        ≡ out.old.items ++ bearing_from beaten asking.now host.now) }
 {
     for operation in OPERATIONS.as_slice() {
         push_to(alloc, out, beaten, asking, host, *operation)?;
@@ -146,7 +147,8 @@ fn bearing_set(alloc: Global, beaten: bool, finder: &Finder<'_>) -> Result<HashS
 }
 
 fn is_between(some: &HashSet<u64>, others: &HashSet<u64>, entry: &(u64, Binding)) -> bool
-    ensures { result ≡ is_between (contains nat_eq some.now) (contains nat_eq others.now) entry.now }
+    ensures { result
+        ≡ is_between (contains nat_eq some.now) (contains nat_eq others.now) entry.now }
 {
     some.contains(&entry.0) && !others.contains(&entry.0)
 }

@@ -1,17 +1,31 @@
-//! The super users that come and go.
+//! Super users: who is one, and which come and go.
 
 ghost use Rattle.std.specs.Prelude.{◌≡◌, ◌++◌, ◌∷◌, [], IfOk, OnOk, filter, if◌then◌else◌};
+ghost use Rattle.kob_authorizer.specs.Decide.{is_super};
+ghost use Rattle.kob_names.specs.Same.{same_text};
 ghost use Rattle.kob_policy_review.specs.Users.{is_gained};
 
-use crate::redundant::is_super;
 use kob_authorizer::Authorizer;
 use kob_names::{Principal, Text};
 use std::alloc::{AllocError, Global};
 
+fn is_user(principal: &str, user: &Principal) -> bool
+    ensures { result ≡ same_text principal.now user.now }
+{
+    principal == user.as_str()
+}
+
+/// Whether a principal, by its text, is one of these super users.
+pub fn is_super(supers: &[Principal], principal: &str) -> bool
+    ensures { result ≡ is_super supers.now principal.now }
+{
+    supers.iter().any(|user| is_user(principal, user))
+}
+
 fn is_gained(before: &[Principal], user: &Principal) -> bool
     ensures { result ≡ is_gained before.now user.now }
 {
-    !is_super(before, user)
+    !is_super(before, user.as_str())
 }
 
 fn push_if(

@@ -57,7 +57,8 @@ impl Targets {
     }
 
     fn is_at_one(&self, target: &Target, places: &[u64]) -> bool
-        ensures { result ≡ list_any (λ place. is_at target.now (slice_get self.now place)) places.now }
+        ensures { result
+            ≡ list_any (λ place. is_at target.now (slice_get self.now place)) places.now }
     {
         places.iter().any(|place| self.is_at(target, *place))
     }

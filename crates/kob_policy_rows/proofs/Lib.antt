@@ -1,3 +1,1 @@
-pub mod Growing
-pub mod Idle
 pub mod Members

@@ -1,9 +1,10 @@
 -- The rows of each answer.
-use Rattle.std.specs.Prelude.{ℕ, ◌+◌, Bool, true, false, List, [], ◌∷◌, ◌++◌, ◌==◌, Option, Some, None, codes, filter, flat_map, length, map, if◌then◌else◌}
+use Rattle.std.specs.Prelude.{ℕ, ◌+◌, Bool, true, false, List, [], ◌∷◌, ◌++◌, ◌==◌, Option, Some, None, codes, flat_map, length, map, if◌then◌else◌}
 use Rattle.kob_authorizer.specs.Decide.{is_super, question_of}
 use Rattle.kob_authorizer.specs.Decide as authorizer
 use Rattle.kob_names.specs.declared.kinds.Operation.{Operation}
 use Rattle.kob_names.specs.declared.kinds.Operation.TheVariants.{All}
+use Rattle.kob_names.specs.declared.kinds.ResourceKind.{ResourceKind}
 use Rattle.kob_names.specs.declared.kinds.ResourceKind.TheVariants.{Topic, Group, TransactionalId}
 use Rattle.kob_names.specs.declared.verdict.Verdict.{Verdict}
 use Rattle.kob_names.specs.declared.verdict.Verdict.TheVariants as verdict
@@ -19,7 +20,7 @@ use Rattle.kob_policy_review.specs.declared.below.Share.TheVariants as share
 use Rattle.kob_policy_review.specs.declared.granting.Answer.{Answer}
 use Rattle.kob_policy_review.specs.declared.holding.Holding.{Holding}
 use Rattle.kob_policy_review.specs.declared.redundant.Unneeded.{Unneeded}
-use Rattle.kob_policy_rows.specs.Cells.{bound_rows, names_cells, party_name, target_cells, verdict_cells}
+use Rattle.kob_policy_rows.specs.Cells.{bound_rows, party_name, target_cells, verdict_cells}
 use Rattle.kob_policy_rows.specs.declared.cell.Cell.{Cell}
 use Rattle.kob_policy_rows.specs.declared.cell.Cell.TheVariants.{Flag, Nothing, Number, Words}
 use Rattle.kob_policy_text.specs.Access.{act_rights, question_on}
@@ -41,16 +42,16 @@ use Rattle.kob_words.specs.Words.{operation_name, resource_name}
 
 -- May.
 
-abbrev pub asked_cells : authorizer.Question → List Cell
-asked_cells asked =
-    Words (operation_name asked.operation) ∷ Words (resource_name asked.resource)
-    ∷ Words asked.name ∷ []
+-- an operation on a resource
+unfoldable pub on_cells : Operation → ResourceKind → List ℕ → List Cell
+on_cells operation resource name =
+    Words (operation_name operation) ∷ Words (resource_name resource) ∷ Words name ∷ []
 
 -- a right with its answer, behind the number of its clause
 unfoldable pub check_row : Policy → ℕ → authorizer.Question → List Cell
 check_row policy number asked =
-    Number number ∷ (asked_cells asked ++ verdict_cells policy (may policy asked)
-    ++ Flag (is_taken policy asked) ∷ [])
+    Number number ∷ (on_cells asked.operation asked.resource asked.name
+    ++ verdict_cells policy (may policy asked) ++ Flag (is_taken policy asked) ∷ [])
 
 abbrev pub clause_rows : Policy → ℕ → Asker → List Check → List (List Cell)
 clause_rows policy number asker clause =
@@ -69,10 +70,8 @@ access_rows policy access =
 
 -- Who.
 
-unfoldable pub right_cells : Right → List Cell
-right_cells right =
-    Words (operation_name right.operation) ∷ Words (resource_name right.resource)
-    ∷ Words right.name ∷ []
+abbrev pub right_cells : Right → List Cell
+right_cells right = on_cells right.operation right.resource right.name
 
 -- what is decided on a right of a principal from a host
 unfoldable pub who_row : Policy → Right → List ℕ → List ℕ → Verdict → List Cell

@@ -1,11 +1,12 @@
 -- Answers as JSON, an object on a line.
-use Rattle.std.specs.Prelude.{ℕ, ◌+◌, Bool, List, [], ◌∷◌, ◌++◌, codes, flat_map, zip, if◌then◌else◌}
+use Rattle.std.specs.Prelude.{ℕ, List, [], ◌∷◌, ◌++◌, codes, flat_map, zip, if◌then◌else◌}
 use Rattle.std.specs.Fmt.{decimal}
 use Rattle.std.specs.Str.{is_utf8}
 use Rattle.json.specs.Print.{print}
 use Rattle.json.specs.Token.{Token, begin_object, end_object, begin_array, end_array, key, string, number, boolean, null}
 use Rattle.kob_policy_text.specs.Access.{is_allowed}
 use Rattle.kob_policy_text.specs.Hints.{is_named}
+use Rattle.kob_policy_text.specs.Numbered.{numbered}
 use Rattle.kob_policy_text.specs.Policy.{Policy}
 use Rattle.kob_policy_text.specs.declared.question.Access.{Access}
 use Rattle.kob_policy_text.specs.declared.question.Query.{Query}
@@ -98,10 +99,8 @@ answer_line policy topics count query =
     print (answer_tokens policy topics count query) ++ codes "\n"
 
 -- the answers, numbered from one on
-unfoldable pub answers_json : Policy → List (List ℕ) → ℕ → List Query → List ℕ
-answers_json policy topics count [] = []
-answers_json policy topics count (query ∷ others) =
-    answer_line policy topics count query ++ answers_json policy topics (count + 1) others
+abbrev pub answers_json : Policy → List (List ℕ) → ℕ → List Query → List ℕ
+answers_json policy topics count queries = numbered (answer_line policy topics) count queries
 
 abbrev pub file_tokens : List ℕ → List Token
 file_tokens file = string file ∷ []

@@ -1,16 +1,17 @@
 -- The answer about a broker's log: how many accesses it records, the rows of those that the rules
 -- decide otherwise, and of the bindings that decide none.
-use Rattle.std.specs.Prelude.{ℕ, ◌+◌, Bool, List, [], ◌∷◌, ◌++◌, Option, None, Some, codes, filter, flat_map, if◌then◌else◌, length}
+use Rattle.std.specs.Prelude.{ℕ, Bool, List, [], ◌∷◌, ◌++◌, None, Some, codes, filter, flat_map, if◌then◌else◌, length}
 use Rattle.std.specs.Fmt.{decimal}
 use Rattle.json.specs.Print.{print}
 use Rattle.json.specs.Token.{Token, begin_object, end_object, begin_array, end_array, key, string, number}
 use Rattle.kob_policy_text.specs.LogAnswers.{is_decider, is_otherwise, skipped_lines, verdict_on}
 use Rattle.kob_policy_text.specs.LogLines.{Log, log_of}
+use Rattle.kob_policy_text.specs.Numbered.{numbered}
 use Rattle.kob_policy_text.specs.Policy.{Policy, serials_of}
 use Rattle.kob_policy_text.specs.declared.log_line.Recorded.{Recorded}
 use Rattle.kob_policy_text.specs.declared.log_reading.Entry.{Entry}
 use Rattle.kob_policy_text.specs.declared.question.Asker.{Asker}
-use Rattle.kob_policy_text.specs.declared.question.Right.{Right}
+use Rattle.kob_policy_rows.specs.Answers.{right_cells}
 use Rattle.kob_policy_rows.specs.Cells.{bound_at, verdict_cells}
 use Rattle.kob_policy_rows.specs.Columns.{access_columns, binding_columns, column_name}
 use Rattle.kob_policy_rows.specs.Json.{number_tokens, question_tokens, row_tokens}
@@ -18,15 +19,9 @@ use Rattle.kob_policy_rows.specs.declared.cell.Cell.{Cell}
 use Rattle.kob_policy_rows.specs.declared.cell.Cell.TheVariants.{Flag, Number, Words}
 use Rattle.kob_policy_rows.specs.declared.columns.Column.{Column}
 use Rattle.kob_policy_rows.specs.declared.columns.Column.TheVariants as column
-use Rattle.kob_words.specs.Words.{operation_name, resource_name}
 
 abbrev pub asker_cells : Asker → List Cell
 asker_cells asker = Words asker.principal ∷ Words asker.host ∷ []
-
-abbrev pub right_cells : Right → List Cell
-right_cells right =
-    Words (operation_name right.operation) ∷ Words (resource_name right.resource)
-    ∷ Words right.name ∷ []
 
 -- who asked for what, and what the broker said
 unfoldable pub recorded_cells : Recorded → List Cell
@@ -47,20 +42,15 @@ otherwise_row policy entry =
 abbrev pub otherwise_rows : Policy → List Entry → List (List Cell)
 otherwise_rows policy accesses = flat_map (otherwise_row policy) accesses
 
+-- the binding at a place, unless its serial is one of some
 abbrev pub idle_row : Policy → (ℕ → Bool) → ℕ → ℕ → List (List Cell)
 idle_row policy among place serial =
     if among serial then [] else bound_at policy None (Some place)
 
--- of the bindings from one on, whose place is given, those whose serial is not among some
-unfoldable pub idle_rows : Policy → (ℕ → Bool) → ℕ → List ℕ → List (List Cell)
-idle_rows policy among place [] = []
-idle_rows policy among place (serial ∷ serials) =
-    idle_row policy among place serial ++ idle_rows policy among (place + 1) serials
-
 -- the bindings that decide none of the accesses
 abbrev pub idle_in : Policy → List Entry → List (List Cell)
 idle_in policy accesses =
-    idle_rows policy (is_decider policy accesses) 0 (serials_of policy)
+    numbered (idle_row policy (is_decider policy accesses)) 0 (serials_of policy)
 
 -- an array of objects
 unfoldable pub array_tokens : List ℕ → List Column → List (List Cell) → List Token

@@ -1,26 +1,16 @@
 //! The rows of `may`: each right that is needed.
 
 ghost use Rattle.std.specs.Prelude.{◌≡◌, ◌++◌, ◌∷◌, [], OnOk};
-ghost use Rattle.kob_policy_rows.specs.Answers.{access_rows, asked_cells, check_row, clause_rows};
+ghost use Rattle.kob_policy_rows.specs.Answers.{access_rows, check_row, clause_rows};
 ghost use Rattle.kob_policy_rows.specs.Answers.{clauses_rows};
 ghost use Rattle.kob_rights.specs.Table.{clause_view, rights_view};
 
-use crate::cell::{Cell, push_flag, push_number, push_row, push_words};
-use crate::verdict::push_verdict;
+use crate::cell::{Cell, push_flag, push_number, push_row};
+use crate::verdict::{push_on, push_verdict};
 use kob_names::Items;
 use kob_policy_text::{Access, Asked, Asker, Judge, asked_on, rights_of};
 use kob_rights::{Clause, Rights};
-use kob_words::{operation_name, resource_name};
 use std::alloc::{AllocError, Global};
-
-#[tactic(auto, using(kob_words::proofs::Appending::appending))]
-fn push_asked(alloc: Global, row: &mut Vec<Cell>, asked: &Asked<'_>) -> Result<(), AllocError>
-    ensures { OnOk result (row.new.items ≡ row.old.items ++ asked_cells asked.now) }
-{
-    push_words(alloc, row, operation_name(asked.operation))?;
-    push_words(alloc, row, resource_name(asked.resource))?;
-    push_words(alloc, row, asked.name)
-}
 
 #[tactic(auto, using(kob_words::proofs::Appending::appending), unfolding(crate::specs::Answers::check_row))]
 fn push_check_cells(
@@ -34,7 +24,7 @@ fn push_check_cells(
         (row.new.items ≡ row.old.items ++ check_row judge.now number asked.now) }
 {
     push_number(row, number)?;
-    push_asked(alloc, row, asked)?;
+    push_on(alloc, row, asked.operation, asked.resource, asked.name)?;
     push_verdict(alloc, row, judge, judge.verdict(asked))?;
     push_flag(row, judge.is_taken(asked))
 }

@@ -1,18 +1,16 @@
 //! The rows of what changes, of what is left out and of faults.
 
 ghost use Rattle.std.specs.Prelude.{◌≡◌, ◌++◌, ◌∷◌, [], IfOk, OnOk, codes, flat_map, map};
-ghost use Rattle.kob_authorizer.specs.Decide.{is_super};
 ghost use Rattle.kob_policy_rows.specs.Changes.{change_row, change_rows, class_cells};
 ghost use Rattle.kob_policy_rows.specs.Changes.{everyone_row, everyone_rows, fault_row};
 ghost use Rattle.kob_policy_rows.specs.Changes.{omission_row, outcome_word, super_row, super_rows};
 ghost use Rattle.kob_policy_rows.specs.Changes.{supers_rows};
-ghost use Rattle.kob_policy_text.specs.Answers.{left_out_word};
 
 use crate::cell::{Cell, push_flag, push_nothing, push_number, push_row, push_words};
 use crate::verdict::{party_name, push_target};
 use kob_names::{Items, Principal};
-use kob_policy_review::{Change, Class, Outcome, changes};
-use kob_policy_text::{Judge, LeftOut, Omission};
+use kob_policy_review::{Change, Class, Outcome, changes, is_super};
+use kob_policy_text::{Judge, Omission, left_out_word};
 use kob_words::operation_name;
 use std::alloc::{AllocError, Global};
 
@@ -35,12 +33,6 @@ fn push_super_cells(
     push_words(alloc, row, what)
 }
 
-fn is_super(supers: &[Principal], user: &Principal) -> bool
-    ensures { result ≡ is_super supers.now user.now }
-{
-    supers.iter().any(|other| other == user)
-}
-
 fn push_super(
     alloc: Global,
     rows: &mut Vec<Items<Cell>>,
@@ -51,7 +43,7 @@ fn push_super(
     ensures { OnOk result
         (rows.new.items ≡ rows.old.items ++ super_rows what.now others.now user.now) }
 {
-    if is_super(others, user) {
+    if is_super(others, user.as_str()) {
         return Ok(());
     }
     let mut row = Vec::new(alloc);
@@ -212,16 +204,6 @@ pub fn change_rows(
     let mut rows = Vec::new(alloc);
     push_changes(alloc, &mut rows, before, after)?;
     Ok(rows)
-}
-
-fn left_out_word(what: LeftOut) -> &'static str
-    ensures { result.now ≡ left_out_word what }
-{
-    match what {
-        LeftOut::Resource => "resource",
-        LeftOut::Principal => "principal",
-        LeftOut::Operation => "operation",
-    }
 }
 
 #[tactic(auto, using(kob_words::proofs::Appending::appending), unfolding(crate::specs::Changes::omission_row))]

@@ -6,21 +6,18 @@ ghost use Rattle.kob_policy_rows.specs.Answers.{right_cells, super_row, who_row,
 ghost use Rattle.kob_policy_text.specs.AtHand.{principals_at_hand};
 
 use crate::cell::{Cell, push_row, push_words};
-use crate::verdict::{party_name, push_verdict};
+use crate::verdict::{party_name, push_on, push_verdict};
 use kob_names::{Host, Items, Principal, Verdict};
 use kob_policy_review::{Answer, who};
 use kob_policy_text::{Asked, Judge, Right, each_once, is_told, principals_at_hand, target_at};
-use kob_words::{operation_name, resource_name};
 use std::alloc::{AllocError, Global};
 
 /// Operation, resource and name.
-#[tactic(auto, using(kob_words::proofs::Appending::appending), unfolding(crate::specs::Answers::right_cells))]
 pub fn push_right(alloc: Global, row: &mut Vec<Cell>, right: &Right) -> Result<(), AllocError>
     ensures { OnOk result (row.new.items ≡ row.old.items ++ right_cells right.now) }
 {
-    push_words(alloc, row, operation_name(right.operation))?;
-    push_words(alloc, row, resource_name(right.resource))?;
-    push_words(alloc, row, right.name.as_str())
+    let name = right.name.as_str();
+    push_on(alloc, row, right.operation, right.resource, name)
 }
 
 /// Who asks from where for what.
@@ -57,7 +54,8 @@ fn push_decided(
     verdict: Verdict,
 ) -> Result<(), AllocError>
     ensures { OnOk result (rows.new.items ≡ rows.old.items
-        ++ who_row judge.now right.now party.entry.principal.now party.entry.host.now verdict ∷ []) }
+        ++ who_row judge.now right.now party.entry.principal.now party.entry.host.now verdict
+        ∷ []) }
 {
     let mut row = Vec::new(alloc);
     push_cells(alloc, &mut row, judge, right, party, verdict)?;

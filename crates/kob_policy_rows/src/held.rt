@@ -1,16 +1,14 @@
 //! The rows of `rights`: what a principal may do.
 
 ghost use Rattle.std.specs.Prelude.{◌≡◌, ◌++◌, ◌∷◌, [], OnOk, flat_map, map};
-ghost use Rattle.kob_authorizer.specs.Decide.{is_super};
 ghost use Rattle.kob_policy_rows.specs.Answers.{all_row, held_row, held_rows, open_rows};
 ghost use Rattle.kob_policy_rows.specs.Answers.{operations_told, rights_rows};
-ghost use Rattle.kob_policy_text.specs.Holdings.{is_repeated};
 
 use crate::cell::{Cell, push_nothing, push_row, push_words};
 use crate::verdict::{party_name, push_target};
 use kob_names::{Host, Items, Operation, Principal};
-use kob_policy_review::{Holding, rights};
-use kob_policy_text::Judge;
+use kob_policy_review::{Holding, is_super, rights};
+use kob_policy_text::{Judge, is_repeated};
 use kob_words::operation_name;
 use std::alloc::{AllocError, Global};
 
@@ -73,16 +71,6 @@ fn push_operations(
         push_held_row(alloc, rows, principal, one, *operation)?;
     }
     Ok(())
-}
-
-/// Whether the host of a class is the word for all hosts, which asks as all others do.
-fn is_repeated(host: &Option<Host>, one: &Holding) -> bool
-    ensures { result ≡ is_repeated host.now one.now }
-{
-    match (host, &one.host) {
-        (None, Some(named)) => named.as_str() == "*",
-        (None, None) | (Some(_), _) => false,
-    }
 }
 
 fn push_holding(
@@ -167,12 +155,6 @@ fn push_open(
     }
 }
 
-fn is_super(supers: &[Principal], principal: &Principal) -> bool
-    ensures { result ≡ is_super supers.now principal.now }
-{
-    supers.iter().any(|user| user == principal)
-}
-
 /// What is granted to a principal, from one host or from each that counts.
 #[tactic(auto, using(kob_words::proofs::Appending::appending))]
 pub fn push_rights(
@@ -185,7 +167,7 @@ pub fn push_rights(
     ensures { OnOk result
         (rows.new.items ≡ rows.old.items ++ rights_rows judge.now principal.now host.now) }
 {
-    if is_super(judge.policy().supers(), principal) {
+    if is_super(judge.policy().supers(), principal.as_str()) {
         return push_all(alloc, rows, principal, "super");
     }
     let found = rights(alloc, judge.authorizer(), principal, host)?;

@@ -134,8 +134,8 @@ fn push_log_line(
 }
 
 /// Prints the answer about the text of a broker's log as an object on a line. Returns whether some
-/// access is decided otherwise than is recorded. The error is out of memory; `out` has then grown by
-/// a part of the line.
+/// access is decided otherwise than is recorded. The error is out of memory; `out` has then grown
+/// by a part of the line.
 pub fn print_json_log(
     alloc: Global,
     out: &mut Vec<u8>,

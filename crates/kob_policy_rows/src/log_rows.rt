@@ -2,17 +2,17 @@
 
 ghost use Rattle.std.specs.Prelude.{◌≡◌, ◌++◌, OnOk, flat_map, nat_eq};
 ghost use Rattle.std.specs.HashSet.{contains};
-ghost use Rattle.kob_policy_rows.specs.Logs.{asker_cells, entry_row, idle_in, idle_row, idle_rows};
+ghost use Rattle.kob_policy_rows.specs.Logs.{asker_cells, entry_row, idle_in, idle_row};
 ghost use Rattle.kob_policy_rows.specs.Logs.{otherwise_row, otherwise_rows, recorded_cells};
-ghost use Rattle.kob_policy_rows.specs.Logs.{right_cells};
+ghost use Rattle.kob_policy_text.specs.Numbered.{numbered};
 ghost use Rattle.kob_policy_text.specs.Policy.{serials_of};
 
 use crate::bound::push_at;
 use crate::cell::{Cell, push_flag, push_number, push_row, push_words};
+use crate::granted::push_right;
 use crate::verdict::push_verdict;
 use kob_names::Items;
-use kob_policy_text::{Asker, Entry, Judge, Recorded, Right, deciders, is_otherwise, verdict_on};
-use kob_words::{operation_name, resource_name};
+use kob_policy_text::{Asker, Entry, Judge, Recorded, deciders, is_otherwise, verdict_on};
 use std::alloc::{AllocError, Global};
 use std::collections::HashSet;
 
@@ -22,15 +22,6 @@ fn push_asker(alloc: Global, row: &mut Vec<Cell>, asker: &Asker) -> Result<(), A
 {
     push_words(alloc, row, asker.principal.as_str())?;
     push_words(alloc, row, asker.host.as_str())
-}
-
-#[tactic(auto, using(kob_words::proofs::Appending::appending))]
-fn push_right(alloc: Global, row: &mut Vec<Cell>, right: &Right) -> Result<(), AllocError>
-    ensures { OnOk result (row.new.items ≡ row.old.items ++ right_cells right.now) }
-{
-    push_words(alloc, row, operation_name(right.operation))?;
-    push_words(alloc, row, resource_name(right.resource))?;
-    push_words(alloc, row, right.name.as_str())
 }
 
 #[tactic(auto, using(kob_words::proofs::Appending::appending), unfolding(crate::specs::Logs::recorded_cells))]
@@ -114,7 +105,7 @@ fn push_idle_rows(
     set: &HashSet<u64>,
 ) -> Result<(), AllocError>
     ensures { OnOk result (rows.new.items ≡ rows.old.items
-        ++ idle_rows judge.now (contains nat_eq set.now) 0 (serials_of judge.now)) }
+        ++ numbered (idle_row judge.now (contains nat_eq set.now)) 0 (serials_of judge.now)) }
 {
     let serials = judge.serials();
     for (place, serial) in serials.iter().enumerate() {

@@ -210,7 +210,8 @@ fn push_expected(
     access: &Access,
 ) -> Result<(), AllocError>
     ensures tokens { OnOk result (writer.new.tokens ≡ writer.old.tokens
-        ++ (key (column_name Column.Expected) ∷ boolean expected ∷ access_tokens judge.now access.now)) }
+        ++ (key (column_name Column.Expected) ∷ boolean expected
+        ∷ access_tokens judge.now access.now)) }
     ensures before { writer.new.before ≡ writer.old.before }
 {
     writer.key(column_name(Column::Expected))?;

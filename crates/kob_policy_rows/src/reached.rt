@@ -1,17 +1,15 @@
 //! The rows of `who` on the names that begin with a prefix.
 
 ghost use Rattle.std.specs.Prelude.{◌≡◌, ◌++◌, ◌∷◌, [], OnOk, flat_map, map};
-ghost use Rattle.kob_policy_review.specs.Difference.{names_all};
 ghost use Rattle.kob_policy_rows.specs.Answers.{below_rows, by_share, reach_row, reach_rows};
 ghost use Rattle.kob_policy_rows.specs.Answers.{super_reach};
-ghost use Rattle.kob_policy_text.specs.Reaches.{asks_as_others};
 
 use crate::cell::{Cell, push_row, push_words};
 use crate::granted::push_right;
 use crate::verdict::party_name;
-use kob_names::{Items, Principal, Text};
+use kob_names::{Items, Principal};
 use kob_policy_review::{Reach, Share, who_below};
-use kob_policy_text::{Judge, Right, each_once};
+use kob_policy_text::{Judge, Right, asks_as_others, each_once};
 use std::alloc::{AllocError, Global};
 
 #[tactic(auto, using(kob_words::proofs::Appending::appending))]
@@ -80,22 +78,6 @@ fn push_by_share(
         Share::Part => push_one(alloc, rows, right, principal, host, "some"),
         Share::Everything => push_one(alloc, rows, right, principal, host, "all"),
     }
-}
-
-fn names_all(all: &str, party: &Option<Text>) -> bool
-    ensures { result ≡ names_all all.now party.now }
-{
-    match party {
-        Some(party) => party.as_str() == all,
-        None => false,
-    }
-}
-
-/// Whether a party is a word for all, which asks as all others do.
-fn asks_as_others(one: &Reach) -> bool
-    ensures { result ≡ asks_as_others one.now }
-{
-    names_all("User:*", &one.principal) || names_all("*", &one.host)
 }
 
 fn push_reach(

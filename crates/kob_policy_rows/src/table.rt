@@ -166,8 +166,8 @@ fn push_rows(out: &mut Vec<u8>, rows: &[Items<Cell>]) -> Result<(), AllocError>
     Ok(())
 }
 
-/// Prints a line with the names of the columns, and a line for each row. The error is out of memory;
-/// `out` has then grown by a part of them.
+/// Prints a line with the names of the columns, and a line for each row. The error is out of
+/// memory; `out` has then grown by a part of them.
 #[tactic(auto, using(kob_words::proofs::Appending::appending))]
 pub fn print_csv(
     out: &mut Vec<u8>,
@@ -195,8 +195,8 @@ fn print_answer(
     print_csv(out, columns_of(&query.question), &rows)
 }
 
-/// Prints the table of each answer, with the names of its columns. The error is out of memory; `out`
-/// has then grown by a part of them.
+/// Prints the table of each answer, with the names of its columns. The error is out of memory;
+/// `out` has then grown by a part of them.
 #[tactic(auto, using(kob_words::proofs::Appending::appending))]
 pub fn print_csv_answers(
     alloc: Global,

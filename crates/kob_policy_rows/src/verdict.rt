@@ -2,16 +2,15 @@
 
 ghost use Rattle.std.specs.Prelude.{◌≡◌, ◌++◌, OnOk};
 ghost use Rattle.std.specs.Option.{option_copied};
+ghost use Rattle.kob_policy_rows.specs.Answers.{on_cells};
 ghost use Rattle.kob_policy_rows.specs.Cells.{names_cells, origin_cells, party_name, reason_word};
 ghost use Rattle.kob_policy_rows.specs.Cells.{target_cells, verdict_cells};
-ghost use Rattle.kob_policy_text.specs.Answers.{origin_by};
-ghost use Rattle.kob_policy_text.specs.Policy.{deciding};
 
 use crate::cell::{Cell, push_flag, push_nothing, push_number, push_number_cell, push_words};
-use kob_names::{PatternKind, Text, Verdict};
+use kob_names::{Operation, PatternKind, ResourceKind, Text, Verdict};
 use kob_policy_review::{Names, Target};
-use kob_policy_text::{Judge, Origin};
-use kob_words::{pattern_name, resource_name};
+use kob_policy_text::{Judge, Origin, deciding, origin_by};
+use kob_words::{operation_name, pattern_name, resource_name};
 use std::alloc::{AllocError, Global};
 
 /// File and line.
@@ -48,22 +47,21 @@ fn reason_word(verdict: Verdict) -> &'static str
     }
 }
 
-/// The serial that decides, if one does.
-fn deciding(verdict: Verdict) -> Option<u64>
-    ensures { result ≡ deciding verdict }
+/// An operation on a resource.
+#[tactic(auto, using(kob_words::proofs::Appending::appending), unfolding(crate::specs::Answers::on_cells))]
+pub fn push_on(
+    alloc: Global,
+    row: &mut Vec<Cell>,
+    operation: Operation,
+    resource: ResourceKind,
+    name: &str,
+) -> Result<(), AllocError>
+    ensures { OnOk result
+        (row.new.items ≡ row.old.items ++ on_cells operation resource name.now) }
 {
-    match verdict {
-        Verdict::AllowedBy(serial) | Verdict::DeniedBy(serial) => Some(serial),
-        Verdict::Super | Verdict::NoAllow | Verdict::NoAclFound => None,
-    }
-}
-
-/// The first origin of the binding that decides.
-fn origin_by(judge: &Judge, serial: Option<u64>) -> Option<&Origin>
-    ensures { option_copied result ≡ origin_by judge.entry.now serial }
-{
-    let place = judge.place_of(serial?)?;
-    judge.policy().origins().get(place)
+    push_words(alloc, row, operation_name(operation))?;
+    push_words(alloc, row, resource_name(resource))?;
+    push_words(alloc, row, name)
 }
 
 /// The answer, why, the binding that decides, and from where it comes.

@@ -119,7 +119,8 @@ from_either entries (Add one ∷ done) binding has =
       | inl there ↦
           elim (added_or_there entries one binding there) [
             | inl before ↦ inl before
-            | inr same ↦ inr (subst (λ (b : Binding). Contains (Add one ∷ done) (Add b)) same (at_head (Add one) done))
+            | inr same ↦ inr (subst (λ (b : Binding). Contains (Add one ∷ done) (Add b)) same
+                (at_head (Add one) done))
           ]
       | inr after ↦ inr (Contains-append_right (Add one ∷ []) done (Add binding) after)
     ]
@@ -130,7 +131,8 @@ from_either entries (Remove one ∷ done) binding has =
     ]
 
 -- what is not removed stays
-pub stays : (entries : Entries) (done : List Step) (binding : Binding) → Has entries binding → ¬ Contains done (Remove binding)
+pub stays : (entries : Entries) (done : List Step) (binding : Binding) → Has entries binding
+    → ¬ Contains done (Remove binding)
     → Has (after_steps entries done) binding
 stays entries [] binding has kept = has
 stays entries (Add one ∷ done) binding (entry, (there, is)) kept =
@@ -140,7 +142,8 @@ stays entries (Add one ∷ done) binding (entry, (there, is)) kept =
 stays entries (Remove one ∷ done) binding has kept =
     stays (filter (is_other one) entries) done binding
     (there_left entries one binding has
-    (λ same. kept (subst (λ (b : Binding). Contains (Remove one ∷ done) (Remove b)) same (at_head (Remove one) done))))
+    (λ same. kept (subst (λ (b : Binding). Contains (Remove one ∷ done) (Remove b)) same
+    (at_head (Remove one) done))))
     (later (Remove one) done (Remove binding) kept)
 
 -- what is added and not removed is in force
@@ -150,8 +153,13 @@ comes entries [] binding there kept = absurd (omega (arith, there.1))
 comes entries (Add one ∷ done) binding there kept =
     elim (first_or_rest (Add one) done (Add binding) there) [
       | inl same ↦
-          stays (entries ++ (0, one) ∷ []) done binding
-          ((0, one), (Contains-append_right entries ((0, one) ∷ []) (0, one) (at_head (0, one) []), one_is one binding same))
+          stays (entries ++ (0, one) ∷ []) done binding (
+            (0, one),
+            (
+              Contains-append_right entries ((0, one) ∷ []) (0, one) (at_head (0, one) []),
+              one_is one binding same,
+            ),
+          )
           (later (Add one) done (Remove binding) kept)
       | inr more ↦ comes (entries ++ (0, one) ∷ []) done binding more (later (Add one) done (Remove binding) kept)
     ]
@@ -181,7 +189,8 @@ goes entries (Remove one ∷ done) binding there none has =
             | inl stayed ↦ (left_there entries one binding stayed).1 (one_is one binding same)
             | inr added ↦ later (Remove one) done (Add binding) none added
           ]
-      | inr more ↦ goes (filter (is_other one) entries) done binding more (later (Remove one) done (Add binding) none) has
+      | inr more ↦ goes (filter (is_other one) entries) done binding more (later (Remove one) done (Add binding) none)
+          has
     ]
   where
     one_is : (one other : Binding) → Remove one ≡ Remove other → one ≡ other

@@ -1,21 +1,28 @@
--- Lists of lines that grow at their ends.
-use Rattle.kob_policy_text.proofs.Words.{List, Policy, answer_line, append-nil, append_assoc, arith, drop, drop_more, drop_of_length-le, get_or, length, nat_tests, ℕ, ◌++◌, ◌+◌, ◌<◌, ◌≡◌, ◌≤◌}
-use Rattle.kob_policy_text.specs.Review.{answers_text}
-use Rattle.kob_policy_text.specs.declared.question.Query as of_text
+-- What items give one after another, each by its number, grows at its end.
+use Rattle.std.proofs.Common.{List, [], append-nil, append_assoc, arith, drop, drop_of_length-le, get_or, length, refl, ℕ, ◌++◌, ◌+◌, ◌<◌, ◌∷◌, ◌≡◌, ◌≤◌}
+use Rattle.std.proofs.lemmas.Bool.Decides.{nat_tests}
+use Rattle.std.proofs.lemmas.List.{drop_more}
+use Rattle.kob_policy_text.specs.Numbered.{numbered}
 
--- the answer to the first of the questions that are left stands behind
-pub answered_more : (policy : Policy) (topics : List (List ℕ)) (number : ℕ) (questions : List of_text.Query)
-    (i : ℕ) (d x : of_text.Query) (out new whole : List ℕ)
-    → out ++ answers_text policy topics number (drop i questions) ≡ whole → i < length questions
-    → x ≡ get_or questions i d → new ≡ out ++ answer_line policy topics number x
-    → new ++ answers_text policy topics (number + 1) (drop (i + 1) questions) ≡ whole
-unfolding answers_text
-answered_more policy topics number questions i d x out new whole kept below is more =
+-- what the first of the items that are left gives stands behind
+pub numbered_more : {A B : Type 0} (given : ℕ → A → List B) (number : ℕ) (items : List A) (i : ℕ) (d x : A)
+    (out new whole : List B)
+    → out ++ numbered given number (drop i items) ≡ whole → i < length items → x ≡ get_or items i d
+    → new ≡ out ++ given number x → new ++ numbered given (number + 1) (drop (i + 1) items) ≡ whole
+unfolding numbered
+numbered_more given number items i d x out new whole kept below is more =
     grind (arith, nat_tests, drop_more, append_assoc)
 
-pub answered_all : (policy : Policy) (topics : List (List ℕ)) (number : ℕ) (questions : List of_text.Query)
-    (i : ℕ) (out whole : List ℕ)
-    → out ++ answers_text policy topics number (drop i questions) ≡ whole → length questions ≤ i → out ≡ whole
-unfolding answers_text
-answered_all policy topics number questions i out whole kept past =
-    grind (arith, nat_tests, drop_of_length-le, append-nil)
+pub numbered_all : {A B : Type 0} (given : ℕ → A → List B) (number : ℕ) (items : List A) (i : ℕ) (out whole : List B)
+    → out ++ numbered given number (drop i items) ≡ whole → length items ≤ i → out ≡ whole
+unfolding numbered
+numbered_all given number items i out whole kept past = grind (arith, nat_tests, drop_of_length-le, append-nil)
+
+-- only what each item gives counts
+pub numbered_same : {A B : Type 0} (given others : ℕ → A → List B) (number : ℕ) (items : List A)
+    → ((n : ℕ) (item : A) → given n item ≡ others n item)
+    → numbered given number items ≡ numbered others number items
+unfolding numbered
+numbered_same given others number [] same = refl
+numbered_same given others number (item ∷ items) same =
+    rw (same number item, numbered_same given others (number + 1) items same) refl

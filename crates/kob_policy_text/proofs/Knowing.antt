@@ -1,46 +1,23 @@
 -- A text that is put last in a list, and as a key in the tree beside it.
-use Rattle.kob_policy_text.proofs.Words.{Bool, List, [], false, list_any, refl, sym, true, ℕ, ◌++◌, ◌∙◌, ◌∷◌, ◌≡◌, ap}
-use Rattle.std.proofs.Common.{inl, inr, subst, ◌||◌}
-use Rattle.std.proofs.lemmas.Bool.{both_ways, cases_Bool}
+use Rattle.kob_policy_text.proofs.Words.{List, [], list_any, sym, true, ℕ, ◌++◌, ◌∙◌, ◌∷◌, ◌≡◌, ap}
+use Rattle.std.proofs.Common.{false, ◌||◌}
 use Rattle.std.proofs.lemmas.List.Folds.{list_any-append}
-use Rattle.std.proofs.lemmas.Slice.Eq.{bytes_eq-Decides}
 use Rattle.kob_names.specs.Same.{same_text}
-use Rattle.kob_prefix_tree.proofs.HeldLaws.{held_added_other, held_added_same, held_empty}
-use Rattle.kob_prefix_tree.specs.Held.{Held, PrefixMap, added, held}
+use Rattle.kob_policy_review.proofs.Keys.{key_put}
+use Rattle.kob_policy_review.specs.Finding.{is_held}
+use Rattle.kob_prefix_tree.proofs.HeldLaws.{held_empty}
+use Rattle.kob_prefix_tree.specs.Held.{Held, PrefixMap, added}
 use Rattle.kob_prefix_tree.specs.declared.kind.PatternKind.TheVariants.{Literal}
 use Rattle.std.specs.FinMap as map
-use Rattle.kob_policy_text.specs.AtHand.{is_held, is_known}
+use Rattle.kob_policy_text.specs.AtHand.{is_known}
 
 pub none_held : (text : List ℕ) → is_known [] text ≡ is_held map.empty text
 none_held text = sym (ap (λ (h : Held). list_any (λ _. true) h.0) (held_empty text))
-
-some_last : (xs : List ℕ) (x : ℕ) → list_any (λ _. true) (xs ++ x ∷ []) ≡ true
-some_last [] x = refl
-some_last (y ∷ xs) x = refl
-
-or_false : (b : Bool) → (b || (false || false)) ≡ b
-or_false true = refl
-or_false false = refl
-
-or_true : (b : Bool) → (b || (true || false)) ≡ true
-or_true true = refl
-or_true false = refl
 
 pub put_held : (texts : List (List ℕ)) (keys : PrefixMap) (key : List ℕ)
     → ((text : List ℕ) → is_known texts text ≡ is_held keys text)
     → (text : List ℕ) → is_known (texts ++ key ∷ []) text ≡ is_held (added keys key Literal 0) text
 put_held texts keys key same text =
     list_any-append (same_text text) texts (key ∷ [])
-    ∙ elim (cases_Bool (same_text text key)) [
-      | inl is ↦
-          let equal : text ≡ key = (bytes_eq-Decides text key).0 is in
-          rw is (or_true (is_known texts text)
-          ∙ sym (subst (λ (t : List ℕ). is_held (added keys key Literal 0) t ≡ true) (sym equal)
-          (ap (λ (h : Held). list_any (λ _. true) h.0) (held_added_same keys key Literal 0)
-          ∙ some_last (held keys key).0 0)))
-      | inr other ↦
-          rw other (or_false (is_known texts text) ∙ same text
-          ∙ sym (ap (λ (h : Held). list_any (λ _. true) h.0)
-          (held_added_other keys key Literal 0 text
-          (λ equal. both_ways _ other ((bytes_eq-Decides text key).1 equal)))))
-    ]
+    ∙ ap (λ b. b || (same_text text key || false)) (same text)
+    ∙ sym (key_put keys key text)

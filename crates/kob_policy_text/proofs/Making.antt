@@ -16,7 +16,8 @@ pub line_keeps : (file : List ℕ) (old policy next : Policy) (lines : List Numb
 unfolding LinesMake
 line_keeps file old policy next lines i d line leads below is makes = grind (arith, nat_tests, drop_more)
 
-pub line_stops : (file : List ℕ) (old policy : Policy) (lines : List Numbered) (i : ℕ) (d line : Numbered) (kind : FaultKind)
+pub line_stops : (file : List ℕ) (old policy : Policy) (lines : List Numbered) (i : ℕ) (d line : Numbered)
+    (kind : FaultKind)
     → Leads file old policy lines (drop i lines) → i < length lines → line ≡ get_or lines i d
     → LineMakes file policy line.line line.text (Err kind)
     → LinesMake file old lines (Err (record { line = line.line; kind = kind }))
@@ -24,7 +25,8 @@ unfolding LinesMake
 line_stops file old policy lines i d line kind leads below is makes = grind (arith, nat_tests, drop_more)
 
 -- the same of an error, which may be want of memory
-pub stopped : (file : List ℕ) (old policy : Policy) (lines : List Numbered) (i : ℕ) (d line : Numbered) (e : LineError)
+pub stopped : (file : List ℕ) (old policy : Policy) (lines : List Numbered) (i : ℕ) (d line : Numbered)
+    (e : LineError)
     → Leads file old policy lines (drop i lines) → i < length lines → line ≡ get_or lines i d
     → MayFail e (LineMakes file policy line.line line.text)
     → IsStopped (fault_at line.line e) (LinesMake file old lines)
@@ -62,7 +64,8 @@ items_end policy origin rest whole kept none = sym kept ∙ ap (with_items polic
 
 -- a line that says nothing readable, or says things one of which can't be added
 pub line_unread : (file : List ℕ) (policy : Policy) (number : ℕ) (line : List ℕ) (above listed : Bool) (e : LineError)
-    → above ≡ is_none policy.heading → listed ≡ policy.has_list → MayFail e (SaysAt above listed line) → MayFail e (LineMakes file policy number line)
+    → above ≡ is_none policy.heading → listed ≡ policy.has_list → MayFail e (SaysAt above listed line)
+    → MayFail e (LineMakes file policy number line)
 unfolding LineMakes
 line_unread file policy number line above listed (Memory e) same has says = tt
 line_unread file policy number line above listed (Fault kind) same has says =
@@ -70,11 +73,18 @@ line_unread file policy number line above listed (Fault kind) same has says =
 
 pub line_made : {A : Type 0} (file made : List ℕ) (policy new : Policy) (number : ℕ) (line : List ℕ)
     (items : List Item) (above listed : Bool) (r : Result A LineError)
-    → made ≡ file → above ≡ is_none policy.heading → listed ≡ policy.has_list → SaysAt above listed line (Ok items) → GivesSeen (λ _. new) r (with_items policy (place made number) items)
+    → made ≡ file → above ≡ is_none policy.heading → listed ≡ policy.has_list → SaysAt above listed line (Ok items)
+    → GivesSeen (λ _. new) r (with_items policy (place made number) items)
     → MayGive (λ _. new) r (LineMakes file policy number line)
 unfolding LineMakes
-line_made file made policy new number line items above listed (Ok x) same is has says gives =
-    (Ok items, rw (sym is, sym has) says, ap (λ (f : List ℕ). with_items policy (place f number) items) (sym same) ∙ gives)
+line_made file made policy new number line items above listed (Ok x) same is has says gives = (
+  Ok items,
+  rw (sym is, sym has) says,
+  ap (λ (f : List ℕ). with_items policy (place f number) items) (sym same) ∙ gives,
+)
 line_made file made policy new number line items above listed (Err (Memory e)) same is has says gives = tt
-line_made file made policy new number line items above listed (Err (Fault kind)) same is has says gives =
-    (Ok items, rw (sym is, sym has) says, ap (λ (f : List ℕ). with_items policy (place f number) items) (sym same) ∙ gives)
+line_made file made policy new number line items above listed (Err (Fault kind)) same is has says gives = (
+  Ok items,
+  rw (sym is, sym has) says,
+  ap (λ (f : List ℕ). with_items policy (place f number) items) (sym same) ∙ gives,
+)

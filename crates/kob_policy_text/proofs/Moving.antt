@@ -48,7 +48,8 @@ hits_with permission question binding hits =
 
 -- Answers as truth values.
 
-either_false : (now few many : Bool) → (now ≡ true → (few ≡ true) ⊎ (many ≡ true)) → few ≡ false → many ≡ false → now ≡ false
+either_false : (now few many : Bool) → (now ≡ true → (few ≡ true) ⊎ (many ≡ true)) → few ≡ false → many ≡ false
+    → now ≡ false
 either_false now few many from few_not many_not =
     false_from_ne_true now (λ is. elim (from is) [
       | inl yes_few ↦ both_ways few few_not yes_few
@@ -74,7 +75,8 @@ granted_so : (denied allowed opened : Bool) → denied ≡ false → (allowed ||
     → granted false denied allowed opened ≡ true
 granted_so denied allowed opened d a = rw (d, a) refl
 
-refused_so : (denied allowed everyone matched : Bool) → denied ≡ false → granted false denied allowed (everyone && not matched) ≡ false
+refused_so : (denied allowed everyone matched : Bool) → denied ≡ false
+    → granted false denied allowed (everyone && not matched) ≡ false
     → (allowed ≡ false) × ((everyone ≡ false) ⊎ (matched ≡ true))
 refused_so true allowed everyone matched d is = absurd cc
 refused_so false true everyone matched d is = absurd cc
@@ -108,10 +110,13 @@ answer_with : (before after : Contents) (question : Question) → HaveSameSettin
     → is_yes after question ≡ answer before after.entries question
 answer_with before after question same =
     yes_is after question
-    ∙ ap (λ (supers : List (List ℕ)). granted (is_super supers question.principal) (list_any (is_hit Deny question) after.entries)
-    (list_any (is_hit Allow question) after.entries) (after.everyone && not (list_any (is_match question) after.entries)))
+    ∙ ap (λ (supers : List (List ℕ)).
+    granted (is_super supers question.principal) (list_any (is_hit Deny question) after.entries)
+    (list_any (is_hit Allow question) after.entries)
+    (after.everyone && not (list_any (is_match question) after.entries)))
     (sym same.supers)
-    ∙ ap (λ (everyone : Bool). granted (is_super before.supers question.principal) (list_any (is_hit Deny question) after.entries)
+    ∙ ap (λ (everyone : Bool).
+    granted (is_super before.supers question.principal) (list_any (is_hit Deny question) after.entries)
     (list_any (is_hit Allow question) after.entries) (everyone && not (list_any (is_match question) after.entries)))
     (sym same.everyone)
 
@@ -135,25 +140,31 @@ module _ (question : Question) where
   matching binding = is_match question (0, binding)
 
 module _ (before after now : Entries) (question : Question) (everyone : Bool) where
-  yes_kept : Whole before now ⊎ Whole after now → ((binding : Binding) → Has now binding → Has before binding ⊎ Has after binding)
+  yes_kept : Whole before now ⊎ Whole after now
+      → ((binding : Binding) → Has now binding → Has before binding ⊎ Has after binding)
       → (everyone ≡ true → not (matched question before) ≡ not (matched question after))
-      → granted false (denied question before) (allowed question before) (everyone && not (matched question before)) ≡ true
-      → granted false (denied question after) (allowed question after) (everyone && not (matched question after)) ≡ true
+      → granted false (denied question before) (allowed question before) (everyone && not (matched question before))
+      ≡ true
+      → granted false (denied question after) (allowed question after) (everyone && not (matched question after))
+      ≡ true
       → granted false (denied question now) (allowed question now) (everyone && not (matched question now)) ≡ true
   yes_kept whole either alike first second =
       let (deny_first, may_first) = not_denied (denied question before) (allowed question before) _ first in
       let (deny_second, may_second) = not_denied (denied question after) (allowed question after) _ second in
       granted_so (denied question now) (allowed question now) _
-      (either_false (denied question now) (denied question before) (denied question after) (any_either (deny_hit question) now before after either) deny_first deny_second)
+      (either_false (denied question now) (denied question before) (denied question after)
+      (any_either (deny_hit question) now before after either) deny_first deny_second)
       (elim whole [
         | inl kept ↦
             elim (opens (allowed question before) everyone (matched question before) may_first) [
-              | inl allows ↦ or_true (allowed question now) _ (any_over (allow_hit question) before now (λ binding is has. kept binding has) allows)
+              | inl allows ↦ or_true (allowed question now) _
+                  (any_over (allow_hit question) before now (λ binding is has. kept binding has) allows)
               | inr (is_open, none) ↦ opened is_open none (both_none is_open none)
             ]
         | inr kept ↦
             elim (opens (allowed question after) everyone (matched question after) may_second) [
-              | inl allows ↦ or_true (allowed question now) _ (any_over (allow_hit question) after now (λ binding is has. kept binding has) allows)
+              | inl allows ↦ or_true (allowed question now) _
+                  (any_over (allow_hit question) after now (λ binding is has. kept binding has) allows)
               | inr (is_open, none) ↦ opened is_open (none_both is_open none) none
             ]
       ])
@@ -162,10 +173,12 @@ module _ (before after now : Entries) (question : Question) (everyone : Bool) wh
       or_true one other is = rw is refl
 
       both_none : everyone ≡ true → matched question before ≡ false → matched question after ≡ false
-      both_none is_open none = not-true (matched question after) (sym (alike is_open) ∙ not_from_false (matched question before) none)
+      both_none is_open none =
+          not-true (matched question after) (sym (alike is_open) ∙ not_from_false (matched question before) none)
 
       none_both : everyone ≡ true → matched question after ≡ false → matched question before ≡ false
-      none_both is_open none = not-true (matched question before) (alike is_open ∙ not_from_false (matched question after) none)
+      none_both is_open none =
+          not-true (matched question before) (alike is_open ∙ not_from_false (matched question after) none)
 
       open_true : (one every some : Bool) → every ≡ true → some ≡ false → (one || (every && not some)) ≡ true
       open_true true every some e m = refl
@@ -175,7 +188,8 @@ module _ (before after now : Entries) (question : Question) (everyone : Bool) wh
           → (allowed question now || (everyone && not (matched question now))) ≡ true
       opened is_open none_before none_after =
           open_true (allowed question now) everyone (matched question now) is_open
-          (either_false (matched question now) (matched question before) (matched question after) (any_either (matching question) now before after either)
+          (either_false (matched question now) (matched question before) (matched question after)
+          (any_either (matching question) now before after either)
           none_before none_after)
 
 module _ (now : Entries) (question : Question) (everyone : Bool) where
@@ -186,7 +200,8 @@ module _ (now : Entries) (question : Question) (everyone : Bool) where
 
   abbrev Refuses : Entries → Type 0
   Refuses entries =
-      granted false (denied question entries) (allowed question entries) (everyone && not (matched question entries)) ≡ false
+      granted false (denied question entries) (allowed question entries) (everyone && not (matched question entries))
+      ≡ false
 
   -- where all of one set is there, and no allow that it lacks
   no_over : (few : Entries) → Whole few now → Over Allow now few → Refuses few → Refuses now
@@ -196,7 +211,8 @@ module _ (now : Entries) (question : Question) (everyone : Bool) where
             denied_so (denied question now) (allowed question now) _
             (any_over (deny_hit question) few now (λ binding hit has. whole binding has) denies)
         | inr none ↦
-            let (no_allow, closed) = refused_so (denied question few) (allowed question few) everyone (matched question few) none is in
+            let (no_allow, closed) =
+            refused_so (denied question few) (allowed question few) everyone (matched question few) none is in
             closed_so (denied question now) (allowed question now) everyone (matched question now)
             (over_false (allowed question now) (allowed question few)
             (any_over (allow_hit question) now few
@@ -205,7 +221,8 @@ module _ (now : Entries) (question : Question) (everyone : Bool) where
       ]
 
   -- where the denies of both sets are there, and all of one
-  no_between : (before after : Entries) → Over Deny before now → Over Deny after now → Whole before now ⊎ Whole after now
+  no_between : (before after : Entries) → Over Deny before now → Over Deny after now
+      → Whole before now ⊎ Whole after now
       → ((binding : Binding) → Has now binding → Has before binding ⊎ Has after binding)
       → Refuses before → Refuses after → Refuses now
   no_between before after first second whole either before_no after_no =
@@ -222,9 +239,11 @@ module _ (now : Entries) (question : Question) (everyone : Bool) where
                   (λ binding hit has. second binding (hits_with Deny question binding hit) has) denies)
               | inr neither ↦
                   let (no_allow, closed) =
-                  refused_so (denied question before) (allowed question before) everyone (matched question before) none before_no in
+                  refused_so (denied question before) (allowed question before) everyone (matched question before)
+                  none before_no in
                   let (no_other, closed_too) =
-                  refused_so (denied question after) (allowed question after) everyone (matched question after) neither after_no in
+                  refused_so (denied question after) (allowed question after) everyone (matched question after)
+                  neither after_no in
                   closed_so (denied question now) (allowed question now) everyone (matched question now)
                   (either_false (allowed question now) (allowed question before) (allowed question after)
                   (any_either (allow_hit question) now before after either) no_allow no_other)
@@ -265,7 +284,8 @@ module _ (before after : Contents) (same : HaveSameSettings before after) where
           (before.everyone && not (matched question before.entries)) ≡ true
           → granted super (denied question after.entries) (allowed question after.entries)
           (before.everyone && not (matched question after.entries)) ≡ true
-          → granted super (denied question (after_steps before.entries done)) (allowed question (after_steps before.entries done))
+          → granted super (denied question (after_steps before.entries done))
+          (allowed question (after_steps before.entries done))
           (before.everyone && not (matched question (after_steps before.entries done))) ≡ true
       yes_by true first second = refl
       yes_by false first second =
@@ -286,7 +306,8 @@ module _ (before after : Contents) (same : HaveSameSettings before after) where
           (before.everyone && not (matched question before.entries)) ≡ false
           → granted super (denied question after.entries) (allowed question after.entries)
           (before.everyone && not (matched question after.entries)) ≡ false
-          → granted super (denied question (after_steps before.entries done)) (allowed question (after_steps before.entries done))
+          → granted super (denied question (after_steps before.entries done))
+          (allowed question (after_steps before.entries done))
           (before.everyone && not (matched question (after_steps before.entries done))) ≡ false
       no_by true first second = absurd cc
       no_by false first second =
@@ -347,7 +368,8 @@ module _ (before after : Entries) where
       (λ is. has_among _ binding (reaches_all binding (among_has after binding is)))
 
 leads_to : (before after : Contents) (binding : Binding)
-    → is_among (rules_after before (steps before.entries after.entries)).entries binding ≡ is_among after.entries binding
+    → is_among (rules_after before (steps before.entries after.entries)).entries binding
+    ≡ is_among after.entries binding
 unfolding rules_after
 leads_to before after binding = among_alike before.entries after.entries binding
 

@@ -1,6 +1,6 @@
 -- Bytes are read one by one into units and objects, and lines one by one with their numbers.
 use Rattle.std.proofs.Common.{Some}
-use Rattle.kob_policy_text.proofs.Words.{Bool, List, None, Option, [], ◌∷◌, append-nil, append_assoc, arith, drop, drop_more, drop_of_length-le, false, get_or, length, nat_tests, refl, sym, true, ℕ, ◌++◌, ◌+◌, ◌<◌, ◌≡◌, ◌≤◌}
+use Rattle.kob_policy_text.proofs.Words.{Bool, List, None, Option, [], ◌∷◌, append_assoc, arith, drop, drop_more, drop_of_length-le, false, get_or, length, nat_tests, refl, sym, true, ℕ, ◌++◌, ◌+◌, ◌<◌, ◌≡◌, ◌≤◌}
 use Rattle.std.specs.Option.{option_to_list}
 use Rattle.kob_policy_text.specs.Encoding.{Units, read_units, with_unit_byte}
 use Rattle.kob_policy_text.specs.Joined.{Numbered, is_continued, joined, joined_from, without_last}
@@ -45,7 +45,8 @@ pub objects_end : (objects : Objects) (number : ℕ) (rest lines : List (List �
 unfolding objects_in
 objects_end objects number rest lines kept none = rw (sym (lines_over objects _ number rest kept none)) refl
 
-pub joins_on : (out whole : List Numbered) (held : Option Numbered) (number : ℕ) (rest more : List (List ℕ)) (line : List ℕ)
+pub joins_on : (out whole : List Numbered) (held : Option Numbered) (number : ℕ) (rest more : List (List ℕ))
+    (line : List ℕ)
     (made : Numbered)
     → out ++ joined_from held number rest ≡ whole → rest ≡ line ∷ more → made ≡ joined held number line
     → is_continued made.text ≡ true
@@ -53,13 +54,15 @@ pub joins_on : (out whole : List Numbered) (held : Option Numbered) (number : �
 unfolding joined_from
 joins_on out whole held number rest more line made kept split is goes = grind (arith, nat_tests)
 
-pub joins_none : (out new whole : List Numbered) (held : Option Numbered) (number : ℕ) (rest more : List (List ℕ)) (line : List ℕ)
+pub joins_none : (out new whole : List Numbered) (held : Option Numbered) (number : ℕ) (rest more : List (List ℕ))
+    (line : List ℕ)
     (made : Numbered)
     → out ++ joined_from held number rest ≡ whole → rest ≡ line ∷ more → made ≡ joined held number line
     → is_continued made.text ≡ false → new ≡ out ++ made ∷ []
     → new ++ joined_from None (number + 1) more ≡ whole
 unfolding joined_from
-joins_none out new whole held number rest more line made kept split is ends gives = grind (arith, nat_tests, append_assoc)
+joins_none out new whole held number rest more line made kept split is ends gives =
+    grind (arith, nat_tests, append_assoc)
 
 pub joins_end : (out whole : List Numbered) (held : Option Numbered) (number : ℕ) (rest : List (List ℕ))
     → out ++ joined_from held number rest ≡ whole → rest ≡ [] → out ++ option_to_list held ≡ whole

@@ -23,12 +23,14 @@ module _ (test : ℕ → Bool) where
   put : (xs : List ℕ) (x : ℕ) → position test (xs ++ x ∷ []) ≡ first_place (position test xs) (test x) (length xs)
   put xs x =
       position_from-zero test (xs ++ x ∷ []) ∙ from_put 0 xs x
-      ∙ ap (first_place (position_from test 0 xs) (test x)) (let counted : 0 + length xs ≡ length xs = omega arith in counted)
+      ∙ ap (first_place (position_from test 0 xs) (test x))
+      (let counted : 0 + length xs ≡ length xs = omega arith in counted)
       ∙ ap (λ place. first_place place (test x) (length xs)) (sym (position_from-zero test xs))
 
 pub first_more : (xs : List ℕ) (place serial : ℕ) (before : Option ℕ) → place < length xs
     → before ≡ position (λ other. other == serial) (take place xs)
-    → first_place before (get_or xs place 0 == serial) place ≡ position (λ other. other == serial) (take (place + 1) xs)
+    → first_place before (get_or xs place 0 == serial) place
+    ≡ position (λ other. other == serial) (take (place + 1) xs)
 first_more xs place serial before below is =
     ap (λ b. first_place b (get_or xs place 0 == serial) place) is
     ∙ ap (first_place (position (λ other. other == serial) (take place xs)) (get_or xs place 0 == serial))

@@ -17,7 +17,8 @@ use Rattle.kob_policy_text.proofs.Doing.{Entries, Has, among_has, has_among, cas
 -- What the commands are.
 
 passes_as : (permission : Permission) (others : Entries) (entry : ℕ × Binding) (binding : Binding)
-    → entry.1 ≡ binding → is_only permission others entry ≡ true → (binding.permission ≡ permission) × ¬ Has others binding
+    → entry.1 ≡ binding → is_only permission others entry ≡ true
+    → (binding.permission ≡ permission) × ¬ Has others binding
 passes_as permission others entry binding is passes =
     let (permits, apart) = and_parts _ _ passes in (
       sym (ap (λ (b : Binding). b.permission) is) ∙ (permission_decides entry.1.permission permission).0 permits,
@@ -26,7 +27,8 @@ passes_as permission others entry binding is passes =
     )
 
 only_passes : (permission : Permission) (others : Entries) (entry : ℕ × Binding) (binding : Binding)
-    → entry.1 ≡ binding → binding.permission ≡ permission → ¬ Has others binding → is_only permission others entry ≡ true
+    → entry.1 ≡ binding → binding.permission ≡ permission → ¬ Has others binding
+    → is_only permission others entry ≡ true
 only_passes permission others entry binding is permits apart =
     and_from _ _
     ((permission_decides entry.1.permission permission).1 (ap (λ (b : Binding). b.permission) is ∙ permits))
@@ -47,7 +49,8 @@ module _ (before after : Entries) where
   abbrev Goes : Permission → Binding → Type 0
   Goes permission binding = Has before binding × ((binding.permission ≡ permission) × ¬ Has after binding)
 
-  addition_is : (permission : Permission) (binding : Binding) → Contains (additions permission before after) (Add binding)
+  addition_is : (permission : Permission) (binding : Binding)
+      → Contains (additions permission before after) (Add binding)
       → Comes permission binding
   unfolding additions addition
   addition_is permission binding there =
@@ -83,7 +86,8 @@ module _ (before after : Entries) where
       let (entry, (in_after, adds)) = from_flat (addition permission before) after (Remove binding) there in
       go entry (cases_Bool (is_only permission before entry)) adds
     where
-      go : (entry : ℕ × Binding) → (is_only permission before entry ≡ true) ⊎ (is_only permission before entry ≡ false)
+      go : (entry : ℕ × Binding)
+          → (is_only permission before entry ≡ true) ⊎ (is_only permission before entry ≡ false)
           → Contains (addition permission before entry) (Remove binding) → ⊥
       go entry (inl passes) adds =
           elim (first_or_rest (Add entry.1) [] (Remove binding) (rw passes at adds)) [
@@ -93,7 +97,8 @@ module _ (before after : Entries) where
       go entry (inr fails) adds =
           let nothing : Contains [] (Remove binding) = rw fails at adds in omega (arith, nothing.1)
 
-  removal_is : (permission : Permission) (binding : Binding) → Contains (removals permission before after) (Remove binding)
+  removal_is : (permission : Permission) (binding : Binding)
+      → Contains (removals permission before after) (Remove binding)
       → Goes permission binding
   unfolding removals removal
   removal_is permission binding there =
@@ -188,7 +193,8 @@ module _ (before after : Entries) (done : List Step) where
 
     denies_arrive : Within (additions Deny before after) done → Over Deny after (after_steps before done)
     denies_arrive within binding permits has =
-        arrives binding (λ new. within (Add binding) (is_addition before after Deny binding (has, (permits, new)))) has
+        arrives binding (λ new. within (Add binding) (is_addition before after Deny binding (has, (permits, new))))
+        has
 
     pub all_arrive : Within (additions Deny before after) done → Within (additions Allow before after) done
         → Whole after (after_steps before done)
@@ -236,7 +242,8 @@ module _ (before after : Entries) (done : List Step) where
 
 -- a part of the commands is sound
 module _ (before after : Entries) where
-  pub adds_of_all : (binding : Binding) → Contains (steps before after) (Add binding) → Has after binding × ¬ Has before binding
+  pub adds_of_all : (binding : Binding) → Contains (steps before after) (Add binding)
+      → Has after binding × ¬ Has before binding
   adds_of_all binding there =
       elim (Contains-append_cases (additions Deny before after) _ (Add binding) there) [
         | inl denies ↦ let (has, (permits, new)) = addition_is before after Deny binding denies in (has, new)
@@ -261,8 +268,10 @@ module _ (before after : Entries) where
               | inl allows ↦ absurd (no_removal before after Allow binding allows)
               | inr removals_left ↦
                   elim (Contains-append_cases (removals Allow before after) _ (Remove binding) removals_left) [
-                    | inl allows ↦ let (has, (permits, gone)) = removal_is before after Allow binding allows in (has, gone)
-                    | inr denies ↦ let (has, (permits, gone)) = removal_is before after Deny binding denies in (has, gone)
+                    | inl allows ↦ let (has, (permits, gone)) = removal_is before after Allow binding allows in
+                        (has, gone)
+                    | inr denies ↦ let (has, (permits, gone)) = removal_is before after Deny binding denies in
+                        (has, gone)
                   ]
             ]
       ]
@@ -270,9 +279,11 @@ module _ (before after : Entries) where
   pub part_sound : (done left : List Step) → done ++ left ≡ steps before after → Sound before after done
   part_sound done left is = record {
     adds = λ binding there. adds_of_all binding
-        (subst (λ (all : List Step). Contains all (Add binding)) is (Contains-append_left done left (Add binding) there));
+        (subst (λ (all : List Step). Contains all (Add binding)) is
+        (Contains-append_left done left (Add binding) there));
     removes = λ binding there. removes_of_all binding
-        (subst (λ (all : List Step). Contains all (Remove binding)) is (Contains-append_left done left (Remove binding) there));
+        (subst (λ (all : List Step). Contains all (Remove binding)) is
+        (Contains-append_left done left (Remove binding) there));
   }
 
   -- while only denies were added
@@ -282,8 +293,10 @@ module _ (before after : Entries) where
       let within : Within done (additions Deny before after) =
       λ step there. subst (λ (all : List Step). Contains all step) is (Contains-append_left done more step there) in
       inl (
-        all_stay before after done (λ binding there. no_removal before after Deny binding (within (Remove binding) there)),
-        allows_stay before after done (λ binding there. (addition_is before after Deny binding (within (Add binding) there)).1.0),
+        all_stay before after done
+            (λ binding there. no_removal before after Deny binding (within (Remove binding) there)),
+        allows_stay before after done
+            (λ binding there. (addition_is before after Deny binding (within (Add binding) there)).1.0),
       )
 
   -- while allows are added
@@ -358,7 +371,8 @@ module _ (before after : Entries) where
       (Contains-append_left (removals Allow before after) part step there))) in
       inr (inr (all_arrive before after done sound denies allows, allows_go before after done sound gone))
 
-  pub stage_of : (done left : List Step) → done ++ left ≡ steps before after → Stage before after (after_steps before done)
+  pub stage_of : (done left : List Step) → done ++ left ≡ steps before after
+      → Stage before after (after_steps before done)
   stage_of done left is =
       let sound = part_sound done left is in
       elim (parted done left (additions Deny before after) _ is) [

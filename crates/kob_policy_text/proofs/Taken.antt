@@ -1,16 +1,14 @@
 -- The trees of the names of patterns take a name exactly if a pattern does.
 use Rattle.kob_policy_text.proofs.Words.{Bool, List, [], ap, codes, false, fold, list_any, refl, sym, true, ℕ, ◌++◌, ◌∙◌, ◌∷◌, ◌≡◌, append_assoc}
-use Rattle.std.proofs.Common.{Contains, append-nil, cond, inl, inr, nat_eq, subst, ◌&&◌, ◌||◌, ◌≢◌}
+use Rattle.std.proofs.Common.{Contains, append-nil, cond, inl, inr, subst, ◌&&◌, ◌||◌}
 use Rattle.std.proofs.Math.Bool.{and-false}
 use Rattle.std.proofs.lemmas.Bool.{and_from, and_parts, both_ways, cases_Bool, or_cases}
 use Rattle.std.proofs.lemmas.List.Elements.{Contains-append_cases}
 use Rattle.std.proofs.lemmas.List.Folds.{list_any-append}
 use Rattle.std.proofs.lemmas.Slice.Eq.{bytes_eq-Decides}
 use Rattle.std.specs.FinMap as finite
-use Rattle.std.specs.List.{starts_with}
 use Rattle.kob_authorizer.proofs.Entries.{any_passes, passing}
 use Rattle.kob_authorizer.specs.Index.{is_place, kind_in_tree, pattern_place, same_kind}
-use Rattle.kob_names.proofs.SameBindings.{resource_decides}
 use Rattle.kob_names.specs.Binding.{Binding, matches, matches_by}
 use Rattle.kob_names.specs.Same.{same_resource, same_text}
 use Rattle.kob_names.specs.declared.kinds.PatternKind.{PatternKind}
@@ -71,15 +69,19 @@ module _ (bindings : List Binding) (resource : ResourceKind) (tree : PrefixMap) 
             ∙ put_kind kind (kind_in_tree binding.pattern.kind) (held tree binding.pattern.name)
             (same_text binding.pattern.name key) same
             ∙ ap (λ (k : List ℕ). some_serial (serials_of kind (held tree k))
-            || ((same_kind (kind_in_tree binding.pattern.kind) kind && same_text binding.pattern.name key) || false)) equal
-            ∙ ap (λ b. b || ((same_kind (kind_in_tree binding.pattern.kind) kind && same_text binding.pattern.name key) || false))
+            || ((same_kind (kind_in_tree binding.pattern.kind) kind && same_text binding.pattern.name key) || false))
+            equal
+            ∙ ap (λ b. b || ((same_kind (kind_in_tree binding.pattern.kind) kind
+            && same_text binding.pattern.name key) || false))
             (is kind key)
             ∙ ap (λ b. list_any (stands_at resource kind key) bindings
-            || ((b && (same_kind (kind_in_tree binding.pattern.kind) kind && same_text binding.pattern.name key)) || false))
+            || ((b && (same_kind (kind_in_tree binding.pattern.kind) kind && same_text binding.pattern.name key))
+            || false))
             (sym of_kind)
             ∙ sym (list_any-append (stands_at resource kind key) bindings (binding ∷ []))
         | inr other ↦
-            let not_there : stands_at resource kind key binding ≡ false = rw (of_kind, other) (and-false (same_kind (kind_in_tree binding.pattern.kind) kind)) in
+            let not_there : stands_at resource kind key binding ≡ false =
+            rw (of_kind, other) (and-false (same_kind (kind_in_tree binding.pattern.kind) kind)) in
             ap (λ (h : Held). some_serial (serials_of kind h))
             (held_added_other tree binding.pattern.name (kind_in_tree binding.pattern.kind) 0 key
             (λ equal. both_ways _ other ((bytes_eq-Decides binding.pattern.name key).1 (sym equal))))
@@ -153,7 +155,8 @@ none_yet resource =
 
 -- What a tree takes.
 
-kind_back : (kind : PatternKind) (put : PatternKind) → same_kind (kind_in_tree kind) (kind_in_tree put) ≡ true → kind ≡ put
+kind_back : (kind : PatternKind) (put : PatternKind) → same_kind (kind_in_tree kind) (kind_in_tree put) ≡ true
+    → kind ≡ put
 kind_back Literal Literal same = refl
 kind_back Prefixed Prefixed same = refl
 kind_back Literal Prefixed same = absurd cc
@@ -169,10 +172,13 @@ module _ (bindings : List Binding) (resource : ResourceKind) (tree : PrefixMap) 
   from_key : (kind : PatternKind) (key : List ℕ) (x : ℕ) → Contains (serials_of (kind_in_tree kind) (held tree key)) x
       → matches_by kind key name ≡ true → list_any (takes_name resource name) bindings ≡ true
   from_key kind key x there matched =
-      let found = sym (is (kind_in_tree kind) key) ∙ some_from (serials_of (kind_in_tree kind) (held tree key)) x there in
+      let found = sym (is (kind_in_tree kind) key)
+      ∙ some_from (serials_of (kind_in_tree kind) (held tree key)) x there in
       let (binding, (in_list, at)) = passing (stands_at resource (kind_in_tree kind) key) bindings found in
-      let parts = and_parts (same_resource binding.resource resource) (is_place (kind_in_tree kind) key (pattern_place binding)) at in
-      let place = and_parts (same_kind (kind_in_tree binding.pattern.kind) (kind_in_tree kind)) (same_text binding.pattern.name key) parts.1 in
+      let parts = and_parts (same_resource binding.resource resource)
+      (is_place (kind_in_tree kind) key (pattern_place binding)) at in
+      let place = and_parts (same_kind (kind_in_tree binding.pattern.kind) (kind_in_tree kind))
+      (same_text binding.pattern.name key) parts.1 in
       let same_pattern = kind_back binding.pattern.kind kind place.0 in
       let same_name = (bytes_eq-Decides binding.pattern.name key).0 place.1 in
       any_passes (takes_name resource name) bindings binding in_list
@@ -209,8 +215,10 @@ module _ (bindings : List Binding) (resource : ResourceKind) (tree : PrefixMap) 
       let there : some_serial (serials_of kind (held tree binding.pattern.name)) ≡ true =
       is kind binding.pattern.name
       ∙ any_passes (stands_at resource kind binding.pattern.name) bindings binding in_list
-      (and_from (same_resource binding.resource resource) (is_place kind binding.pattern.name (pattern_place binding)) parts.0
-      (and_from (same_kind kind kind) (same_text binding.pattern.name binding.pattern.name) (kind_same binding.pattern.kind)
+      (and_from (same_resource binding.resource resource) (is_place kind binding.pattern.name (pattern_place binding))
+      parts.0
+      (and_from (same_kind kind kind) (same_text binding.pattern.name binding.pattern.name)
+      (kind_same binding.pattern.kind)
       ((bytes_eq-Decides binding.pattern.name binding.pattern.name).1 refl))) in
       let (x, (held_there, _)) = passing (λ (_ : ℕ). true) (serials_of kind (held tree binding.pattern.name)) there in
       elim (Contains-append_cases (walk_of tree name) (held tree (codes "*")).0 x
@@ -229,8 +237,10 @@ pub taken_is : (policy : Policy) (asked : authorizer.Question)
     → tree_takes (tree_of (taken_of policy) asked.resource) asked.name ≡ is_taken policy asked
 taken_is policy asked =
     let of_bindings = lead asked.resource no_patterns [] policy.bindings (none_yet asked.resource) in
-    let of_all = lead asked.resource (fold with_pattern no_patterns policy.bindings) policy.bindings policy.closings of_bindings in
-    tree_is (policy.bindings ++ policy.closings) asked.resource (tree_of (taken_of policy) asked.resource) of_all asked.name
+    let of_all = lead asked.resource (fold with_pattern no_patterns policy.bindings) policy.bindings policy.closings
+    of_bindings in
+    tree_is (policy.bindings ++ policy.closings) asked.resource (tree_of (taken_of policy) asked.resource) of_all
+    asked.name
     ∙ list_any-append (takes_name asked.resource asked.name) policy.bindings policy.closings
 
 -- Whether a binding of a policy names the principal.

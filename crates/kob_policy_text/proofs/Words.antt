@@ -1,7 +1,7 @@
 -- The names that the lemmas cite, passed on from one place.
 pub use Rattle.kob_authorizer.specs.Decide.{question_of}
 pub use Rattle.kob_policy_text.specs.Answers.{omission_line, seen_text, who_line}
-pub use Rattle.kob_policy_text.specs.Review.{answer_line, answers_text}
+pub use Rattle.kob_policy_text.specs.Review.{answers_text}
 pub use Rattle.kob_policy_text.specs.AtHand.{with_principal, with_text}
 pub use Rattle.kob_acl_cli.specs.Lines.{texts}
 pub use Rattle.kob_policy_text.specs.Cells.{no_cells, read_cells, with_cell_byte}

@@ -111,7 +111,8 @@ abbrev pub is_other_answer : Bool → Bool → Bool
 is_other_answer true allowed = not allowed
 is_other_answer false allowed = allowed
 
--- An expectation fails exactly if the answer to its `may` is the other one. No other question fails.
+-- An expectation fails exactly if the answer to its `may` is the other one.
+-- No other question fails.
 abbrev pub fails : Policy → Question → Bool
 fails policy (Expect expected access) = is_other_answer expected (is_allowed policy access)
 fails policy (May access) = false
@@ -161,4 +162,5 @@ idempotently asker topic = record { asker = asker; act = act.Idempotent topic }
 abbrev pub IsAsKafkaSince28 : Policy → Type 0
 IsAsKafkaSince28 policy =
     policy.release ≡ Since28 → (asker : Asker) (topic : List ℕ)
-    → (is_allowed policy (idempotently asker topic) ≡ true) ↔ MayProduceIdempotently policy asker topic
+    → (is_allowed policy (idempotently asker topic) ≡ true)
+    ↔ MayProduceIdempotently policy asker topic

@@ -1,16 +1,11 @@
 -- What bindings name, in the order in which it is first named.
-use Rattle.std.specs.Prelude.{Bool, true, not, ◌&&◌, ℕ, List, [], ◌∷◌, ◌++◌, fold, codes, if◌then◌else◌}
+use Rattle.std.specs.Prelude.{Bool, not, ◌&&◌, ℕ, List, [], ◌∷◌, ◌++◌, fold, codes, if◌then◌else◌}
 use Rattle.std.specs.List.{list_any}
 use Rattle.kob_names.specs.Binding.{Binding}
 use Rattle.kob_names.specs.Same.{same_pattern_kind, same_resource, same_text}
 use Rattle.kob_names.specs.declared.kinds.PatternKind.TheVariants.{Literal}
 use Rattle.kob_names.specs.declared.kinds.ResourceKind.{ResourceKind}
 use Rattle.kob_names.specs.declared.kinds.ResourceKind.TheVariants.{Topic}
-use Rattle.kob_prefix_tree.specs.Held.{PrefixMap, held}
-
--- the tree has this key
-abbrev pub is_held : PrefixMap → List ℕ → Bool
-is_held keys text = list_any (λ _. true) (held keys text).0
 
 abbrev pub is_known : List (List ℕ) → List ℕ → Bool
 is_known texts text = list_any (same_text text) texts

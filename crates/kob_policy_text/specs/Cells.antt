@@ -1,6 +1,6 @@
 -- The cells of a row that commas separate (RFC 4180, section 2). A cell in double quotes may have
--- commas, and a quote is written twice there; a row is one line, so that a quote that does not end on
--- it is a fault, as is one within a cell that does not begin with it.
+-- commas, and a quote is written twice there; a row is one line, so that a quote that does not end
+-- on it is a fault, as is one within a cell that does not begin with it.
 use Rattle.std.specs.Prelude.{ℕ, List, [], ◌∷◌, ◌++◌, Result, Ok, Err, if◌then◌else◌, ◌==◌}
 use Rattle.kob_script.specs.declared.fault.FaultKind.{FaultKind}
 use Rattle.kob_script.specs.declared.fault.FaultKind.TheVariants.{BadLine}

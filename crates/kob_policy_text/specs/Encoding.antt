@@ -1,5 +1,5 @@
--- The encodings that are read: UTF-8, of which a byte order mark is no part, and UTF-16 behind a byte
--- order mark (RFC 2781), of which the lower byte of a unit stands first or last.
+-- The encodings that are read: UTF-8, of which a byte order mark is no part, and UTF-16 behind a
+-- byte order mark (RFC 2781), of which the lower byte of a unit stands first or last.
 use Rattle.std.specs.Prelude.{ℕ, Bool, true, false, List, [], ◌∷◌, ◌++◌, ◌+◌, ◌*◌, ◌||◌, Option, Some, None, Result, Ok, Err, if◌then◌else◌, nat_eq, drop, is_some}
 use Rattle.std.specs.List.{starts_with}
 use Rattle.std.specs.Char.Utf16.{has_unpaired_surrogate, utf16_lossy_chars}

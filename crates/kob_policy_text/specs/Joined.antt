@@ -1,6 +1,6 @@
--- The lines of a text with their numbers. A backslash that ends a line of `kafka-acls` joins it with the
--- next one, unless it is quoted, and is no part of the command (POSIX, "Shell Command Language",
--- Escape Character).
+-- The lines of a text with their numbers. A backslash that ends a line of `kafka-acls` joins it
+-- with the next one, unless it is quoted, and is no part of the command (POSIX, "Shell Command
+-- Language", Escape Character).
 use Rattle.std.specs.Prelude.{ℕ, Bool, true, false, List, [], ◌∷◌, ◌++◌, ◌+◌, ◌-◌, ◌&&◌, Option, Some, None, if◌then◌else◌, is_some, length, take}
 use Rattle.std.specs.Option.{option_to_list}
 use Rattle.kob_policy_text.specs.declared.shell.Quoting.{Quoting}

@@ -11,6 +11,7 @@ pub mod Listing
 pub mod LogAnswers
 pub mod LogLines
 pub mod Moved
+pub mod Numbered
 pub mod Objects
 pub mod Options
 pub mod Outcomes

@@ -270,8 +270,8 @@ unfoldable pub is_foreign : List ℕ → Bool
 is_foreign line =
     not (is_listed line || is_some (tool_arguments line)) && are_foreign (words_of line)
 
--- Above every heading, settings of a broker that say nothing of rules are skipped, and in a file with
--- a heading each line of no form.
+-- Above every heading, settings of a broker that say nothing of rules are skipped, and in a file
+-- with a heading each line of no form.
 unfoldable pub is_skipped : Bool → List ℕ → Bool
 is_skipped has_list line = is_other_property line || (has_list && is_foreign line)
 

@@ -88,8 +88,9 @@ unfoldable pub trimmed : List ℕ → List ℕ
 trimmed bytes = trim_end_by is_whitespace (trim_start_by is_whitespace bytes)
 
 -- The lines that `kafka-acls --list` prints. Those of Kafka 2.3 and later name a resource by
--- `ResourcePattern(..)` and a binding by `(principal=.., host=.., ..)`; those of earlier versions by
--- `Topic:orders` or `Topic:LITERAL:orders`, and by `User:x has Allow permission for operations: ..`.
+-- `ResourcePattern(..)` and a binding by `(principal=.., host=.., ..)`; those of earlier versions
+-- by `Topic:orders` or `Topic:LITERAL:orders`, and by
+-- `User:x has Allow permission for operations: ..`.
 
 -- a word, in any case
 abbrev pub is_spelled : List ℕ → List ℕ → Bool
@@ -118,7 +119,8 @@ listed_operation word =
     else (if is_other_operation word then Some None
     else option_map (λ operation. Some operation) (operation_named word)))))
 
--- a kind of resource with an underscore, or as it stands in scripts; nothing for one that is left out
+-- a kind of resource with an underscore, or as it stands in scripts;
+-- nothing for one that is left out
 abbrev pub listed_resource : List ℕ → Option (Option ResourceKind)
 listed_resource word =
     if is_spelled word (codes "TRANSACTIONAL_ID") then Some (Some TransactionalId)

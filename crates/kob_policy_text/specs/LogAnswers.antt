@@ -1,5 +1,5 @@
 -- What rules have to do with the accesses that a log records.
-use Rattle.std.specs.Prelude.{ℕ, Bool, true, false, List, [], ◌∷◌, ◌++◌, ◌+◌, ◌-◌, ◌==◌, Option, Some, None, codes, filter, flat_map, if◌then◌else◌, length}
+use Rattle.std.specs.Prelude.{ℕ, Bool, true, false, List, [], ◌++◌, ◌-◌, ◌==◌, Option, Some, None, codes, filter, flat_map, if◌then◌else◌, length}
 use Rattle.std.specs.Fmt.{decimal}
 use Rattle.std.specs.List.{list_any}
 use Rattle.kob_authorizer.specs.Decide as authorizer
@@ -9,6 +9,7 @@ use Rattle.kob_policy_text.specs.Quoted.{name_text}
 use Rattle.kob_policy_text.specs.Access.{check_of, is_other_answer, question_on}
 use Rattle.kob_policy_text.specs.Answers.{answer_text, line_at, right_text}
 use Rattle.kob_policy_text.specs.LogLines.{Log, log_of}
+use Rattle.kob_policy_text.specs.Numbered.{numbered}
 use Rattle.kob_policy_text.specs.Policy.{Policy, deciding, may, serials_of}
 use Rattle.kob_policy_text.specs.Summary.{count_line}
 use Rattle.kob_policy_text.specs.declared.log_line.Recorded.{Recorded}
@@ -64,16 +65,10 @@ is_decider policy accesses serial = list_any (decides policy serial) accesses
 abbrev pub idle_line : Policy → (ℕ → Bool) → ℕ → ℕ → List ℕ
 idle_line policy among place serial = if among serial then [] else line_at policy (Some place)
 
--- the same of each binding from one on, whose place is given
-unfoldable pub idle_lines : Policy → (ℕ → Bool) → ℕ → List ℕ → List ℕ
-idle_lines policy among place [] = []
-idle_lines policy among place (serial ∷ serials) =
-    idle_line policy among place serial ++ idle_lines policy among (place + 1) serials
-
 -- the bindings that decide none of the accesses
 abbrev pub idle_in : Policy → List Entry → List ℕ
 idle_in policy accesses =
-    idle_lines policy (is_decider policy accesses) 0 (serials_of policy)
+    numbered (idle_line policy (is_decider policy accesses)) 0 (serials_of policy)
 
 -- the lines that record no access
 unfoldable pub skipped_lines : Log → ℕ

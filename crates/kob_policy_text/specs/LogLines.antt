@@ -1,7 +1,7 @@
 -- The lines in which a broker's log records accesses, as Kafka's authorizers write them to
--- `kafka-authorizer.log`: `Principal = PRINCIPAL is Allowed operation = OPERATION from host = HOST on
--- resource = KIND:LITERAL:NAME for request = ..`, of earlier versions `Operation = ..`, a name without
--- `LITERAL`, and no request.
+-- `kafka-authorizer.log`: `Principal = PRINCIPAL is Allowed operation = OPERATION from host = HOST
+-- on resource = KIND:LITERAL:NAME for request = ..`, of earlier versions `Operation = ..`, a name
+-- without `LITERAL`, and no request.
 use Rattle.std.specs.Prelude.{ℕ, Bool, true, false, List, [], ◌∷◌, ◌++◌, ◌+◌, ◌||◌, Option, Some, None, Result, Ok, Err, codes, if◌then◌else◌, ok_or}
 use Rattle.std.specs.Str.{bytes_eq}
 use Rattle.kob_names.specs.declared.kinds.Operation.{Operation}
@@ -108,7 +108,8 @@ recorded_of words = do
   right ← right_in words.operation words.resource
   Ok (recorded_by allowed asker right)
 
--- The access that a line records, nothing for one of another kind; a fault for a line that records none.
+-- The access that a line records, nothing for one of another kind;
+-- a fault for a line that records none.
 abbrev pub access_of : List ℕ → Result (Option Recorded) FaultKind
 access_of line = access_words line >>= recorded_of
 

@@ -20,7 +20,8 @@ use Rattle.kob_policy_text.specs.declared.options.Place.TheVariants.{Anywhere, B
 -- options that say where the cluster is and how to reach it
 abbrev pub is_ignored : List ℕ → Bool
 is_ignored word =
-    bytes_eq word (codes "--authorizer-properties") || bytes_eq word (codes "--bootstrap-controller")
+    bytes_eq word (codes "--authorizer-properties")
+    || bytes_eq word (codes "--bootstrap-controller")
     || bytes_eq word (codes "--authorizer") || bytes_eq word (codes "--zk-tls-config-file")
 
 abbrev pub is_ignored_whole : List ℕ → Bool
@@ -117,8 +118,8 @@ abbrev pub then_added : Result (List Item) FaultKind → Result (List Item) Faul
     → Result (List Item) FaultKind
 then_added first second = first >>= λ items. second >>= λ others. Ok (items ++ others)
 
--- Operations that are left out are left out one by one, and not the line: each is read as All, and the
--- bindings are for the principal that is in their place.
+-- Operations that are left out are left out one by one, and not the line: each is read as All, and
+-- the bindings are for the principal that is in their place.
 
 abbrev pub has_other_operation : CliArgs → Bool
 has_other_operation args = list_any is_other_operation args.operations

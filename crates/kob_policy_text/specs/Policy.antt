@@ -98,8 +98,8 @@ closing_of binding = record {
   pattern = binding.pattern;
 }
 
--- A binding that is left out still closes its pattern where everyone may do what no binding matches;
--- one on a kind of resource that is not supported has no pattern here.
+-- A binding that is left out still closes its pattern where everyone may do what no binding
+-- matches; one on a kind of resource that is not supported has no pattern here.
 abbrev pub with_closing : Policy → LeftOut → Binding → Policy
 with_closing policy left_out.Resource closing = policy
 with_closing policy _ closing = record policy { closings = policy.closings ++ closing ∷ [] }
@@ -184,7 +184,8 @@ place file line = record { file = file; line = line }
 -- with a line more, the policy may be this
 unfoldable pub LineMakes : List ℕ → Policy → ℕ → List ℕ → Result Policy FaultKind → Type 0
 LineMakes file policy number line read =
-    (said : Result (List Item) FaultKind) × SaysAt (is_none policy.heading) policy.has_list line said
+    (said : Result (List Item) FaultKind)
+    × SaysAt (is_none policy.heading) policy.has_list line said
     × ((said >>= with_items policy (place file number)) ≡ read)
 
 -- the lines after one may make this, unless that one has a fault
@@ -213,8 +214,8 @@ abbrev pub TextMakes : List ℕ → Policy → Result (List ℕ) Fault → Resul
 TextMakes file policy (Ok text) read = EachMakes file (at_file text policy) (numbered_in text) read
 TextMakes file policy (Err fault) read = read ≡ Err fault
 
--- A file may make this of a policy, or have this first fault, with lines counted from 1. One that is no
--- text, or an array that is no JSON, has that fault whatever stands above it.
+-- A file may make this of a policy, or have this first fault, with lines counted from 1. One that
+-- is no text, or an array that is no JSON, has that fault whatever stands above it.
 abbrev pub FileMakes : List ℕ → List ℕ → Policy → Result Policy Fault → Type 0
 FileMakes file text policy read = TextMakes file policy (plain_text text) read
 

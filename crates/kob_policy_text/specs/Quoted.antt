@@ -1,5 +1,5 @@
--- How names are printed: as a list has them, between double quotes where a shell would cut or change
--- them (POSIX, "Shell Command Language", Quoting).
+-- How names are printed: as a list has them, between double quotes where a shell would cut or
+-- change them (POSIX, "Shell Command Language", Quoting).
 use Rattle.std.specs.Prelude.{ℕ, Bool, List, [], ◌∷◌, ◌++◌, ◌==◌, ◌||◌, ◌&&◌, not, nat_le, codes, flat_map, if◌then◌else◌}
 use Rattle.std.specs.Fmt.{decimal}
 use Rattle.std.specs.List.{list_all}

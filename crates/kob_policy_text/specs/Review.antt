@@ -1,5 +1,5 @@
 -- How answers over all principals, hosts and names are printed, and all answers in their order.
-use Rattle.std.specs.Prelude.{ℕ, ◌+◌, ◌&&◌, ◌||◌, not, Bool, true, false, List, [], ◌∷◌, ◌++◌, Option, Some, None, codes, flat_map, if◌then◌else◌}
+use Rattle.std.specs.Prelude.{ℕ, ◌&&◌, ◌||◌, not, Bool, true, false, List, [], ◌++◌, Option, Some, None, codes, flat_map, if◌then◌else◌}
 use Rattle.std.specs.Fmt.{decimal}
 use Rattle.kob_authorizer.specs.Decide.{is_super}
 use Rattle.kob_names.specs.Binding.{is_granted}
@@ -23,6 +23,7 @@ use Rattle.kob_policy_text.specs.Answers.{from_text, line_at, line_by, reason_te
 use Rattle.kob_policy_text.specs.AtHand.{each_once}
 use Rattle.kob_policy_text.specs.Holdings.{holdings_text}
 use Rattle.kob_policy_text.specs.Parties.{names_text, party_text, super_grant}
+use Rattle.kob_policy_text.specs.Numbered.{numbered}
 use Rattle.kob_policy_text.specs.Policy.{Policy, contents_of, place_of}
 use Rattle.kob_policy_text.specs.Reaches.{reaches_text}
 use Rattle.kob_policy_text.specs.Summary.{summary_text}
@@ -169,10 +170,8 @@ answer_line policy topics number query =
     ++ question_text policy topics query.question
 
 -- the answers, numbered from one on
-unfoldable pub answers_text : Policy → List (List ℕ) → ℕ → List Query → List ℕ
-answers_text policy topics number [] = []
-answers_text policy topics number (query ∷ others) =
-    answer_line policy topics number query ++ answers_text policy topics (number + 1) others
+abbrev pub answers_text : Policy → List (List ℕ) → ℕ → List Query → List ℕ
+answers_text policy topics number queries = numbered (answer_line policy topics) number queries
 
 -- what changes, and then the answers of the second policy
 abbrev pub review_text : Policy → Policy → Questions → List ℕ

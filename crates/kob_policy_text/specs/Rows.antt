@@ -1,8 +1,7 @@
--- A binding in its seven parts: a row of a table, or an object of JSON as `confluent kafka acl list`
--- prints it.
+-- A binding in its seven parts: a row of a table, or an object of JSON as `confluent kafka acl
+-- list` prints it.
 use Rattle.std.specs.Prelude.{ℕ, Bool, false, List, [], ◌∷◌, Option, Some, None, Result, Ok, Err, codes, if◌then◌else◌, ◌&&◌, ◌||◌, nat_eq, ok_or, option_and_then}
 use Rattle.std.specs.List.{starts_with}
-use Rattle.std.specs.Str.{bytes_eq}
 use Rattle.json.specs.Find.{as_str, get}
 use Rattle.json.specs.Json.{Json, document}
 use Rattle.kob_script.specs.declared.fault.FaultKind.{FaultKind}

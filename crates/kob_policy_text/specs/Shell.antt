@@ -1,6 +1,6 @@
--- The words that a shell passes to a command (POSIX, "Shell Command Language", Quoting). Variables and
--- commands in a word have no value here, so that a dollar or a backquote outside single quotes is a
--- fault, as is a quote that does not end.
+-- The words that a shell passes to a command (POSIX, "Shell Command Language", Quoting). Variables
+-- and commands in a word have no value here, so that a dollar or a backquote outside single quotes
+-- is a fault, as is a quote that does not end.
 use Rattle.std.specs.Prelude.{ℕ, Bool, true, false, List, [], ◌∷◌, ◌++◌, Result, Ok, Err, if◌then◌else◌, ◌==◌, ◌||◌}
 use Rattle.kob_script.specs.declared.fault.FaultKind.{FaultKind}
 use Rattle.kob_script.specs.declared.fault.FaultKind.TheVariants.{Usage}

@@ -1,6 +1,6 @@
--- The commands that lead from one set of bindings to another, one binding each. Denies are added first
--- and removed last, and allows are added before others are removed, so that on the way no right is
--- missing that both sets grant, and none is granted that neither does.
+-- The commands that lead from one set of bindings to another, one binding each. Denies are added
+-- first and removed last, and allows are added before others are removed, so that on the way no
+-- right is missing that both sets grant, and none is granted that neither does.
 use Rattle.std.specs.Prelude.{◌≡◌, ℕ, Bool, true, false, List, [], ◌∷◌, ◌++◌, ◌&&◌, Some, not, flat_map, if◌then◌else◌}
 use Rattle.std.specs.List.{filter, fold, list_any}
 use Rattle.kob_names.specs.Binding.{Binding, same_binding}
@@ -78,8 +78,8 @@ pub record HaveSameSettings (before after : Contents) : Type 0 where
   pub supers : before.supers ≡ after.supers
   pub everyone : before.everyone ≡ after.everyone
 
--- Where what no binding matches is open to everyone, a binding matches on both sides or on neither. (The
--- first binding on a name closes it for all, and no order of single commands mends that.)
+-- Where what no binding matches is open to everyone, a binding matches on both sides or on neither.
+-- (The first binding on a name closes it for all, and no order of single commands mends that.)
 abbrev pub IsMatchedAlike : Contents → Contents → Question → Type 0
 IsMatchedAlike before after question =
     before.everyone ≡ true

@@ -20,7 +20,8 @@ fn every_user(alloc: Global) -> Result<Principal, AllocError>
     }
 }
 
-/// Principals, each once, in the order in which they came, and their texts. Contracts see their list.
+/// Principals, each once, in the order in which they came, and their texts. Contracts see their
+/// list.
 #[derive(Drop)]
 struct Users {
     made: Vec<Principal>,

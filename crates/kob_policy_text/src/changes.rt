@@ -5,12 +5,11 @@ ghost use Rattle.kob_policy_text.specs.Review.{asker_text, change_line, changes_
 ghost use Rattle.kob_policy_text.specs.Parties.{names_text, party_text};
 ghost use Rattle.kob_policy_text.specs.Review.{everyone_text, outcome_text};
 ghost use Rattle.kob_policy_text.specs.Review.{super_line, supers_text, target_text};
-ghost use Rattle.kob_authorizer.specs.Decide.{is_super};
 
 use crate::judge::Judge;
 use crate::quoted::push_name;
 use kob_names::{Principal, Text};
-use kob_policy_review::{Change, Class, Names, Outcome, changes};
+use kob_policy_review::{Change, Class, Names, Outcome, changes, is_super};
 use kob_words::{operation_name, resource_name};
 use std::alloc::{AllocError, Global};
 
@@ -88,12 +87,6 @@ fn push_each(out: &mut Vec<u8>, found: &[Change]) -> Result<(), AllocError>
     Ok(())
 }
 
-fn is_super(supers: &[Principal], user: &Principal) -> bool
-    ensures { result ≡ is_super supers.now user.now }
-{
-    supers.iter().any(|other| other == user)
-}
-
 #[tactic(auto, using(kob_words::proofs::Appending::appending), unfolding(crate::specs::Review::super_line))]
 fn push_super(
     out: &mut Vec<u8>,
@@ -104,7 +97,7 @@ fn push_super(
     ensures { OnOk result (out.new.items
         ≡ out.old.items ++ super_line what.now others.now user.now) }
 {
-    if is_super(others, user) {
+    if is_super(others, user.as_str()) {
         return Ok(());
     }
     out.extend_from_slice(b"super ")?;

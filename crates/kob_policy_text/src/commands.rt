@@ -19,8 +19,8 @@ pub enum Step {
     Remove(Binding),
 }
 
-/// Commands keep the answers: after each, whatever both policies grant is granted, and whatever both
-/// refuse is refused. All of them lead to the bindings of the second.
+/// Commands keep the answers: after each, whatever both policies grant is granted, and whatever
+/// both refuse is refused. All of them lead to the bindings of the second.
 #[tactic(auto, using(crate::proofs::Moving::keep))]
 pub fn steps_keep_answers()
     ensures { (before after : Contents) → HaveSameSettings before after

@@ -1,16 +1,14 @@
 //! What is granted to a principal.
 
 ghost use Rattle.std.specs.Prelude.{◌≡◌, ◌++◌, OnOk, flat_map};
-ghost use Rattle.kob_authorizer.specs.Decide.{is_super};
 ghost use Rattle.kob_policy_text.specs.Holdings.{behind_comma, from_host, holding_line, holding_text};
 ghost use Rattle.kob_policy_text.specs.Holdings.{holdings_text, is_nothing, is_repeated, joined};
 ghost use Rattle.kob_policy_text.specs.Holdings.{open_text, operations_text};
 
 use crate::changes::{push_names, push_party};
 use crate::judge::Judge;
-use crate::who::names_all;
 use kob_names::{Host, Operation, Principal};
-use kob_policy_review::{Holding, rights};
+use kob_policy_review::{Holding, is_super, names_all, rights};
 use kob_words::{operation_name, resource_name};
 use std::alloc::{AllocError, Global};
 
@@ -82,7 +80,9 @@ fn push_line(out: &mut Vec<u8>, host: &Option<Host>, one: &Holding) -> Result<()
     out.extend_from_slice(b"\n")
 }
 
-fn is_repeated(host: &Option<Host>, one: &Holding) -> bool
+/// Whether a holding is at the word for all hosts, which asks as all others do, where each host is
+/// listed.
+pub fn is_repeated(host: &Option<Host>, one: &Holding) -> bool
     ensures { result ≡ is_repeated host.now one.now }
 {
     match host {
@@ -117,12 +117,6 @@ fn push_each(out: &mut Vec<u8>, host: &Option<Host>, found: &[Holding]) -> Resul
     Ok(())
 }
 
-fn is_super(supers: &[Principal], principal: &Principal) -> bool
-    ensures { result ≡ is_super supers.now principal.now }
-{
-    supers.iter().any(|user| user == principal)
-}
-
 fn open_text(everyone: bool) -> &'static str
     ensures { result.now ≡ open_text everyone }
 {
@@ -146,7 +140,7 @@ pub fn push_holdings(
     ensures { OnOk result
         (out.new.items ≡ out.old.items ++ holdings_text judge.now principal.now host.now) }
 {
-    if is_super(judge.policy().supers(), principal) {
+    if is_super(judge.policy().supers(), principal.as_str()) {
         return out.extend_from_slice(b"  All on every name, as a super user\n");
     }
     let found = rights(alloc, judge.authorizer(), principal, host)?;

@@ -61,8 +61,9 @@ pub use at_hand::{
 pub use changes::print_changes;
 pub use commands::{Step, steps, steps_keep_answers};
 pub use encoding::plain_text;
+pub use holdings::is_repeated;
 pub use item::LeftOut;
-pub use judge::Judge;
+pub use judge::{Judge, deciding};
 pub use laws::idempotence_is_kafkas;
 pub use log_answer::{
     any_otherwise, deciders, is_otherwise, otherwise_count, print_log, skipped_lines, verdict_on,
@@ -72,9 +73,11 @@ pub use log_reading::{Entry, Log, read_log};
 pub use moved::print_moved;
 pub use origin::{Omission, Origin};
 pub use policy::Policy;
+pub use printed::{left_out_word, origin_by};
 pub use question::{
     Access, Act, Asker, Query, Question, Questions, Right, read_questions, read_topics,
 };
+pub use reaches::asks_as_others;
 pub use reading::read_file;
 pub use rights::{on as asked_on, rights_of};
 pub use summary::unused_count;

@@ -356,8 +356,8 @@ fn items_in(alloc: Global, skipped: bool, line: &[u8]) -> Result<Vec<Item>, Line
     trimmed_items(alloc, line)
 }
 
-/// What a line says, above every heading of its file or not. The options of `kafka-acls` and of `acl`
-/// are read by `clap`.
+/// What a line says, above every heading of its file or not. The options of `kafka-acls` and of
+/// `acl` are read by `clap`.
 pub fn items_of(
     alloc: Global,
     above: bool,

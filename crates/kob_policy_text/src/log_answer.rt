@@ -5,11 +5,12 @@ ghost use Rattle.std.specs.HashSet.{contains};
 ghost use Rattle.std.specs.List.{list_any};
 ghost use Rattle.kob_authorizer.specs.Decide as authorizer;
 ghost use Rattle.kob_policy_text.specs.LogAnswers.{accesses_text, asked_in, decides, differs};
-ghost use Rattle.kob_policy_text.specs.LogAnswers.{idle_in, idle_line, idle_lines, is_decider};
+ghost use Rattle.kob_policy_text.specs.LogAnswers.{idle_in, idle_line, is_decider};
 ghost use Rattle.kob_policy_text.specs.LogAnswers.{is_otherwise, judged_text, log_text};
 ghost use Rattle.kob_policy_text.specs.LogAnswers.{otherwise_line, otherwise_text, place_text};
 ghost use Rattle.kob_policy_text.specs.LogAnswers.{skipped_lines, unjudged_text, verdict_on, was_text};
 ghost use Rattle.kob_policy_text.specs.LogLines.{log_of};
+ghost use Rattle.kob_policy_text.specs.Numbered.{numbered};
 ghost use Rattle.kob_policy_text.specs.Policy.{serials_of};
 
 use crate::access::is_other_answer;
@@ -143,7 +144,7 @@ fn push_idle(
 
 fn push_idle_lines(out: &mut Vec<u8>, judge: &Judge, set: &HashSet<u64>) -> Result<(), AllocError>
     ensures { OnOk result (out.new.items ≡ out.old.items
-        ++ idle_lines judge.now (contains nat_eq set.now) 0 (serials_of judge.now)) }
+        ++ numbered (idle_line judge.now (contains nat_eq set.now)) 0 (serials_of judge.now)) }
 {
     let serials = judge.serials();
     for (place, serial) in serials.iter().enumerate() {

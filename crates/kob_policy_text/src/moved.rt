@@ -155,8 +155,8 @@ fn push_alone(
 }
 
 /// Prints the bindings that only the first policy has, below `removed`, and those that only the
-/// second one has, below `added`. Bindings are equal whatever their serials are. The error is out of
-/// memory; `out` has then grown by a part of the text.
+/// second one has, below `added`. Bindings are equal whatever their serials are. The error is out
+/// of memory; `out` has then grown by a part of the text.
 #[tactic(auto, using(kob_words::proofs::Appending::appending))]
 pub fn print_moved(
     alloc: Global,

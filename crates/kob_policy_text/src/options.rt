@@ -30,8 +30,8 @@ use kob_script::{FaultKind, LineError};
 use std::alloc::{AllocError, Global};
 use std::mem;
 
-/// Where a word of options is: maybe behind an option whose value has no effect, or behind one for a
-/// resource of another kind.
+/// Where a word of options is: maybe behind an option whose value has no effect, or behind one for
+/// a resource of another kind.
 #[derive(Clone, Copy)]
 pub enum Place {
     Anywhere,

@@ -2,12 +2,12 @@
 
 ghost use Rattle.std.specs.Prelude.{◌≡◌, IfOk, OnOk, fold};
 ghost use Rattle.std.specs.List.{list_any};
-ghost use Rattle.kob_authorizer.specs.Index.{kind_in_tree};
 ghost use Rattle.kob_policy_text.specs.Taking.{no_patterns, patterns_of, takes_name, tree_of, tree_takes};
 ghost use Rattle.kob_policy_text.specs.Taking.{with_pattern};
 
-use kob_names::{Binding, PatternKind, ResourceKind};
-use kob_prefix_tree::{PatternKind as KindInTree, PrefixTree};
+use kob_names::{Binding, ResourceKind};
+use kob_policy_review::kind_in_tree;
+use kob_prefix_tree::PrefixTree;
 use std::alloc::{AllocError, Global};
 
 /// The names of patterns.
@@ -17,15 +17,6 @@ pub struct Patterns {
     groups: PrefixTree,
     cluster: PrefixTree,
     transactional_ids: PrefixTree,
-}
-
-fn kind_in_tree(kind: PatternKind) -> KindInTree
-    ensures { result ≡ kind_in_tree kind }
-{
-    match kind {
-        PatternKind::Literal => KindInTree::Literal,
-        PatternKind::Prefixed => KindInTree::Prefixed,
-    }
 }
 
 /// Whether a prefix of the name, the name, or `*` is in the tree.

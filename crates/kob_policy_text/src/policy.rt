@@ -19,9 +19,9 @@ use kob_script::{FaultKind, LineError};
 use std::alloc::{AllocError, Global};
 use std::marker::Model;
 
-/// The bindings of some files in the order in which they are read, each beside its origin, the super
-/// users, whether what no binding matches is open to everyone, and what was left out, whose patterns
-/// are closed nevertheless.
+/// The bindings of some files in the order in which they are read, each beside its origin, the
+/// super users, whether what no binding matches is open to everyone, and what was left out, whose
+/// patterns are closed nevertheless.
 #[derive(Drop)]
 pub struct Policy {
     supers: Vec<Principal>,
@@ -215,7 +215,8 @@ impl Policy {
         what: LeftOut,
         draft: &Draft,
     ) -> Result<(), LineError>
-        ensures { GivesSeen (λ _. self.new) result (with_draft_left_out self.old origin.now what draft.now) }
+        ensures { GivesSeen (λ _. self.new) result
+            (with_draft_left_out self.old origin.now what draft.now) }
     {
         let closing = closing_binding(alloc, draft)?;
         match self.add_omission(alloc, origin, what, draft.permission == Permission::Deny) {

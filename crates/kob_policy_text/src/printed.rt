@@ -80,8 +80,8 @@ fn push_origin_behind(out: &mut Vec<u8>, origin: Option<&Origin>) -> Result<(), 
     }
 }
 
-/// The first origin of the binding that decides.
-fn origin_by(judge: &Judge, serial: Option<u64>) -> Option<&Origin>
+/// The first origin of the binding with a serial.
+pub fn origin_by(judge: &Judge, serial: Option<u64>) -> Option<&Origin>
     ensures { option_copied result ≡ origin_by judge.entry.now serial }
 {
     let place = judge.place_of(serial?)?;
@@ -161,7 +161,8 @@ pub fn push_right(out: &mut Vec<u8>, asked: &Asked<'_>) -> Result<(), AllocError
     push_name(out, asked.name)
 }
 
-fn left_out_word(what: LeftOut) -> &'static str
+/// The word for what was left out.
+pub fn left_out_word(what: LeftOut) -> &'static str
     ensures { result.now ≡ left_out_word what }
 {
     match what {

@@ -166,25 +166,67 @@ impl Questions {
             }
         }
     }
-}
 
-fn add_words(
-    alloc: Global,
-    questions: &mut Questions,
-    line: &[u8],
-    words: &[Word<'_>],
-    are_names: bool,
-) -> Result<(), LineError>
-    ensures { GivesSeen (λ _. questions.new) result
-        (with_words are_names line.now questions.old words.now) }
-{
-    match words {
-        [] => Ok(()),
-        _ if are_names => questions.add_topic(alloc, words),
-        [first, arguments @ ..] if is_word(first, b"topic") => {
-            questions.add_topic(alloc, arguments)
+    fn add_words(
+        &mut self,
+        alloc: Global,
+        line: &[u8],
+        words: &[Word<'_>],
+        are_names: bool,
+    ) -> Result<(), LineError>
+        ensures { GivesSeen (λ _. self.new) result
+            (with_words are_names line.now self.old words.now) }
+    {
+        match words {
+            [] => Ok(()),
+            _ if are_names => self.add_topic(alloc, words),
+            [first, arguments @ ..] if is_word(first, b"topic") => {
+                self.add_topic(alloc, arguments)
+            }
+            [first, arguments @ ..] => self.add_question(alloc, line, first, arguments),
         }
-        [first, arguments @ ..] => questions.add_question(alloc, line, first, arguments),
+    }
+
+    /// The line is cut as a shell cuts it.
+    #[tactic(auto, unfolding(crate::specs::Questions::unquoted_words))]
+    fn add_unquoted(&mut self, alloc: Global, line: &[u8], are_names: bool) -> Result<(), LineError>
+        ensures { GivesSeen (λ _. self.new) result
+            (with_read are_names line.now self.old (unquoted_words line.now)) }
+    {
+        let texts = texts_of(alloc, line)?;
+        let words = each_word(alloc, texts.as_slice())?;
+        self.add_words(alloc, line, &words, are_names)
+    }
+
+    fn add_quoted(&mut self, alloc: Global, line: &[u8], are_names: bool) -> Result<(), LineError>
+        ensures { GivesSeen (λ _. self.new) result
+            (with_read are_names line.now self.old (words_in true line.now)) }
+    {
+        let words = words_of(alloc, line)?;
+        match words.as_slice() {
+            [] => Ok(()),
+            [_, ..] => self.add_unquoted(alloc, line, are_names),
+        }
+    }
+
+    fn add_plain(&mut self, alloc: Global, line: &[u8], are_names: bool) -> Result<(), LineError>
+        ensures { GivesSeen (λ _. self.new) result
+            (with_read are_names line.now self.old (words_in false line.now)) }
+    {
+        let words = words_of(alloc, line)?;
+        self.add_words(alloc, line, &words, are_names)
+    }
+
+    #[tactic(auto, unfolding(crate::specs::Questions::with_line))]
+    fn add_line(&mut self, alloc: Global, line: &[u8], are_names: bool) -> Result<(), LineError>
+        ensures { GivesSeen (λ _. self.new) result
+            (with_line are_names self.old line.now) }
+    {
+        if has_quotes(line) {
+            self.add_quoted(alloc, line, are_names)
+        } else {
+            self.add_plain(alloc, line, are_names)
+        }
     }
 }
 
@@ -221,68 +263,6 @@ fn texts_of(alloc: Global, line: &[u8]) -> Result<Vec<Bytes>, LineError>
     }
 }
 
-/// The line is cut as a shell cuts it.
-#[tactic(auto, unfolding(crate::specs::Questions::unquoted_words))]
-fn add_unquoted(
-    alloc: Global,
-    questions: &mut Questions,
-    line: &[u8],
-    are_names: bool,
-) -> Result<(), LineError>
-    ensures { GivesSeen (λ _. questions.new) result
-        (with_read are_names line.now questions.old (unquoted_words line.now)) }
-{
-    let texts = texts_of(alloc, line)?;
-    let words = each_word(alloc, texts.as_slice())?;
-    add_words(alloc, questions, line, &words, are_names)
-}
-
-fn add_quoted(
-    alloc: Global,
-    questions: &mut Questions,
-    line: &[u8],
-    are_names: bool,
-) -> Result<(), LineError>
-    ensures { GivesSeen (λ _. questions.new) result
-        (with_read are_names line.now questions.old (words_in true line.now)) }
-{
-    let words = words_of(alloc, line)?;
-    match words.as_slice() {
-        [] => Ok(()),
-        [_, ..] => add_unquoted(alloc, questions, line, are_names),
-    }
-}
-
-fn add_plain(
-    alloc: Global,
-    questions: &mut Questions,
-    line: &[u8],
-    are_names: bool,
-) -> Result<(), LineError>
-    ensures { GivesSeen (λ _. questions.new) result
-        (with_read are_names line.now questions.old (words_in false line.now)) }
-{
-    let words = words_of(alloc, line)?;
-    add_words(alloc, questions, line, &words, are_names)
-}
-
-#[tactic(auto, unfolding(crate::specs::Questions::with_line))]
-fn add_line(
-    alloc: Global,
-    questions: &mut Questions,
-    line: &[u8],
-    are_names: bool,
-) -> Result<(), LineError>
-    ensures { GivesSeen (λ _. questions.new) result
-        (with_line are_names questions.old line.now) }
-{
-    if has_quotes(line) {
-        add_quoted(alloc, questions, line, are_names)
-    } else {
-        add_plain(alloc, questions, line, are_names)
-    }
-}
-
 /// Reads lines of names or of questions.
 fn read_lines(
     alloc: Global,
@@ -296,7 +276,7 @@ fn read_lines(
     let mut number: u64 = 0;
     for line in text.lines() {
         number += 1;
-        match add_line(alloc, questions, line, are_names) {
+        match questions.add_line(alloc, line, are_names) {
             Ok(()) => {}
             Err(error) => return Err(fault_at(error, number)),
         }
@@ -304,11 +284,12 @@ fn read_lines(
     Ok(())
 }
 
-/// Reads questions, a line each, after those that were read before: `may`, `expect`, `who`, `rights`,
-/// `sees`, `summary`, `unused`, `shadowed` and `removable`, and `topic` with a name that is given. Quotes and
-/// backslashes are read as a POSIX shell reads them, and then `%` and two hexadecimal digits as a
-/// byte. The error is the first line with a fault, or out of memory: `BadLine` is also a quote that
-/// does not end, or a dollar or a backquote outside single quotes on a line that has quotes.
+/// Reads questions, a line each, after those that were read before: `may`, `expect`, `who`,
+/// `rights`, `sees`, `summary`, `unused`, `shadowed` and `removable`, and `topic` with a name that
+/// is given. Quotes and backslashes are read as a POSIX shell reads them, and then `%` and two
+/// hexadecimal digits as a byte. The error is the first line with a fault, or out of memory:
+/// `BadLine` is also a quote that does not end, or a dollar or a backquote outside single quotes on
+/// a line that has quotes.
 pub fn read_questions(
     alloc: Global,
     questions: &mut Questions,

@@ -66,8 +66,8 @@ fn push_quoted(out: &mut Vec<u8>, name: &[u8]) -> Result<(), AllocError>
     out.extend_from_slice(b"\"")
 }
 
-/// Prints a name of a list: as it is if a shell leaves it so, else between double quotes. A byte that
-/// is no printed ASCII, and a percent sign, are `%` and two hexadecimal digits.
+/// Prints a name of a list: as it is if a shell leaves it so, else between double quotes. A byte
+/// that is no printed ASCII, and a percent sign, are `%` and two hexadecimal digits.
 #[tactic(auto, unfolding(crate::specs::Quoted::name_text))]
 pub fn push_name(out: &mut Vec<u8>, name: &str) -> Result<(), AllocError>
     ensures { OnOk result (out.new.items ≡ out.old.items ++ name_text name.now) }

@@ -8,8 +8,8 @@ use crate::at_hand::each_once;
 use crate::changes::push_party;
 use crate::judge::Judge;
 use crate::question::Right;
-use crate::who::{names_all, push_supers};
-use kob_policy_review::{Reach, Share, who_below};
+use crate::who::push_supers;
+use kob_policy_review::{Reach, Share, names_all, who_below};
 use std::alloc::{AllocError, Global};
 
 #[tactic(auto, using(kob_words::proofs::Appending::appending))]
@@ -47,7 +47,8 @@ fn push_by_share(out: &mut Vec<u8>, one: &Reach) -> Result<(), AllocError>
     }
 }
 
-fn asks_as_others(one: &Reach) -> bool
+/// Whether the principal or the host is the word for all, which asks as all others do.
+pub fn asks_as_others(one: &Reach) -> bool
     ensures { result ≡ asks_as_others one.now }
 {
     names_all("User:*", &one.principal) || names_all("*", &one.host)

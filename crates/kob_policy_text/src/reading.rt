@@ -18,13 +18,13 @@ use kob_script::{Fault, LineError, ScriptError};
 use std::alloc::Global;
 
 /// Reads a file after those that were read before: UTF-8, or UTF-16 behind a byte order mark. Lines
-/// end with a line feed, before which one carriage return is dropped; a backslash that ends a line of
-/// `kafka-acls` joins it with the next one. An array of JSON is read object by object.
+/// end with a line feed, before which one carriage return is dropped; a backslash that ends a line
+/// of `kafka-acls` joins it with the next one. An array of JSON is read object by object.
 ///
 /// The error is the first line with a fault, or out of memory; the policy then holds what the lines
 /// before it say, and maybe a part of that line. `BadName` is a pattern's name that no binding may
-/// have, `NoResource` a listed binding without a heading. The fault of a text that is not UTF-16, or
-/// of an array that does not end, comes before all others.
+/// have, `NoResource` a listed binding without a heading. The fault of a text that is not UTF-16,
+/// or of an array that does not end, comes before all others.
 pub fn read_file(
     alloc: Global,
     policy: &mut Policy,

@@ -1,9 +1,10 @@
 //! Texts, each once.
 
 ghost use Rattle.std.specs.Prelude.{◌≡◌, [], OnErr, OnOk, length};
-ghost use Rattle.kob_policy_text.specs.AtHand.{is_held, is_known, with_text};
+ghost use Rattle.kob_policy_text.specs.AtHand.{is_known, with_text};
 
 use kob_names::Text;
+use kob_policy_review::is_held;
 use kob_prefix_tree::{PatternKind, PrefixTree};
 use std::alloc::{AllocError, Global};
 use std::marker::Model;
@@ -18,7 +19,8 @@ pub struct Texts {
 
 impl Model for Texts {
     ghost use Rattle.std.specs.Prelude.{◌≡◌, List, ℕ};
-    ghost use Rattle.kob_policy_text.specs.AtHand.{is_held, is_known};
+    ghost use Rattle.kob_policy_review.specs.Finding.{is_held};
+    ghost use Rattle.kob_policy_text.specs.AtHand.{is_known};
 
     ghost Value = { List (List ℕ) };
 
@@ -76,11 +78,4 @@ impl Texts {
     {
         self.made
     }
-}
-
-/// Whether the tree has this key.
-fn is_held(keys: &PrefixTree, text: &str) -> bool
-    ensures { result ≡ is_held keys.now text.now }
-{
-    keys.literal(text.as_bytes()).next().is_some()
 }

@@ -1,7 +1,6 @@
 //! Who may do what, and which topics a principal sees.
 
 ghost use Rattle.std.specs.Prelude.{◌≡◌, ◌++◌, IfOk, OnOk, codes, flat_map};
-ghost use Rattle.kob_policy_review.specs.Difference.{names_all};
 ghost use Rattle.kob_policy_text.specs.Answers.{from_text, is_seen, seen_text, sees_text};
 ghost use Rattle.kob_policy_text.specs.Answers.{topic_text, topics_asked, who_line};
 ghost use Rattle.kob_policy_text.specs.Review.{grant_if_told, grant_line, granted_text, is_told};
@@ -18,7 +17,7 @@ use crate::printed::push_reason;
 use crate::question::{Asker, Right};
 use crate::quoted::push_name;
 use kob_names::{Host, Operation, PlainValue, Principal, ResourceKind, Text};
-use kob_policy_review::{Answer, Names, Target, who};
+use kob_policy_review::{Answer, Names, Target, names_all, who};
 use kob_words::{operation_name, resource_name};
 use std::alloc::{AllocError, Global};
 
@@ -113,16 +112,6 @@ pub fn target_at(alloc: Global, right: &Right) -> Result<Target, AllocError>
         resource: right.resource,
         names,
     })
-}
-
-/// Whether the party is the word for all, which asks as all others do.
-pub fn names_all(all: &str, party: &Option<Text>) -> bool
-    ensures { result ≡ names_all all.now party.now }
-{
-    match party {
-        Some(party) => party.as_str() == all,
-        None => false,
-    }
 }
 
 /// Whether `who` lists the answer: a grant, of which no other row speaks.

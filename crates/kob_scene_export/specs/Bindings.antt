@@ -113,16 +113,19 @@ abbrev pub refused_note : Bool → List ℕ
 refused_note true = codes ""
 refused_note false = codes "# kafka-acls.sh refuses this operation on this kind of resource.\n"
 
+-- a command with its options, a comment where it can't be written
+unfoldable pub command_line : List ℕ → Draft → List ℕ
+command_line command d =
+    refused_note (is_taken d.resource d.operation) ++ comment_unless (is_written d)
+    ++ line_text (is_written d) command d
+
 abbrev pub binding_line : Draft → List ℕ
 binding_line d =
-    write_note (same_operation d.operation IdempotentWrite)
-    ++ refused_note (is_taken d.resource d.operation) ++ comment_unless (is_written d)
-    ++ line_text (is_written d) add_text d
+    write_note (same_operation d.operation IdempotentWrite) ++ command_line add_text d
 
 -- a removal needs no answer to a question
 unfoldable pub remove_text : List ℕ
 remove_text = codes "kafka-acls.sh --remove --force"
 
 abbrev pub removal_line : Draft → List ℕ
-removal_line d = refused_note (is_taken d.resource d.operation) ++ comment_unless (is_written d)
-    ++ line_text (is_written d) remove_text d
+removal_line d = command_line remove_text d

@@ -17,24 +17,43 @@ property_text name value =
 
 -- the transform
 unfoldable pub router_text : List ℕ
-router_text = codes "transforms=outbox\ntransforms.outbox.type=io.debezium.transforms.outbox.EventRouter\n"
+router_text =
+    codes "transforms=outbox\n"
+    ++ codes "transforms.outbox.type=io.debezium.transforms.outbox.EventRouter\n"
+
+unfoldable pub field_text : List ℕ
+field_text = codes "transforms.outbox.table.field.event."
+
+-- the column that has a field of an event
+unfoldable pub column_text : List ℕ → List ℕ
+column_text column = field_text ++ column ++ codes "\n"
 
 -- the columns of an event
 unfoldable pub columns_text : List ℕ
-columns_text = codes "transforms.outbox.table.field.event.id=id\ntransforms.outbox.table.field.event.key=aggregateid\ntransforms.outbox.table.field.event.type=type\ntransforms.outbox.table.field.event.payload=payload\n"
+columns_text =
+    column_text (codes "id=id") ++ column_text (codes "key=aggregateid")
+    ++ column_text (codes "type=type") ++ column_text (codes "payload=payload")
 
 -- keys and values as they are
 unfoldable pub converters_text : List ℕ
-converters_text = codes "key.converter=org.apache.kafka.connect.storage.StringConverter\nvalue.converter=org.apache.kafka.connect.storage.StringConverter\n"
+converters_text =
+    codes "key.converter=org.apache.kafka.connect.storage.StringConverter\n"
+    ++ codes "value.converter=org.apache.kafka.connect.storage.StringConverter\n"
 
 -- the table that is read
 unfoldable pub table_text : List ℕ
-table_text = codes "# CREATE TABLE outbox (id uuid PRIMARY KEY,\n#   aggregatetype varchar(255) NOT NULL,\n#   aggregateid varchar(255) NOT NULL,\n#   type varchar(255) NOT NULL,\n#   payload text NOT NULL);\n"
+table_text =
+    codes "# CREATE TABLE outbox (id uuid PRIMARY KEY,\n"
+    ++ codes "#   aggregatetype varchar(255) NOT NULL,\n"
+    ++ codes "#   aggregateid varchar(255) NOT NULL,\n"
+    ++ codes "#   type varchar(255) NOT NULL,\n"
+    ++ codes "#   payload text NOT NULL);\n"
 
 -- what Kafka does otherwise
 abbrev pub producer_note : List ℕ
 producer_note =
-    codes "# Here the first batch of its producer on a partition has base 0; in Kafka it may have any.\n"
+    codes "# Here the first batch of its producer on a partition has base 0; "
+    ++ codes "in Kafka it may have any.\n"
 
 unfoldable pub name_text : List ℕ → List ℕ
 name_text name = codes "# service " ++ bytes_text name ++ codes "\n" ++ producer_note

@@ -8,7 +8,8 @@ use Rattle.kob_scene_export.specs.Plain.{comment_unless}
 abbrev pub head_text : List ℕ
 head_text =
     codes "# Put --bootstrap-server HOST:PORT after each command.\n"
-    ++ codes "# A line that can't be used as it is is a comment; its escapes are those of scripts.\n"
+    ++ codes "# A line that can't be used as it is is a comment; "
+    ++ codes "its escapes are those of scripts.\n"
 
 abbrev pub everyone_text : Bool → List ℕ
 everyone_text true = codes "allow.everyone.if.no.acl.found=true\n"

@@ -1,7 +1,8 @@
 //! Bindings, as `kafka-acls.sh` adds them.
 
 ghost use Rattle.std.specs.Prelude.{◌≡◌, ◌++◌, OnOk};
-ghost use Rattle.kob_scene_export.specs.Bindings.{add_text, binding_line, grant_text, host_option};
+ghost use Rattle.kob_scene_export.specs.Bindings.{add_text, binding_line, command_line, grant_text};
+ghost use Rattle.kob_scene_export.specs.Bindings.{host_option};
 ghost use Rattle.kob_scene_export.specs.Bindings.{host_text, is_of_groups, is_of_the_cluster};
 ghost use Rattle.kob_scene_export.specs.Bindings.{is_of_topics, is_of_transactions, is_taken};
 ghost use Rattle.kob_scene_export.specs.Bindings.{is_whole_cluster, is_written, line_text};
@@ -15,8 +16,8 @@ use kob_words::operation_name;
 use std::alloc::AllocError;
 
 /// Appends the line `kafka-acls.sh --add ..` of a binding, with single quotes where a POSIX shell
-/// needs them. The words after the first are those of the command `acl` of a script that creates the
-/// same binding. The line is a comment if a word of it has a control character, for a prefixed
+/// needs them. The words after the first are those of the command `acl` of a script that creates
+/// the same binding. The line is a comment if a word of it has a control character, for a prefixed
 /// pattern of the cluster, which `kafka-acls.sh` cannot write, and for an operation that it refuses
 /// on that kind of resource. A comment above a line for IdempotentWrite says what differs in Kafka.
 /// The error is out of memory; `out` then ends with a part of the text.
@@ -24,24 +25,28 @@ use std::alloc::AllocError;
 pub fn export_binding(out: &mut Vec<u8>, binding: &Draft) -> Result<(), AllocError>
     ensures { OnOk result (out.new.items ≡ out.old.items ++ binding_line binding.now) }
 {
-    let is_written = is_written(binding);
     out.extend_from_slice(write_note(binding.operation == Operation::IdempotentWrite).as_bytes())?;
-    out.extend_from_slice(refused_note(is_taken(binding.resource, binding.operation)).as_bytes())?;
-    push_mark(out, is_written)?;
-    push_line(out, is_written, add_text().as_bytes(), binding)
+    push_command(out, add_text().as_bytes(), binding)
 }
 
-/// Appends the line `kafka-acls.sh --remove --force ..` that removes a binding and no other. It is a
-/// comment where that of [`export_binding`] is. The error is out of memory; `out` then ends with a
-/// part of the text.
-#[tactic(auto, using(kob_words::proofs::Appending::appending))]
+/// Appends the line `kafka-acls.sh --remove --force ..` that removes a binding and no other. It is
+/// a comment where that of [`export_binding`] is. The error is out of memory; `out` then ends with
+/// a part of the text.
 pub fn export_removal(out: &mut Vec<u8>, binding: &Draft) -> Result<(), AllocError>
     ensures { OnOk result (out.new.items ≡ out.old.items ++ removal_line binding.now) }
+{
+    push_command(out, remove_text().as_bytes(), binding)
+}
+
+/// A command with its options, and above it why it is a comment.
+#[tactic(auto, using(kob_words::proofs::Appending::appending), unfolding(crate::specs::Bindings::command_line))]
+fn push_command(out: &mut Vec<u8>, command: &[u8], binding: &Draft) -> Result<(), AllocError>
+    ensures { OnOk result (out.new.items ≡ out.old.items ++ command_line command.now binding.now) }
 {
     let is_written = is_written(binding);
     out.extend_from_slice(refused_note(is_taken(binding.resource, binding.operation)).as_bytes())?;
     push_mark(out, is_written)?;
-    push_line(out, is_written, remove_text().as_bytes(), binding)
+    push_line(out, is_written, command, binding)
 }
 
 fn refused_note(is_taken: bool) -> &'static str
@@ -97,11 +102,8 @@ fn push_line(
 fn is_whole_cluster(resource: ResourceKind, pattern: PatternKind) -> bool
     ensures { result ≡ is_whole_cluster resource pattern }
 {
-    match resource {
-        ResourceKind::Cluster => match pattern {
-            PatternKind::Literal => true,
-            PatternKind::Prefixed => false,
-        },
+    match (resource, pattern) {
+        (ResourceKind::Cluster, PatternKind::Prefixed) => false,
         _ => true,
     }
 }

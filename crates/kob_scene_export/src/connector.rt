@@ -1,10 +1,9 @@
 //! The router of a service, as properties of Debezium's outbox event router.
 
 ghost use Rattle.std.specs.Prelude.{◌≡◌, ◌++◌, OnOk};
-ghost use Rattle.kob_scene_export.specs.Connector.{table_text};
-ghost use Rattle.kob_scene_export.specs.Connector.{by_text, columns_text, connector_text};
-ghost use Rattle.kob_scene_export.specs.Connector.{converters_text, name_text, placement_text};
-ghost use Rattle.kob_scene_export.specs.Connector.{property_text, replacement_text, route_text, router_text};
+ghost use Rattle.kob_scene_export.specs.Connector.{by_text, column_text, columns_text, connector_text};
+ghost use Rattle.kob_scene_export.specs.Connector.{converters_text, field_text, name_text, placement_text};
+ghost use Rattle.kob_scene_export.specs.Connector.{property_text, replacement_text, route_text, router_text, table_text};
 
 use crate::plain::{is_value, push_mark};
 use kob_names::Text;
@@ -26,9 +25,9 @@ pub fn export_connector(
 {
     push_name(out, name)?;
     push_route(out, settings)?;
-    out.extend_from_slice(columns_text().as_bytes())?;
-    out.extend_from_slice(converters_text().as_bytes())?;
-    out.extend_from_slice(table_text().as_bytes())
+    push_columns(out)?;
+    push_converters(out)?;
+    push_table(out)
 }
 
 /// The transform.
@@ -40,27 +39,52 @@ fn router_text() -> &'static str
 }
 
 /// The columns of an event.
-#[tactic(auto, unfolding(crate::specs::Connector::columns_text))]
-fn columns_text() -> &'static str
-    ensures { result.now ≡ columns_text }
+#[tactic(auto, using(kob_words::proofs::Appending::appending), unfolding(crate::specs::Connector::columns_text))]
+fn push_columns(out: &mut Vec<u8>) -> Result<(), AllocError>
+    ensures { OnOk result (out.new.items ≡ out.old.items ++ columns_text) }
 {
-    "transforms.outbox.table.field.event.id=id\ntransforms.outbox.table.field.event.key=aggregateid\ntransforms.outbox.table.field.event.type=type\ntransforms.outbox.table.field.event.payload=payload\n"
+    push_column(out, b"id=id")?;
+    push_column(out, b"key=aggregateid")?;
+    push_column(out, b"type=type")?;
+    push_column(out, b"payload=payload")
+}
+
+#[tactic(auto, unfolding(crate::specs::Connector::field_text))]
+fn field_text() -> &'static str
+    ensures { result.now ≡ field_text }
+{
+    "transforms.outbox.table.field.event."
+}
+
+/// The column that has a field of an event.
+#[tactic(auto, using(kob_words::proofs::Appending::appending), unfolding(crate::specs::Connector::column_text))]
+fn push_column(out: &mut Vec<u8>, column: &[u8]) -> Result<(), AllocError>
+    ensures { OnOk result (out.new.items ≡ out.old.items ++ column_text column.now) }
+{
+    out.extend_from_slice(field_text().as_bytes())?;
+    out.extend_from_slice(column)?;
+    out.extend_from_slice(b"\n")
 }
 
 /// Keys and values as they are.
-#[tactic(auto, unfolding(crate::specs::Connector::converters_text))]
-fn converters_text() -> &'static str
-    ensures { result.now ≡ converters_text }
+#[tactic(auto, using(kob_words::proofs::Appending::appending), unfolding(crate::specs::Connector::converters_text))]
+fn push_converters(out: &mut Vec<u8>) -> Result<(), AllocError>
+    ensures { OnOk result (out.new.items ≡ out.old.items ++ converters_text) }
 {
-    "key.converter=org.apache.kafka.connect.storage.StringConverter\nvalue.converter=org.apache.kafka.connect.storage.StringConverter\n"
+    out.extend_from_slice(b"key.converter=org.apache.kafka.connect.storage.StringConverter\n")?;
+    out.extend_from_slice(b"value.converter=org.apache.kafka.connect.storage.StringConverter\n")
 }
 
 /// The table that is read.
-#[tactic(auto, unfolding(crate::specs::Connector::table_text))]
-fn table_text() -> &'static str
-    ensures { result.now ≡ table_text }
+#[tactic(auto, using(kob_words::proofs::Appending::appending), unfolding(crate::specs::Connector::table_text))]
+fn push_table(out: &mut Vec<u8>) -> Result<(), AllocError>
+    ensures { OnOk result (out.new.items ≡ out.old.items ++ table_text) }
 {
-    "# CREATE TABLE outbox (id uuid PRIMARY KEY,\n#   aggregatetype varchar(255) NOT NULL,\n#   aggregateid varchar(255) NOT NULL,\n#   type varchar(255) NOT NULL,\n#   payload text NOT NULL);\n"
+    out.extend_from_slice(b"# CREATE TABLE outbox (id uuid PRIMARY KEY,\n")?;
+    out.extend_from_slice(b"#   aggregatetype varchar(255) NOT NULL,\n")?;
+    out.extend_from_slice(b"#   aggregateid varchar(255) NOT NULL,\n")?;
+    out.extend_from_slice(b"#   type varchar(255) NOT NULL,\n")?;
+    out.extend_from_slice(b"#   payload text NOT NULL);\n")
 }
 
 #[tactic(auto, using(kob_words::proofs::Appending::appending), unfolding(crate::specs::Connector::name_text))]
@@ -70,9 +94,8 @@ fn push_name(out: &mut Vec<u8>, name: &Text) -> Result<(), AllocError>
     out.extend_from_slice(b"# service ")?;
     push_bytes(out, name.as_str().as_bytes())?;
     out.extend_from_slice(b"\n")?;
-    out.extend_from_slice(
-        b"# Here the first batch of its producer on a partition has base 0; in Kafka it may have any.\n",
-    )
+    out.extend_from_slice(b"# Here the first batch of its producer on a partition has base 0; ")?;
+    out.extend_from_slice(b"in Kafka it may have any.\n")
 }
 
 #[tactic(auto, using(kob_words::proofs::Appending::appending), unfolding(crate::specs::Connector::route_text))]

@@ -18,14 +18,13 @@ pub fn export_head(out: &mut Vec<u8>) -> Result<(), AllocError>
     ensures { OnOk result (out.new.items ≡ out.old.items ++ head_text) }
 {
     out.extend_from_slice(b"# Put --bootstrap-server HOST:PORT after each command.\n")?;
-    out.extend_from_slice(
-        b"# A line that can't be used as it is is a comment; its escapes are those of scripts.\n",
-    )
+    out.extend_from_slice(b"# A line that can't be used as it is is a comment; ")?;
+    out.extend_from_slice(b"its escapes are those of scripts.\n")
 }
 
 /// Appends `authorizer.class.name`, `super.users` and `allow.everyone.if.no.acl.found`. The line of
-/// super users is a comment if one of them has a byte that a property can't have, or `;`. The error is out of memory; `out` then ends with a part of the
-/// text.
+/// super users is a comment if one of them has a byte that a property can't have, or `;`. The error
+/// is out of memory; `out` then ends with a part of the text.
 #[tactic(auto, using(kob_words::proofs::Appending::appending))]
 pub fn export_settings(out: &mut Vec<u8>, settings: &Settings) -> Result<(), AllocError>
     ensures { OnOk result (out.new.items ≡ out.old.items ++ settings_text settings.now) }

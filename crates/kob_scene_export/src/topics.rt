@@ -10,9 +10,9 @@ use kob_words::{push_bytes, push_number};
 use std::alloc::{AllocError, Global};
 
 /// Appends the line `kafka-topics.sh --create --topic=NAME --partitions=COUNT`. A topic's name
-/// needs no quotes. Unless it is to be written, since its name is like that of an earlier topic, the
-/// line is a comment below one that says so. The error is out of memory; `out` then ends with a part
-/// of the text.
+/// needs no quotes. Unless it is to be written, since its name is like that of an earlier topic,
+/// the line is a comment below one that says so. The error is out of memory; `out` then ends with a
+/// part of the text.
 #[tactic(auto, using(kob_words::proofs::Appending::appending))]
 pub fn export_topic(
     out: &mut Vec<u8>,

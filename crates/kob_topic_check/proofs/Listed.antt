@@ -43,7 +43,8 @@ kept true r (Some x) some = refl
 kept false r None some = refl
 kept false r (Some x) some = refl
 
-pub first_is_put : (id other : ℕ) (records : List Record) (k : ℕ) (r : Record) (is : Option Record) → k < length records
+pub first_is_put : (id other : ℕ) (records : List Record) (k : ℕ) (r : Record) (is : Option Record)
+    → k < length records
     → r ≡ get_or records k r → other ≡ number_of r.id → is_some (first_of other (take k records)) ≡ false
     → is ≡ cond (other == id) (Some r) (first_of id (take k records)) → is ≡ first_of id (take (k + 1) records)
 first_is_put id other records k r is below at_k named none now =
@@ -69,8 +70,10 @@ either true false = refl
 either false true = refl
 either false false = refl
 
-pub id_is_put : (id other : ℕ) (rows : List Row) (k : ℕ) (row : Row) (is : Bool) → k < length rows → row ≡ get_or rows k row
-    → other ≡ number_of row.id → is ≡ cond (other == id) true (has_row id (take k rows)) → is ≡ has_row id (take (k + 1) rows)
+pub id_is_put : (id other : ℕ) (rows : List Row) (k : ℕ) (row : Row) (is : Bool) → k < length rows
+    → row ≡ get_or rows k row
+    → other ≡ number_of row.id → is ≡ cond (other == id) true (has_row id (take k rows))
+    → is ≡ has_row id (take (k + 1) rows)
 id_is_put id other rows k row is below at_k named now =
     now ∙ ap (λ n. cond (n == id) true (has_row id (take k rows))) named
     ∙ either (has_row id (take k rows)) (number_of row.id == id)
@@ -87,7 +90,8 @@ seen_more id other records k r is below at_k named now =
     now ∙ ap (λ n. cond (n == id) (Some r) (find (is_of id) (reverse (take k records)))) named
     ∙ ap (find (is_of id)) (sym (taken_more records k r below at_k))
 
-pub record_more : (rows : List Row) (records : List Record) (k : ℕ) (r : Record) (out now total : List ℕ) (known : Bool)
+pub record_more : (rows : List Row) (records : List Record) (k : ℕ) (r : Record) (out now total : List ℕ)
+    (known : Bool)
     (earlier : Option Record) → k < length records → r ≡ get_or records k r → known ≡ has_row (number_of r.id) rows
     → earlier ≡ find (is_of (number_of r.id)) (reverse (take k records)) → now ≡ out ++ event_text r known earlier
     → out ++ records_text rows (reverse (take k records)) (drop k records) ≡ total
@@ -132,7 +136,8 @@ found_at get records result event last same found is =
 pub row_more : (records : List Record) (rows : List Row) (k : ℕ) (row : Row) (out now total : List ℕ)
     (first earlier : Option Record) → k < length rows → row ≡ get_or rows k row
     → first ≡ first_of (number_of row.id) records
-    → row_text row first earlier ≡ row_text row first (record_at records (sent_last row.key records (reverse (take k rows))))
+    → row_text row first earlier
+    ≡ row_text row first (record_at records (sent_last row.key records (reverse (take k rows))))
     → now ≡ out ++ row_text row first earlier
     → out ++ rows_text records (reverse (take k rows)) (drop k rows) ≡ total
     → now ++ rows_text records (reverse (take (k + 1) rows)) (drop (k + 1) rows) ≡ total
@@ -184,6 +189,7 @@ line_stops read items number line lines rest total split none so_far =
     ∙ ap (λ one. behind_items items (then_more number one (items_from read (number + 1) rest))) (sym none)
 
 pub lines_end : {A : Type 0} (read : List ℕ → Option A) (items : List A) (number : ℕ) (lines : List (List ℕ))
-    (total : Result (List A) ℕ) → lines ≡ [] → behind_items items (items_from read number lines) ≡ total → total ≡ Ok items
+    (total : Result (List A) ℕ) → lines ≡ [] → behind_items items (items_from read number lines) ≡ total
+    → total ≡ Ok items
 lines_end read items number lines total none so_far =
     sym so_far ∙ ap (λ all. behind_items items (items_from read number all)) none ∙ ap Ok (append-nil items)

@@ -97,7 +97,8 @@ records_text rows before (one ∷ records) =
 -- rows ROWS records RECORDS
 abbrev pub counts_text : List Row → List Record → List ℕ
 counts_text rows records =
-    codes "rows " ++ decimal (length rows) ++ codes " records " ++ decimal (length records) ++ codes "\n"
+    codes "rows " ++ decimal (length rows) ++ codes " records " ++ decimal (length records)
+    ++ codes "\n"
 
 -- a line for each missing, misplaced, doubled and unknown event
 abbrev pub findings_text : List Row → List Record → List ℕ

@@ -98,7 +98,8 @@ then_more number None more = Err number
 then_more number (Some item) (Ok items) = Ok (item ∷ items)
 then_more number (Some item) (Err later) = Err later
 
--- the items of lines from one on, whose number is given, or the number of the first line that is none
+-- the items of lines from one on, whose number is given,
+-- or the number of the first line that is none
 abbrev pub items_from : {A : Type 0} → (List ℕ → Option A) → ℕ → List (List ℕ) → Result (List A) ℕ
 items_from read number [] = Ok []
 items_from read number (line ∷ lines) =

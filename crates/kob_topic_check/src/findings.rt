@@ -15,8 +15,8 @@ use std::collections::HashMap;
 /// Prints a line for each row whose event is in no record, for each row whose first record stands
 /// before that of the last row of its key that has one, or in another partition, for each record
 /// whose event has a record before it, and for each whose event is in no row. The records of a
-/// partition are compared by their offsets. The error is out of memory; `out` has then grown by a part
-/// of the lines.
+/// partition are compared by their offsets. The error is out of memory; `out` has then grown by a
+/// part of the lines.
 #[tactic(auto, using(kob_words::proofs::Appending::appending))]
 pub fn print_findings(
     alloc: Global,

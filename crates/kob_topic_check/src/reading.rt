@@ -27,8 +27,8 @@ impl From<AllocError> for ReadError {
     }
 }
 
-/// The rows of an outbox, in the order in which they were recorded: a line each, with the id, a comma
-/// or a tab, and the key. The error is the first line that is none, or out of memory.
+/// The rows of an outbox, in the order in which they were recorded: a line each, with the id, a
+/// comma or a tab, and the key. The error is the first line that is none, or out of memory.
 pub fn read_rows(alloc: Global, text: &[u8]) -> Result<Vec<Row>, ReadError>
     ensures { Reads (λ items. items.items) result (rows_in text.now) }
 {
@@ -44,8 +44,9 @@ pub fn read_rows(alloc: Global, text: &[u8]) -> Result<Vec<Row>, ReadError>
     Ok(rows)
 }
 
-/// The records of a topic, in the order of the list: a line each, as `kafka-console-consumer` prints
-/// it with partition, offset and headers. The error is the first line that is none, or out of memory.
+/// The records of a topic, in the order of the list: a line each, as `kafka-console-consumer`
+/// prints it with partition, offset and headers. The error is the first line that is none, or out
+/// of memory.
 pub fn read_records(alloc: Global, text: &[u8]) -> Result<Vec<Record>, ReadError>
     ensures { Reads (λ items. items.items) result (records_in text.now) }
 {

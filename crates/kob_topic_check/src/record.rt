@@ -35,7 +35,8 @@ pub(crate) fn record_of(line: &[u8]) -> Option<Record>
 
 #[tactic(auto, unfolding(crate::specs::Lists::cut_at))]
 fn cut_at<'t>(text: &'t [u8], by: &[u8]) -> Option<(&'t [u8], &'t [u8])>
-    ensures { option_map (λ parts. (parts.0.now, parts.1.now)) result ≡ cut_at by.now text.entry.now }
+    ensures { option_map (λ parts. (parts.0.now, parts.1.now)) result
+        ≡ cut_at by.now text.entry.now }
 {
     text.split_once_str(by)
 }

@@ -10,7 +10,8 @@ pub returns-clause-near : goal.returns-clause-near
 returns-clause-near c =
     IfOk-weaker c.near_first.result _ _
     (λ made is.
-    is ∙ (λ i. filter (is_near (c.in_ok-first.ensures i) c.args.resource c.args.prefix.now) (c.entries.ensures.entries i))
+    is ∙ (λ i. filter (is_near (c.in_ok-first.ensures i) c.args.resource c.args.prefix.now)
+    (c.entries.ensures.entries i))
     ∙ near_so c.args.rules.now.contents c.args.resource c.args.prefix.now)
     c.near_first.ensures
 

@@ -5,4 +5,5 @@ use Rattle.kob_policy_review.proofs.difference.changes.Goals as goal
 pub returns-clause-exact : goal.returns-clause-exact
 returns-clause-exact c =
     IfOk-weaker c.all_changes.result _ _
-    (λ found is. lists_changes c.args.before.now.contents c.args.after.now.contents found.items is) c.all_changes.ensures
+    (λ found is. lists_changes c.args.before.now.contents c.args.after.now.contents found.items is)
+    c.all_changes.ensures

@@ -8,7 +8,8 @@ use Rattle.kob_policy_review.proofs.finder.in_order.Goals as goal
 
 pub returns-clause-rising : goal.returns-clause-rising
 returns-clause-rising c =
-    subst (RiseFrom 0) (sym (dedup_is eqb c.sort_unstable.new.self.items c.dedup.new.self.items c.dedup.ensures.filtered))
+    subst (RiseFrom 0) (sym (dedup_is eqb c.sort_unstable.new.self.items c.dedup.new.self.items
+    c.dedup.ensures.filtered))
     (sorted_rises c.sort_unstable.new.self.items c.sort_unstable.ensures.sorted)
 
 pub returns-clause-all : goal.returns-clause-all
@@ -16,4 +17,5 @@ returns-clause-all c serial there =
     subst (λ (xs : List ℕ). Contains xs serial)
     (sym (dedup_is eqb c.sort_unstable.new.self.items c.dedup.new.self.items c.dedup.ensures.filtered))
     (Contains-dedup_nat c.sort_unstable.new.self.items serial
-    (Contains-permutation c.args.walked.items c.sort_unstable.new.self.items serial c.sort_unstable.ensures.permutation there))
+    (Contains-permutation c.args.walked.items c.sort_unstable.new.self.items serial
+    c.sort_unstable.ensures.permutation there))

@@ -13,16 +13,19 @@ use Rattle.kob_policy_review.proofs.granting.answers_on.Goals as goal
 pub answers_for-requires : goal.answers_for-requires
 answers_for-requires c =
     subst AreRising (sym (c.as_slice.ensures.value ∙ c.in_ok-matching.ensures))
-    (still_rising (is_on c.args.target.now) 1 c.args.rules.now.contents.next c.entries.result.now c.entries.ensures.rising)
+    (still_rising (is_on c.args.target.now) 1 c.args.rules.now.contents.next c.entries.result.now
+    c.entries.ensures.rising)
 
 pub returns : goal.returns
 unfolding answers_on
 returns c =
     let rules : Contents = c.args.rules.now.contents in
     let matched : c.as_slice.result.now ≡ filter (is_on c.args.target.now) rules.entries =
-    c.as_slice.ensures.value ∙ c.in_ok-matching.ensures ∙ ap (filter (is_on c.args.target.now)) c.entries.ensures.entries in
+    c.as_slice.ensures.value ∙ c.in_ok-matching.ensures
+    ∙ ap (filter (is_on c.args.target.now)) c.entries.ensures.entries in
     IfOk-weaker c.answers_for.result _ _
     (λ found is.
-    is ∙ ap (λ (es : List (ℕ × Binding)). flat_map (answers_by rules.supers (rules.everyone && not (some_in es)) es c.args.operation)
+    is ∙ ap (λ (es : List (ℕ × Binding)).
+    flat_map (answers_by rules.supers (rules.everyone && not (some_in es)) es c.args.operation)
     (principals_named es)) matched)
     c.answers_for.ensures

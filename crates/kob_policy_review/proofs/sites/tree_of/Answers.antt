@@ -15,11 +15,13 @@ loop-place-preserved c =
     (sym (c.in_ok-add_places.ensures ∙ ap (fold (with_place place) c.loop-place.places) c.as_slice.ensures.value))
     (leads_more (rows_of near) place c.loop-place.places row.items
     (slice_get-map (λ vec. vec.items) near place
-    ∙ ap (option_map (λ vec. vec.items)) (slice_get_read near _ place row refl c.loop-place-test.true c.index-near-place.is))
+    ∙ ap (option_map (λ vec. vec.items))
+    (slice_get_read near _ place row refl c.loop-place-test.true c.index-near-place.is))
     c.loop-place.invariant)
 
 pub returns : goal.returns
 returns c =
     leads_all (rows_of c.args.near.now) c.loop-place.place c.loop-place.places
-    (subst (λ n. n ≤ c.loop-place.place) (sym (length-map c.args.near.now (λ vec. vec.items))) c.loop-place-test.false)
+    (subst (λ n. n ≤ c.loop-place.place) (sym (length-map c.args.near.now (λ vec. vec.items)))
+    c.loop-place-test.false)
     c.loop-place.invariant

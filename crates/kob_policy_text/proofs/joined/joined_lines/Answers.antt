@@ -24,4 +24,5 @@ loop-line-preserved c =
 
 pub returns : goal.returns
 returns c =
-    rw (joins_end _ _ _ (c.loop-line.number + 1) _ c.loop-line.invariant.kept c.in-None.ensures.steps.0) at c.with_last.ensures
+    rw (joins_end _ _ _ (c.loop-line.number + 1) _ c.loop-line.invariant.kept c.in-None.ensures.steps.0)
+    at c.with_last.ensures

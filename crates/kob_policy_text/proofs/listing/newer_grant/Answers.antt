@@ -8,7 +8,8 @@ unfolding newer_grant
 returns-in_err-principal c =
     let p = err_from_is_err_and c.from_residual-in_err-principal.result c.from_residual-in_err-principal.ensures.1 in
     rw (p.1, p.2)
-    (rw (c.in_ok-inside.ensures, c.in_ok-front.ensures, c.in_ok-holder.ensures) (fails_at _ _ _ c.in_err-principal.ensures))
+    (rw (c.in_ok-inside.ensures, c.in_ok-front.ensures, c.in_ok-holder.ensures)
+    (fails_at _ _ _ c.in_err-principal.ensures))
 
 pub returns-in_err-user : goal.returns-in_err-user
 unfolding newer_grant
@@ -21,5 +22,11 @@ returns-in_err-user c =
 pub returns : goal.returns
 unfolding newer_grant
 returns c =
-    rw (c.in_ok-inside.ensures, c.in_ok-front.ensures, c.in_ok-holder.ensures, c.in_ok-principal.ensures, c.in_ok-user.ensures)
+    rw (
+      c.in_ok-inside.ensures,
+      c.in_ok-front.ensures,
+      c.in_ok-holder.ensures,
+      c.in_ok-principal.ensures,
+      c.in_ok-user.ensures,
+    )
     c.grant_item.ensures

@@ -41,5 +41,11 @@ returns-in_err-host c =
 pub returns : goal.returns
 unfolding access_words
 returns c =
-    rw (c.in_ok-access.ensures, c.in_ok-front.ensures, c.in_ok-principal.ensures, c.in_ok-operation.ensures, c.in_ok-host.ensures)
+    rw (
+      c.in_ok-access.ensures,
+      c.in_ok-front.ensures,
+      c.in_ok-principal.ensures,
+      c.in_ok-operation.ensures,
+      c.in_ok-host.ensures,
+    )
     refl

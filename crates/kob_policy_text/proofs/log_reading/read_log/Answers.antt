@@ -16,7 +16,8 @@ loop-line-preserved c =
     let fewer : length c.loop-line.line-iterator ≡ suc (length c.next.new.self) = ap length split in
     record {
       few = omega (arith, fewer, c.loop-line.invariant.few);
-      rest = log_keeps c.loop-line.log _ _ (c.loop-line.number + 1) _ _ _ c.loop-line.invariant.rest split c.in_ok-add_line.ensures;
+      rest = log_keeps c.loop-line.log _ _ (c.loop-line.number + 1) _ _ _ c.loop-line.invariant.rest split
+          c.in_ok-add_line.ensures;
     }
 
 pub returns : goal.returns

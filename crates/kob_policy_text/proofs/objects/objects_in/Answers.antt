@@ -8,10 +8,12 @@ loop-line-preserved c =
     let fewer : length c.loop-line.line-iterator ≡ suc (length c.next.new.self) = ap length split in
     record {
       few = omega (arith, fewer, c.loop-line.invariant.few);
-      kept = lines_read _ _ _ (c.loop-line.number + 1) _ _ _ c.loop-line.invariant.kept split c.in_ok-read_line.ensures;
+      kept = lines_read _ _ _ (c.loop-line.number + 1) _ _ _ c.loop-line.invariant.kept split
+          c.in_ok-read_line.ensures;
     }
 
 pub returns : goal.returns
 returns c =
-    rw (objects_end c.loop-line.objects (c.loop-line.number + 1) _ _ c.loop-line.invariant.kept c.in-None.ensures.steps.0)
+    rw (objects_end c.loop-line.objects (c.loop-line.number + 1) _ _ c.loop-line.invariant.kept
+    c.in-None.ensures.steps.0)
     c.finish.ensures

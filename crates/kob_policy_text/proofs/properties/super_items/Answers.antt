@@ -5,7 +5,8 @@ pub returns-in_err-item : goal.returns-in_err-item
 returns-in_err-item c =
     let read = λ (part : Bor (List ℕ)). super_item (trimmed part.now) in
     let p = err_from_is_err_and c.from_residual-in_err-item.result c.from_residual-in_err-item.ensures.1 in
-    rw (p.1, p.2) (each_fails_map (λ (part : List ℕ). super_item (trimmed part)) (λ (part : Bor (List ℕ)). part.now) _ _
+    rw (p.1, p.2) (each_fails_map (λ (part : List ℕ). super_item (trimmed part)) (λ (part : Bor (List ℕ)). part.now) _
+    _
     (each_fails read _ c.loop-part.part-index _ _ _ _ c.loop-part.invariant
     (omega arith) refl (rw c.trimmed.ensures at c.in_err-item.ensures)))
 

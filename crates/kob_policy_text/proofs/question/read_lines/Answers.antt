@@ -16,15 +16,18 @@ loop-line-preserved c =
     let fewer : length c.loop-line.line-iterator ≡ suc (length c.next.new.self) = ap length split in
     record {
       few = omega (arith, fewer, c.loop-line.invariant.few);
-      rest = line_keeps c.args.are_names c.loop-line.questions _ (c.loop-line.number + 1) _ _ _ _ c.loop-line.invariant.rest split c.in-Ok.ensures;
+      rest = line_keeps c.args.are_names c.loop-line.questions _ (c.loop-line.number + 1) _ _ _ _
+          c.loop-line.invariant.rest split c.in-Ok.ensures;
     }
 
 pub returns-in-Err : goal.returns-in-Err
 returns-in-Err c =
     rw c.fault_at.ensures
-    (line_stops c.args.are_names c.loop-line.questions (c.loop-line.number + 1) _ _ _ _ c.in-Err.error c.loop-line.invariant.rest
+    (line_stops c.args.are_names c.loop-line.questions (c.loop-line.number + 1) _ _ _ _ c.in-Err.error
+    c.loop-line.invariant.rest
     c.in-Some.ensures.steps c.in-Err.ensures)
 
 pub returns : goal.returns
 returns c =
-    lines_end c.args.are_names c.loop-line.questions (c.loop-line.number + 1) _ _ c.loop-line.invariant.rest c.in-None.ensures.steps.0
+    lines_end c.args.are_names c.loop-line.questions (c.loop-line.number + 1) _ _ c.loop-line.invariant.rest
+    c.in-None.ensures.steps.0

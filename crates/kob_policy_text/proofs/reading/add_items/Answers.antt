@@ -14,7 +14,8 @@ loop-item-preserved c =
 pub returns-in_err-add_item : goal.returns-in_err-add_item
 returns-in_err-add_item c =
     let p = err_from_is_err_and c.from_residual.result c.from_residual.ensures.1 in
-    rw (p.1, p.2) (item_fails _ _ _ _ _ _ _ c.loop-item.invariant.0 c.in-Some.ensures.steps.0 c.in_err-add_item.ensures)
+    rw (p.1, p.2) (item_fails _ _ _ _ _ _ _ c.loop-item.invariant.0 c.in-Some.ensures.steps.0
+    c.in_err-add_item.ensures)
 
 pub returns : goal.returns
 returns c =

@@ -5,7 +5,8 @@ use Rattle.kob_policy_text.proofs.reading.add_line.Goals as goal
 pub returns-in_err-items : goal.returns-in_err-items
 returns-in_err-items c =
     let p = err_from_is_err_and c.from_residual.result c.from_residual.ensures.1 in
-    rw (p.1, p.2) (line_unread c.args.file.now c.args.policy.now c.args.line c.args.text.now c.is_above.result c.has_list.result _ c.is_above.ensures
+    rw (p.1, p.2) (line_unread c.args.file.now c.args.policy.now c.args.line c.args.text.now c.is_above.result
+    c.has_list.result _ c.is_above.ensures
     c.has_list.ensures c.in_err-items.ensures)
 
 pub returns : goal.returns

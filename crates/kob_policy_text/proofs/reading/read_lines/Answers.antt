@@ -11,7 +11,8 @@ pub returns-in-Err : goal.returns-in-Err
 returns-in-Err c =
     rw c.fault_on.ensures
     (stopped c.args.file.now c.args.policy.now c.loop-line.policy c.args.lines.now
-    c.loop-line.line-index _ c.line-item.result c.in-Err.error c.loop-line.invariant (omega arith) c.line-item.is c.in-Err.ensures)
+    c.loop-line.line-index _ c.line-item.result c.in-Err.error c.loop-line.invariant (omega arith) c.line-item.is
+    c.in-Err.ensures)
 
 pub returns : goal.returns
 returns c =

@@ -4,4 +4,5 @@ use Rattle.kob_policy_text.proofs.shell.quoting_after.Goals as goal
 
 pub loop-byte-preserved : goal.loop-byte-preserved
 loop-byte-preserved c =
-    reads_more _ _ _ c.args.line.now c.loop-byte.byte-index _ _ c.loop-byte.invariant (omega arith) refl c.in_ok-read.ensures
+    reads_more _ _ _ c.args.line.now c.loop-byte.byte-index _ _ c.loop-byte.invariant (omega arith) refl
+    c.in_ok-read.ensures

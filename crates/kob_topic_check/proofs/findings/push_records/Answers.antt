@@ -10,7 +10,8 @@ loop-record-preserved c =
     let id = c.as_u128-id.result in record {
       seen = λ other. seen_more other id records k r _ c.loop-record-test.true c.record-item.is c.as_u128-id.ensures
           (rw (c.loop-record.invariant.seen other) at (c.in_ok-earlier.ensures.updates.0 other));
-      text = record_more c.args.rows.now records k r _ _ _ c.contains-known.result c.in_ok-earlier.earlier c.loop-record-test.true
+      text = record_more c.args.rows.now records k r _ _ _ c.contains-known.result c.in_ok-earlier.earlier
+          c.loop-record-test.true
           c.record-item.is (rw c.as_u128-id.ensures at (c.contains-known.ensures ∙ c.in_ok-ids.ensures id))
           (rw c.as_u128-id.ensures at (c.in_ok-earlier.ensures.old ∙ c.loop-record.invariant.seen id))
           c.in_ok-push_event.ensures c.loop-record.invariant.text;

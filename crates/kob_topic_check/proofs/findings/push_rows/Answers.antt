@@ -20,12 +20,15 @@ loop-row-preserved c =
           let last = w.in_ok-earlier-in-Some.ensures in record {
             sent = λ key.
                 ap (λ m. get (λ one other. bytes_eq one.now other.now) m key) w.last-is
-                ∙ last_put key.now records before row id _ _ c.as_u128-id.ensures (ap is_some (sym first ∙ w.in-Some.is))
+                ∙ last_put key.now records before row id _ _ c.as_u128-id.ensures
+                (ap is_some (sym first ∙ w.in-Some.is))
                 (rw w.as_str.ensures at (last.updates.0 key)) (c.loop-row.invariant.sent key)
                 ∙ ap (sent_last key.now records) more;
-            text = row_more records rows k row c.loop-row.out.items c.match-first_of.out.items _ (Some w.in-Some.first) w.record_at.result
+            text = row_more records rows k row c.loop-row.out.items c.match-first_of.out.items _
+                (Some w.in-Some.first) w.record_at.result
                 c.loop-row-test.true c.row-item.is (sym w.in-Some.is ∙ first)
-                (ap (row_text row (Some w.in-Some.first)) (found_at (get nat_eq c.in_ok-firsts.firsts) records _ _ _ c.in_ok-firsts.ensures w.record_at.ensures
+                (ap (row_text row (Some w.in-Some.first)) (found_at (get nat_eq c.in_ok-firsts.firsts) records _ _ _
+                c.in_ok-firsts.ensures w.record_at.ensures
                 (rw w.as_str.ensures at (last.old ∙ c.loop-row.invariant.sent w.as_str.result))))
                 (ap (λ o. o.items) w.out-is ∙ w.in_ok-push_row-in-Some.ensures) c.loop-row.invariant.text;
           }
@@ -33,7 +36,9 @@ loop-row-preserved c =
         sent = λ key.
             ap (λ m. get (λ one other. bytes_eq one.now other.now) m key) w.last-is ∙ c.loop-row.invariant.sent key
             ∙ last_kept key.now records before row (sym first ∙ w.in-None.is) ∙ ap (sent_last key.now records) more;
-        text = row_more records rows k row c.loop-row.out.items c.match-first_of.out.items _ None None c.loop-row-test.true c.row-item.is
-            (sym w.in-None.is ∙ first) refl (ap (λ o. o.items) w.out-is ∙ w.in_ok-push_row-in-None.ensures) c.loop-row.invariant.text;
+        text = row_more records rows k row c.loop-row.out.items c.match-first_of.out.items _ None None
+            c.loop-row-test.true c.row-item.is
+            (sym w.in-None.is ∙ first) refl (ap (λ o. o.items) w.out-is ∙ w.in_ok-push_row-in-None.ensures)
+            c.loop-row.invariant.text;
       }
     ]

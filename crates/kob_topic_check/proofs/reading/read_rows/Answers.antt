@@ -9,7 +9,8 @@ loop-line-preserved c =
     let fewer : length c.loop-line.line-iterator ≡ suc (length c.next.new.self) = ap length split in
     record {
       few = omega (arith, fewer, c.loop-line.invariant.few);
-      rest = line_more row_of c.loop-line.rows.items _ c.in-Some-2.row (c.loop-line.number + 1) c.in-Some.line.now _ _ _ split
+      rest = line_more row_of c.loop-line.rows.items _ c.in-Some-2.row (c.loop-line.number + 1) c.in-Some.line.now _ _
+          _ split
           (sym c.in-Some-2.is ∙ c.in_ok-row.ensures) c.in_ok-add-in-Some-2.ensures c.loop-line.invariant.rest;
     }
 
@@ -20,4 +21,5 @@ returns-in-None-2 c =
 
 pub returns : goal.returns
 returns c =
-    lines_end row_of c.loop-line.rows.items (c.loop-line.number + 1) _ _ c.in-None.ensures.steps.0 c.loop-line.invariant.rest
+    lines_end row_of c.loop-line.rows.items (c.loop-line.number + 1) _ _ c.in-None.ensures.steps.0
+    c.loop-line.invariant.rest

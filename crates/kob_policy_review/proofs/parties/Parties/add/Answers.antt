@@ -13,7 +13,8 @@ invariant_of-self-2 c =
     let keys : PrefixMap = c.self.inside.keys in
     let key : List ℕ = c.args.text.now in
     let items : c.push_reserved.new.self.items ≡ made ++ Some key ∷ [] =
-    c.push_reserved.ensures.items ∙ (λ i. c.in_ok-reserve.ensures.items i ++ Some (c.in_ok-copy.ensures.value i) ∷ []) in
+    c.push_reserved.ensures.items
+    ∙ (λ i. c.in_ok-reserve.ensures.items i ++ Some (c.in_ok-copy.ensures.value i) ∷ []) in
     let tree : c.add.new.self ≡ added keys key Literal 0 =
     c.in_ok-add.ensures.added ∙ ap (λ (k : List ℕ). added keys k Literal 0) c.as_bytes.ensures.value in
     λ text.

@@ -20,7 +20,8 @@ returns c =
     IfOk-weaker c.is_needed_at_one.result _ _
     (λ needed found.
     found
-    ∙ ap (λ (r : Contents). list_any (λ place. is_needed_of r (is_among gone) entry (slice_get c.as_slice.result.now place))
+    ∙ ap (λ (r : Contents). list_any
+    (λ place. is_needed_of r (is_among gone) entry (slice_get c.as_slice.result.now place))
     c.as_slice-2.result.now) c.rules-rules.ensures
     ∙ ap (λ vecs. list_any (λ place. is_needed_of rules (is_among gone) entry (slice_get vecs place))
     c.as_slice-2.result.now) c.as_slice.ensures.value

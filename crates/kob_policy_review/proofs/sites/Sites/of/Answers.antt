@@ -16,5 +16,6 @@ invariant_of-result c =
       c.in_ok-near.ensures
           ∙ ap (map (row_on found.entries)) (c.as_slice.ensures.value ∙ c.in_ok-targets.ensures
           ∙ ap targets_named (given.entries ∙ ap (λ (r : Contents). r.entries) (sym is))),
-      subst (λ vecs. LeadsToRows (rows_of vecs) c.in_ok-places.places) c.as_slice-2.ensures.value c.in_ok-places.ensures,
+      subst (λ vecs. LeadsToRows (rows_of vecs) c.in_ok-places.places) c.as_slice-2.ensures.value
+          c.in_ok-places.ensures,
     )

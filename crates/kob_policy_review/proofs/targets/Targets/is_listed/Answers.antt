@@ -12,8 +12,10 @@ returns c =
     let target : Target = c.args.target.now in
     let made : List Target = c.self.inside.made.items in
     c.is_at_one.ensures
-    ∙ ap (λ (xs : List Target). list_any (λ place. is_at target (slice_get xs place)) c.as_slice.result.now) (sym c.self.view_is)
+    ∙ ap (λ (xs : List Target). list_any (λ place. is_at target (slice_get xs place)) c.as_slice.result.now)
+    (sym c.self.view_is)
     ∙ ap (list_any (λ place. is_at target (slice_get made place)))
-    (c.as_slice.ensures.value ∙ c.in_ok-places.ensures ∙ ap (λ text. (held c.self.inside.places text).0) c.text_of.ensures)
+    (c.as_slice.ensures.value ∙ c.in_ok-places.ensures
+    ∙ ap (λ text. (held c.self.inside.places text).0) c.text_of.ensures)
     ∙ listed_at made c.self.inside.places target c.self.invariant
     ∙ ap (list_any (same_target target)) c.self.view_is

@@ -2,7 +2,8 @@ use Rattle.std.proofs.Common.{List, [], ap, sym, ℕ, ◌++◌, ◌∙◌, ◌�
 use Rattle.kob_prefix_tree.specs.Held.{PrefixMap, added}
 use Rattle.kob_prefix_tree.specs.declared.kind.PatternKind.TheVariants.{Literal}
 use Rattle.kob_policy_text.proofs.Knowing.{put_held}
-use Rattle.kob_policy_text.specs.AtHand.{is_held, is_known}
+use Rattle.kob_policy_review.specs.Finding.{is_held}
+use Rattle.kob_policy_text.specs.AtHand.{is_known}
 use Rattle.kob_policy_text.proofs.texts.Texts.add.Goals as goal
 
 pub invariant_of-self-2 : goal.invariant_of-self-2
