@@ -4,8 +4,8 @@ use Rattle.kob_inbox.specs.Run.{behind}
 use Rattle.kob_names.specs.declared.record.Record.{Record}
 use Rattle.kob_scene_play.proofs.holding.position_behind.Goals as goal
 
-pub overflow_add-position-in-loop-at : goal.overflow_add-position-in-loop-at
-overflow_add-position-in-loop-at c =
+pub overflow_add-position : goal.overflow_add-position
+overflow_add-position c =
     let x : ℕ × Record = c.loop-at-item.result in
     let lt : c.loop-at.at-index < length c.args.records.now = omega arith in
     let low : x.0 < 9223372036854775807 = subst (λ (y : ℕ × Record). y.0 < 9223372036854775807)

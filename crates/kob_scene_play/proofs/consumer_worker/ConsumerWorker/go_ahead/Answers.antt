@@ -27,10 +27,10 @@ returns-in_default c =
     let new = with made.new.consumer made.new.inbox made.new.holding in
     let is = c.self.view_is in
     let early = ap (λ (w : Consumer). w.taking) is ∙ c.requires in
-    let found = subst (λ (w : Consumer). c.in_ok-asked_next.field-0 ≡ asked_event w.principal w.host w.fetcher w.holding) (sym is)
-    c.in_ok-asked_next.ensures in
+    let found = subst (λ (w : Consumer). c.in_ok-event.field-0 ≡ asked_event w.principal w.host w.fetcher w.holding) (sym is)
+    c.in_ok-event.ensures in
     subst (λ (from : Consumer). IfOk made.result (IsAheadTick c.args.loss from new c.args.recorded.now c.args.recorded.now)) is
-    (taken_ahead made.result c.args.loss old new c.args.recorded.now c.args.recorded.now c.in_ok-asked_next.field-0
+    (taken_ahead made.result c.args.loss old new c.args.recorded.now c.args.recorded.now c.in_ok-event.field-0
     (record { worker = refl; principal = refl; host = refl; start = refl; taking = refl; subscription = made.ensures.same })
     (ap (λ taking. inbox_by taking made.new.inbox was.every) early) found c.in_default.is refl made.ensures.done)
 
@@ -54,10 +54,10 @@ returns-in-Ok c =
     let new = with made.new.consumer made.new.inbox made.new.holding in
     let is = c.self.view_is in
     let early = ap (λ (w : Consumer). w.taking) is ∙ c.requires in
-    let found = subst (λ (w : Consumer). c.in_ok-asked_next.field-0 ≡ asked_event w.principal w.host w.fetcher w.holding) (sym is)
-    c.in_ok-asked_next.ensures in
+    let found = subst (λ (w : Consumer). c.in_ok-event.field-0 ≡ asked_event w.principal w.host w.fetcher w.holding) (sym is)
+    c.in_ok-event.ensures in
     subst (λ (from : Consumer). IfOk made.result (IsAheadTick c.args.loss from new c.args.recorded.now c.ask.new.recorded)) is
-    (handled_ahead made.result c.args.loss old new c.args.recorded.now c.ask.new.recorded c.in_ok-asked_next.field-0
+    (handled_ahead made.result c.args.loss old new c.args.recorded.now c.ask.new.recorded c.in_ok-event.field-0
     c.in-Some.event c.in-Ok.heard
     (record { worker = refl; principal = refl; host = refl; start = refl; taking = refl; subscription = made.ensures.same })
     (ap (λ taking. inbox_by taking made.new.inbox was.every) early) found c.in-Some.is c.in-Ok.ensures.asked made.ensures.done)
