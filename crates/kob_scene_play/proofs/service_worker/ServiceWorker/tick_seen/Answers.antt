@@ -1,5 +1,5 @@
 use Rattle.kob_scene_play.proofs.Services.{tick_done}
-use Rattle.kob_scene_play.proofs.service_worker.ServiceWorker.tick.Goals as goal
+use Rattle.kob_scene_play.proofs.service_worker.ServiceWorker.tick_seen.Goals as goal
 
 pub returns-in-Ok : goal.returns-in-Ok
 returns-in-Ok c =
