@@ -2,7 +2,10 @@
 use Rattle.kob_scene_play.proofs.Words.{Change, Column, Contents, Does, Err, Hand, IfOk, IsErrOf, IsFirst, IsTrue, List, None, Ok, OnErr, OnOk, Option, OutboxEvent, OutboxFault, RecordFault, Recorded, Records, Result, Service, Some, after_record, first_bad, first_recorded, first_swept, id_text, is_recorded, next_seq, refl, subst, sym, without_sent, ℕ, ◌≡◌}
 use Rattle.kob_outbox.specs.Contents.{Key, first_bad_of_change, with_state}
 use Rattle.kob_outbox.specs.declared.fault.RecordFault.TheVariants as faults
-use Rattle.kob_scene_play.specs.Steps.{Crashes, crashed}
+use Rattle.kob_scene_play.specs.Steps.{Crashes, IsPrinted, IsServiceChange, Tells, crashed, hides}
+use Rattle.kob_scene_text.specs.PrintedRows.{recorded_text}
+use Rattle.kob_scene_text.specs.declared.scene.Recording.TheVariants.{Late}
+use Rattle.kob_scene_text.specs.declared.scene.ServiceStep.TheVariants as service_steps
 
 pub first_after_record : (hand : Option Hand) (old new : Contents) (change : Change) (event : OutboxEvent)
     (result : Result ℕ RecordFault) → IsFirst hand old → OnOk result (new ≡ after_record old change event)
@@ -53,3 +56,13 @@ crashes change event old new (Err (faults.BadField column)) ok good err bad dupl
 crashes change event old new (Err faults.DuplicateId) ok good err bad duplicate = duplicate refl
 crashes change event old new (Err (faults.Memory e)) ok good err bad duplicate = err
 crashes change event old new (Err faults.Store) ok good err bad duplicate = err
+
+-- what was recorded is hidden, and printed
+pub recorded_late : {E : Type 0} (result : Result (Unit {0}) E) (change : Change) (event : OutboxEvent)
+    (old mid new : Service) (answer : Result ℕ RecordFault) (told then_told : ℕ) (held now : List ℕ)
+    → Records change event old mid answer → new ≡ hides answer mid
+    → OnOk result (Tells (IsPrinted (recorded_text answer) told then_told) held now)
+    → OnOk result (Tells (IsServiceChange (service_steps.Record change event Late) old new told then_told) held now)
+recorded_late (Ok done) change event old mid new answer told then_told held now recorded hidden (text, printed, is) =
+    (text, (answer, mid, recorded, hidden, printed), is)
+recorded_late (Err fault) change event old mid new answer told then_told held now recorded hidden printed = tt

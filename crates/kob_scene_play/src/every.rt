@@ -109,8 +109,9 @@ impl Every {
             return Ok(());
         };
         let place = self.rows.len() as u64 + 1;
+        self.rows.reserve(1)?;
         let row = row_of(alloc, place, id, asked, at, message)?;
-        self.rows.push(row)?;
+        self.rows.push_reserved(row);
         Ok(())
     }
 }

@@ -65,10 +65,15 @@ fn poll_behind(row: Option<&Row>) -> Poll
     }
 }
 
-#[tactic(auto, using(crate::proofs::Polling::first_of_stored))]
 fn first_visible<'r>(rows: &'r [Row], hidden: &[u64]) -> Option<&'r Row>
     ensures { option_map stored_row (option_copied result)
         ≡ find (λ event. not (is_hidden hidden.now event.seq)) (map stored_row rows.now) }
+{
+    visible_among(rows, hidden)
+}
+
+fn visible_among<'r>(rows: &'r [Row], hidden: &[u64]) -> Option<&'r Row>
+    ensures { option_copied result ≡ find (λ row. not (is_hidden hidden.now row.seq)) rows.now }
 {
     rows.iter().find(|row| !is_hidden(hidden, row.seq))
 }

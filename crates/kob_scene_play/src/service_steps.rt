@@ -1,6 +1,8 @@
 //! The steps of a service.
 
 ghost use Rattle.std.specs.Prelude.{◌≡◌, IfOk, OnOk};
+ghost use Rattle.kob_scene_play.specs.Steps.{IsPrinted};
+ghost use Rattle.kob_scene_text.specs.PrintedRows.{recorded_text};
 ghost use Rattle.kob_scene_play.specs.Steps.{IsServiceChange, IsServiceStep, IsTold, Tells};
 ghost use Rattle.kob_scene_play.specs.Steps.{goes_on_after, loss_for, service_lacks};
 ghost use Rattle.kob_scene_play.specs.Forms.{last_needs};
@@ -98,6 +100,14 @@ fn record_late<'s>(
 {
     let recorded = service.record(change, event);
     service.hide(&recorded)?;
+    print_record(recorded, out)
+}
+
+/// Prints what a record answered, unless it failed.
+fn print_record(recorded: Result<u64, RecordFault>, out: &mut Output) -> Result<(), PlayFault>
+    ensures { OnOk result (Tells (IsPrinted (recorded_text recorded) out.old.told out.new.told)
+        out.old.text.items out.new.text.items) }
+{
     match recorded {
         Ok(_) => {}
         Err(RecordFault::Memory(refused)) => return Err(PlayFault::Memory(refused)),
