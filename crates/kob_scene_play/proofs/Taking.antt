@@ -4,7 +4,8 @@ use Rattle.kob_scene_play.proofs.Listed.{enumerate_behind}
 use Rattle.std.proofs.lemmas.List.{length-map}
 use Rattle.std.proofs.lemmas.Bool.Decides.{nat_tests}
 use Rattle.kob_inbox.specs.Contents.{Intake, placed_intake}
-use Rattle.kob_inbox.specs.Run.{State, Subscription, after_answer}
+use Rattle.kob_inbox.specs.Run.{State, after_answer}
+use Rattle.kob_inbox.specs.declared.fetcher.Subscription.{Subscription}
 use Rattle.kob_inbox.specs.Tick.{Hears}
 use Rattle.kob_inbox.specs.declared.inbox_row.InboxRow.{InboxRow}
 use Rattle.kob_inbox.specs.declared.tick.Tick.{Tick}

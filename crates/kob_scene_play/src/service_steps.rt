@@ -40,12 +40,8 @@ pub(crate) fn play_service<'s>(
         recorded.new out.old.told out.new.told) out.old.text.items out.new.text.items) }
 {
     match step {
-        ServiceStep::Record(change, event, Recording::Whole) => {
-            record(service, change, event, out)
-        }
-        ServiceStep::Record(change, event, Recording::Crash) => crash(service, change, event, out),
-        ServiceStep::Record(change, event, Recording::Late) => {
-            record_late(service, change, event, out)
+        ServiceStep::Record(change, event, recording) => {
+            record_as(service, change, event, *recording, out)
         }
         ServiceStep::Tick(lost) => {
             tick(alloc, recorded, service, *lost, out)?;
@@ -57,6 +53,24 @@ pub(crate) fn play_service<'s>(
         ServiceStep::Outbox => show_outbox(service, out),
         ServiceStep::Business { kind, key } => show_state(service, kind, key, out),
         ServiceStep::Visible => show_rows(service, out),
+    }
+}
+
+fn record_as<'s>(
+    service: &mut ServiceWorker<'s>,
+    change: &Change,
+    event: &'s OutboxEvent,
+    recording: Recording,
+    out: &mut Output,
+) -> Result<(), PlayFault>
+    ensures { OnOk result (Tells (IsServiceChange
+        (service_steps.Record change.now event.now recording) service.old service.new
+        out.old.told out.new.told) out.old.text.items out.new.text.items) }
+{
+    match recording {
+        Recording::Whole => record(service, change, event, out),
+        Recording::Crash => crash(service, change, event, out),
+        Recording::Late => record_late(service, change, event, out),
     }
 }
 
