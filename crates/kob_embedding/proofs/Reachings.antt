@@ -1,9 +1,9 @@
 -- What a journal and the calls of two lines say of an inbox.
 use Rattle.kob_embedding.proofs.Words.{ArePrivate, AreServed, Call, Entry, Event, HasRun, ReachesReader, IsLegal, IsReaderRun, IsSenderRun, List, Place, ReachesInOrder, ReaderLeft, Retained, ServiceLeft, Settings, State, Subscription, arith, holds_a_prefix, legal_is_history, nat_tests, opened_by, served_to, state_of, subst, sym, view_after, ℕ, ◌≡◌}
 use Rattle.kob_embedding.specs.Running.{HasPremises}
-use Rattle.kob_pipeline.specs.View.{IsBreach}
+use Rattle.kob_delivery.specs.View.{IsBreach}
 use Rattle.std.proofs.Common.{Bool, IsTrue, true}
-use Rattle.kob_pipeline.specs.declared.premises.Breach.{Breach}
+use Rattle.kob_delivery.specs.declared.premises.Breach.{Breach}
 use Rattle.kob_router.specs.Tick as router
 
 pub delivered : (opening : Settings) (journal : List Entry) (now : State Retained) (s : ServiceLeft) (r : ReaderLeft)

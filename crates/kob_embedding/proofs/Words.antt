@@ -16,11 +16,11 @@ pub use Rattle.kob_outbox.specs.declared.change.Change.{Change}
 pub use Rattle.kob_outbox.specs.declared.event.OutboxEvent.{OutboxEvent}
 pub use Rattle.kob_outbox.specs.declared.fault.RecordFault.{RecordFault}
 pub use Rattle.kob_partition.specs.Retained.{Retained}
-pub use Rattle.kob_pipeline.proofs.BrokerSteps.{legal_is_history}
-pub use Rattle.kob_pipeline.proofs.PlanLaws.{holds_a_prefix}
-pub use Rattle.kob_pipeline.specs.Plans.{ReachesInOrder}
-pub use Rattle.kob_pipeline.specs.View.{ArePrivate, view_after}
-pub use Rattle.kob_pipeline.specs.Served.{served_to}
+pub use Rattle.kob_delivery.proofs.BrokerSteps.{legal_is_history}
+pub use Rattle.kob_delivery.proofs.Laws.{holds_a_prefix}
+pub use Rattle.kob_delivery.specs.Delivered.{ReachesInOrder}
+pub use Rattle.kob_delivery.specs.View.{ArePrivate, view_after}
+pub use Rattle.kob_delivery.specs.Served.{served_to}
 pub use Rattle.kob_router.specs.Run.{dispatch_of}
 pub use Rattle.kob_router.specs.Line.{AreServed}
 pub use Rattle.kob_router.specs.Tick.{point_of}

@@ -4,7 +4,7 @@ use Rattle.kob_shared.specs.declared.journal.Entry.{Entry}
 use Rattle.kob_router.specs.declared.line.Call.{Call}
 use Rattle.kob_router.specs.Line.{AreServed, Served}
 use Rattle.kob_lines.specs.Calls.{served_in}
-use Rattle.kob_pipeline.specs.Served.{served_to}
+use Rattle.kob_delivery.specs.Served.{served_to}
 
 -- what the worker was served from a place on
 abbrev pub left : ℕ → List Entry → ℕ → List Served

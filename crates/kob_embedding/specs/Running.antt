@@ -6,7 +6,7 @@ use Rattle.kob_lines.specs.Relayed.{HasConsumerRun, IsTick, Relayed, HasServiceR
 use Rattle.kob_lines.specs.declared.program_fault.ProgramFault.{ProgramFault}
 use Rattle.kob_lines.specs.declared.program_fault.ProgramFault.TheVariants as program
 use Rattle.kob_outbox.specs.Contents.{Event}
-use Rattle.kob_pipeline.specs.Plans.{ReachesInOrder}
+use Rattle.kob_delivery.specs.Delivered.{ReachesInOrder}
 use Rattle.kob_router.specs.Run.{dispatch_of}
 use Rattle.kob_router.specs.declared.line.Call.{Call}
 use Rattle.kob_shared.specs.declared.journal.Entry.{Entry}
@@ -22,8 +22,8 @@ use Rattle.kob_inbox.specs.declared.tick.StopReason.{StopReason}
 use Rattle.kob_inbox.specs.declared.tick.StopReason.TheVariants as untaken
 use Rattle.kob_rights.specs.declared.code.Code.{Code}
 use Rattle.kob_rights.specs.declared.code.Code.TheVariants.{OffsetOutOfRange}
-use Rattle.kob_pipeline.specs.Served.{served_to}
-use Rattle.kob_pipeline.specs.View.{ArePrivate, IsBreach}
+use Rattle.kob_delivery.specs.Served.{served_to}
+use Rattle.kob_delivery.specs.View.{ArePrivate, IsBreach}
 use Rattle.kob_router.specs.Line.{AreServed}
 use Rattle.kob_router.specs.Tick as router
 use Rattle.kob_router.specs.declared.tick.Tick as router_tick

@@ -4,7 +4,6 @@
 #![tactic(auto)]
 
 mod consumer_end;
-mod laws;
 mod opening;
 mod part;
 mod reaching;
@@ -14,7 +13,6 @@ mod service_end;
 mod sessions;
 
 pub use consumer_end::ConsumerEnd;
-pub use laws::a_legal_journal_is_a_history;
 pub use opening::opened;
 pub use part::{Part, is_served};
 pub use reaching::{DeliveryFault, reaches_in_order};

@@ -5,10 +5,11 @@ ghost use Rattle.kob_embedding.specs.declared.reaching.DeliveryFault.TheVariants
 ghost use Rattle.kob_embedding.specs.Running.{HasPremises, IsLacking, ReachesReader};
 
 use crate::consumer_end::ConsumerEnd;
-use crate::laws::a_legal_journal_is_a_history;
 use crate::part::is_served;
 use crate::service_end::ServiceEnd;
-use kob_pipeline::{Breach, an_inbox_holds_a_prefix_of_each_aggregate, first_breach};
+use kob_delivery::{
+    Breach, a_legal_journal_is_a_history, an_inbox_holds_a_prefix_of_each_aggregate, first_breach,
+};
 use kob_shared::Recorded;
 use std::alloc::{AllocError, Global};
 use thiserror::Error;

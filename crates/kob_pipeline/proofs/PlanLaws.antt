@@ -1,57 +1,13 @@
--- What reaches an inbox, of the parts that workers have in a journal.
-use Rattle.kob_pipeline.proofs.Words.{Administering, AllByRecursion, AllZip, ArePrivate, ConsumerPlan, Consuming, Contains, Dispatching, Entry, Event, HasDone, HasEnded, HasLeft, Inbox, InboxEnd, Intake, IsConsumerPart, IsConsumption, IsDelivered, IsHistory, IsKept, IsNeverDeleted, IsNoneLost, IsPipeline, IsServicePart, IsServiceRun, IsSoleCommitter, IsSoleProducer, IsTakenInOrder, IsWaitingOrSent, List, Noted, Outbox, OutboxEnd, PipelineEnd, Place, Plan, Planned, ReachesInOrder, Receipt, Served, Service, Serving, Some, Subscription, TakesInOrder, Target, View, WorkerEnd, [], ap, arith, claims, consumer_number, consumer_place, dispatch_of, empty, enumerate_from, events_in, get_or-map, get_or_from_slice_get, inbox_in, inl, inr, is_of_aggregate, length, length-map, map, map-map, mine_from, nat_tests, notes_in, opening_view, option_map, outbox_in, placed_intake, planned_workers, records_at, records_of, refl, rows_of, rows_of_service, run_takes_in, served_by_notes, served_in, served_to, service_number, slice_get, slice_get-append_right, slice_get-map, slice_get_within, slice_index_or, state_of, subst, suc, sym, told_in, view_after, zero, ℕ, ◌++◌, ◌+◌, ◌<◌, ◌∙◌, ◌∷◌, ◌≡◌}
-use Rattle.kob_pipeline.proofs.Reaching.{rows_tell, told_all, target_tells, reaches}
-use Rattle.kob_pipeline.proofs.Arriving.{all_assigned}
-use Rattle.kob_pipeline.proofs.ConsumerRun.{is_taken_in_order}
-use Rattle.kob_pipeline.proofs.RouterRun.{is_delivered, all_wait_or_sent}
+-- The laws of delivery, of a pipeline's plan and what it leaves.
+use Rattle.kob_pipeline.proofs.Words.{Administering, AllZip, ArePrivate, ConsumerPlan, Consuming, Dispatching, Entry, Event, HasDone, HasEnded, HasLeft, Inbox, InboxEnd, Intake, IsConsumerPart, IsConsumption, IsDelivered, IsHistory, IsKept, IsNeverDeleted, IsNoneLost, IsPipeline, IsServicePart, IsServiceRun, IsSoleCommitter, IsSoleProducer, IsWaitingOrSent, List, Noted, Outbox, OutboxEnd, PipelineEnd, Place, Plan, Planned, ReachesInOrder, Receipt, Served, Service, Serving, Some, TakesInOrder, WorkerEnd, [], ap, arith, claims, consumer_number, consumer_place, dispatch_of, empty, enumerate_from, events_in, get_or-map, get_or_from_slice_get, inbox_in, inl, inr, length, length-map, map, map-map, mine_from, nat_tests, notes_in, opening_view, option_map, outbox_in, placed_intake, planned_workers, records_at, refl, rows_of_service, run_takes_in, served_by_notes, served_in, served_to, service_number, slice_get, slice_get-append_right, slice_get-map, slice_get_within, slice_index_or, state_of, subst, suc, sym, told_in, view_after, zero, ℕ, ◌++◌, ◌+◌, ◌<◌, ◌∙◌, ◌∷◌, ◌≡◌}
 use Rattle.kob_rights.specs.declared.event.Event.{Event as Asked}
 use Rattle.kob_shared.specs.declared.work.Done.{Done}
-use Rattle.kob_pipeline.proofs.BrokerSteps.{legal_is_history}
-use Rattle.kob_pipeline.proofs.Lists.{all_weaker, get_front}
-use Rattle.kob_pipeline.proofs.Rows.{rows_of_steps}
+use Rattle.kob_delivery.proofs.BrokerSteps.{legal_is_history}
+use Rattle.kob_delivery.proofs.Lists.{all_weaker, get_front}
+use Rattle.kob_pipeline.proofs.PlanRows.{rows_of_steps}
 use Rattle.kob_router.specs.Run as router
 use Rattle.kob_inbox.specs.Run as consumers
 use Rattle.kob_outbox.specs.Contents as outboxes
-
-pub partition_holds : (target : Target) (worker : ℕ) (journal : List Entry) (view : View) (moves : List router.Move)
-    (now : router.State) (place : Place)
-    → IsHistory opening_view journal view → IsServicePart target worker journal moves now
-    → IsSoleProducer worker place.topic journal → IsNeverDeleted place.topic journal
-    → IsDelivered (dispatch_of target) place (rows_of moves) (records_of (view.log place))
-partition_holds target worker journal view moves now place history part =
-    is_delivered (dispatch_of target) place (target_tells target) worker view journal moves now history part.run
-    part.served
-
-pub takes_in_order : (t : Subscription) (worker : ℕ) (journal : List Entry) (view : View) (moves : List consumers.Move)
-    (now : consumers.State) (place : Place)
-    → IsHistory opening_view journal view → IsConsumerPart t worker journal moves now
-    → IsSoleCommitter worker t.group place.topic journal → IsNeverDeleted place.topic journal
-    → IsTakenInOrder place (records_of (view.log place)) (consumers.taken_of moves)
-takes_in_order t worker journal view moves now place history part =
-    is_taken_in_order t place worker view journal moves now history part.run part.served
-
-pub waits_or_sent : (target : Target) (worker : ℕ) (journal : List Entry) (moves : List router.Move)
-    (now : router.State) → IsServicePart target worker journal moves now
-    → AllByRecursion (IsWaitingOrSent (dispatch_of target) worker journal now.outbox) (rows_of moves)
-waits_or_sent target worker journal moves now part =
-    all_wait_or_sent (dispatch_of target) worker journal moves now part.run part.served
-
-pub holds_a_prefix : (target : Target) (t : Subscription) (sender taker : ℕ) (journal : List Entry) (view : View)
-    (sends : List router.Move) (service : router.State) (takes : List consumers.Move) (taking : consumers.State)
-    (kind id : List ℕ)
-    → IsHistory opening_view journal view → IsServicePart target sender journal sends service
-    → IsConsumerPart t taker journal takes taking → ArePrivate sender taker t.group t.assignment journal
-    → ReachesInOrder (rows_of sends) taking.inbox kind id
-holds_a_prefix target t sender taker journal view sends service takes taking kind id history sent took private =
-    reaches target (rows_of sends) (rows_tell target empty sends) kind id
-    (told_all (is_of_aggregate kind id) (dispatch_of target) sender journal sends service sent.run sent.served)
-    (Contains t.assignment) (λ q. records_of (view.log q)) (consumers.taken_of takes) taking.inbox
-    (λ q a. partition_holds target sender journal view sends service q history sent (private q a).producer
-    (private q a).kept)
-    (λ q a. takes_in_order t taker journal view takes taking q history took (private q a).committer (private q a).kept)
-    (all_assigned t takes consumers.start taking took.run) (run_takes_in t takes consumers.start taking took.run)
-
--- The laws of delivery, of a pipeline's plan and what it leaves.
 
 -- what was served, of entries with their places
 abbrev served_of : List (ℕ × Entry) → List Served

@@ -7,7 +7,7 @@ use Rattle.kob_lines.proofs.ConsumerCourses.{calls_joined, joined}
 use Rattle.kob_lines.specs.Joined.{served_append}
 use Rattle.kob_pipeline.specs.declared.plan.ConsumerStep.{ConsumerStep}
 use Rattle.kob_pipeline.specs.declared.plan.ServiceStep.TheVariants.{Record}
-use Rattle.kob_pipeline.proofs.Rows.{all_later, run_numbered}
+use Rattle.kob_delivery.proofs.Rows.{all_later, run_numbered}
 use Rattle.kob_inbox.specs.declared.tick.Tick.{Tick as ConsumerAnswer}
 use Rattle.kob_router.specs.declared.tick.Tick.{Tick as RouterAnswer}
 use Rattle.kob_lines.specs.declared.lossy.Loss.TheVariants as lost

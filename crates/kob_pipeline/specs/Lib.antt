@@ -1,5 +1,4 @@
 pub mod Types
-pub mod View
 pub mod Served
 pub mod Noting
 pub mod Steps

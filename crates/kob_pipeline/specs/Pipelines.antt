@@ -9,8 +9,9 @@ use Rattle.kob_pipeline.specs.Steps.{HasEnded, Planned, planned_workers, IsConsu
 use Rattle.kob_pipeline.specs.declared.fault.PipelineFault.{PipelineFault}
 use Rattle.kob_pipeline.specs.declared.fault.PipelineFault.TheVariants.{TooManyWorkers, JournalFull, Stopped, Torn}
 use Rattle.kob_inbox.specs.declared.inbox_row.InboxRow.{InboxRow}
-use Rattle.kob_pipeline.specs.View.{view_after}
-use Rattle.kob_pipeline.specs.Plans.{IsTakenInOrder, IsWaitingOrSent, rows_of_service}
+use Rattle.kob_delivery.specs.View.{view_after}
+use Rattle.kob_delivery.specs.Delivered.{IsTakenInOrder, IsWaitingOrSent}
+use Rattle.kob_pipeline.specs.Plans.{rows_of_service}
 use Rattle.kob_pipeline.specs.declared.end.WorkerEnd.TheVariants.{Inbox, Outbox}
 use Rattle.kob_outbox.specs.Contents as outboxes
 use Rattle.kob_inbox.specs.Contents as inboxes

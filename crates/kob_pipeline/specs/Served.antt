@@ -1,19 +1,9 @@
 -- Which calls of a worker were served, which were lost, and what it noted of them.
-use Rattle.std.specs.Prelude.{ℕ, List, [], ◌∷◌, if◌then◌else◌, ◌==◌, ◌≡◌, ◌++◌, Option, None, Some}
-use Rattle.kob_pipeline.specs.Types.{Served, AreServed, Entry, dispatch_of, Subscription, Call, AtDesk, CallFault, Loss, Event}
+use Rattle.std.specs.Prelude.{ℕ, List, [], ◌∷◌, ◌≡◌, ◌++◌, Option, None, Some}
+use Rattle.kob_pipeline.specs.Types.{Served, Call, AtDesk, CallFault, Loss, Event}
 use Rattle.kob_shared.specs.declared.journal.Receipt.{Receipt}
-use Rattle.kob_router.specs.declared.dispatch.Target.{Target}
 use Rattle.std.specs.List.{All}
-use Rattle.kob_router.specs.Run as router
-use Rattle.kob_inbox.specs.Run as consumer
 use Rattle.kob_lines.specs.declared.lossy.Loss.TheVariants as losses
-use Rattle.kob_lines.specs.Calls.{served_in}
-
--- what the journal says that a worker was served, in order
-abbrev pub served_to : ℕ → List Entry → List Served
-served_to worker [] = []
-served_to worker (e ∷ es) =
-    if e.worker == worker then served_in e ∷ served_to worker es else served_to worker es
 
 -- what a worker noted that it was served, in order
 abbrev pub served_by_notes : List Event → List Receipt → List Served
@@ -21,18 +11,6 @@ served_by_notes [] told = []
 served_by_notes (e ∷ es) [] = []
 served_by_notes (e ∷ es) (r ∷ rs) =
     record { request = e.request; reply = r.reply } ∷ served_by_notes es rs
-
--- a service's part in a journal: a run from an empty outbox on, whose calls it served to the worker
-pub record IsServicePart (target : Target) (worker : ℕ) (journal : List Entry)
-    (moves : List router.Move) (now : router.State) : Type 0 where
-  pub run : router.IsRouterRun (dispatch_of target) router.start moves now
-  pub served : AreServed (router.calls_of moves) (served_to worker journal)
-
--- a consumer's, from an empty inbox on
-pub record IsConsumerPart (t : Subscription) (worker : ℕ) (journal : List Entry)
-    (moves : List consumer.Move) (now : consumer.State) : Type 0 where
-  pub run : consumer.IsConsumerRun t consumer.start moves now
-  pub served : AreServed (consumer.calls_of moves) (served_to worker journal)
 
 -- Which calls of a tick were served, where the first has this loss and no other is lost. Without a
 -- loss a call was served, and its reply was heard; lost before it was served, it was neither; lost

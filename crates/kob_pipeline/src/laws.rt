@@ -3,12 +3,13 @@
 ghost use Rattle.std.specs.Prelude.{◌≡◌, List, ℕ, Some, slice_get};
 ghost use Rattle.kob_router.specs.Run.{dispatch_of};
 ghost use Rattle.kob_router.specs.declared.place.Place.{Place as PlaceValue};
-ghost use Rattle.kob_pipeline.specs.Plans.{IsDelivered, ReachesInOrder, rows_of_service};
+ghost use Rattle.kob_delivery.specs.Delivered.{IsDelivered, ReachesInOrder};
+ghost use Rattle.kob_pipeline.specs.Plans.{rows_of_service};
 ghost use Rattle.kob_pipeline.specs.Pipelines.{HasLeft, IsPipeline, consumer_number};
 ghost use Rattle.kob_pipeline.specs.Pipelines.{consumer_place, service_number, IsNoneLost};
 ghost use Rattle.kob_pipeline.specs.Pipelines.{TakesInOrder, inbox_in, records_at};
-ghost use Rattle.kob_pipeline.specs.View.{ArePrivate, IsNeverDeleted, IsSoleCommitter};
-ghost use Rattle.kob_pipeline.specs.View.{IsSoleProducer};
+ghost use Rattle.kob_delivery.specs.View.{ArePrivate, IsNeverDeleted, IsSoleCommitter};
+ghost use Rattle.kob_delivery.specs.View.{IsSoleProducer};
 ghost use Rattle.kob_pipeline.specs.declared.end.InboxEnd.{InboxEnd as InboxLeft};
 ghost use Rattle.kob_pipeline.specs.declared.end.WorkerEnd.TheVariants.{Inbox};
 ghost use Rattle.kob_pipeline.specs.declared.plan.ConsumerPlan.{ConsumerPlan as Consumer};

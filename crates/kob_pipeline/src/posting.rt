@@ -9,7 +9,7 @@ ghost use Rattle.kob_outbox.specs.Contents.{is_recorded, next_seq};
 ghost use Rattle.kob_router.specs.Run.{dispatch_of, start};
 ghost use Rattle.kob_router.specs.Tick.{IsFirst, hand_of, state_of};
 ghost use Rattle.kob_pipeline.specs.declared.plan.ServiceStep.TheVariants as steps;
-ghost use Rattle.kob_pipeline.specs.Plans.{IsPrefixOf};
+ghost use Rattle.kob_delivery.specs.Delivered.{IsPrefixOf};
 ghost use Rattle.kob_pipeline.specs.Steps.{ServiceGoesOn, IsServiceStep, Leads, Steps, with_desk};
 
 use crate::end::OutboxEnd;

@@ -10,10 +10,10 @@ use Rattle.kob_delivery_check.specs.declared.order.Early.{Early}
 use Rattle.kob_inbox.specs.Contents.{placed_intake}
 use Rattle.kob_inbox.specs.declared.fetcher.Subscription.{Subscription}
 use Rattle.kob_inbox.specs.declared.inbox_row.InboxRow.{InboxRow}
-use Rattle.kob_pipeline.specs.View.{ArePrivate, IsBreach}
-use Rattle.kob_pipeline.specs.declared.premises.Breach.{Breach}
-use Rattle.kob_pipeline.specs.declared.premises.Premise.{Premise}
-use Rattle.kob_pipeline.specs.declared.premises.Premise.TheVariants as premises
+use Rattle.kob_delivery.specs.View.{ArePrivate, IsBreach}
+use Rattle.kob_delivery.specs.declared.premises.Breach.{Breach}
+use Rattle.kob_delivery.specs.declared.premises.Premise.{Premise}
+use Rattle.kob_delivery.specs.declared.premises.Premise.TheVariants as premises
 use Rattle.kob_router.specs.Line.{one_more}
 use Rattle.kob_router.specs.declared.place.Place.{Place}
 use Rattle.kob_scene_play.specs.Checks.{AreEarly}

@@ -20,7 +20,7 @@ use crate::service_worker::ServiceWorker;
 use crate::stage::Stage;
 use kob_delivery_check::{Early, altered_row, count_taken, unread_of};
 use kob_names::Text;
-use kob_pipeline::{Breach, Premise, first_breach};
+use kob_delivery::{Breach, Premise, first_breach};
 use kob_router::Place;
 use kob_shared::Journal;
 use kob_words::{push_bytes, push_number};

@@ -16,10 +16,10 @@ pub use Rattle.kob_outbox.specs.Contents.{Event, id_text, stored_event}
 pub use Rattle.kob_outbox.specs.declared.change.Change.{Change}
 pub use Rattle.kob_outbox.specs.declared.event.OutboxEvent.{OutboxEvent}
 pub use Rattle.kob_partition.specs.Retained.{records_of, Retained}
-pub use Rattle.kob_pipeline.proofs.PlanLaws.{holds_a_prefix}
-pub use Rattle.kob_pipeline.specs.Plans.{IsDelivered, IsTakenInOrder, ReachesInOrder, rows_of, rows_of_aggregate, taken_ids, told_id}
-pub use Rattle.kob_pipeline.specs.View.{ActsAlone, ArePrivate, Commits, IsNeverDeleted, IsPrivate, IsReserved, IsSoleCommitter, NoSuperUser, Produces, IsHistory, IsSameView, View, opening_view, with_batch, with_commit, with_producer, without_topic}
-pub use Rattle.kob_pipeline.specs.Served.{IsConsumerPart, IsServicePart}
+pub use Rattle.kob_delivery.proofs.Laws.{holds_a_prefix}
+pub use Rattle.kob_delivery.specs.Delivered.{IsDelivered, IsTakenInOrder, ReachesInOrder, rows_of, rows_of_aggregate, taken_ids, told_id}
+pub use Rattle.kob_delivery.specs.View.{ActsAlone, ArePrivate, Commits, IsNeverDeleted, IsPrivate, IsReserved, IsSoleCommitter, NoSuperUser, Produces, IsHistory, IsSameView, View, opening_view, with_batch, with_commit, with_producer, without_topic}
+pub use Rattle.kob_delivery.specs.Served.{IsConsumerPart, IsServicePart}
 pub use Rattle.kob_rights.specs.declared.code.Code.TheVariants.{TopicAuthorizationFailed}
 pub use Rattle.kob_rights.specs.declared.reply.Reply.{Reply}
 pub use Rattle.kob_rights.specs.declared.reply.Reply.TheVariants.{Denied, Done}

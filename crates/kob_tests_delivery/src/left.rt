@@ -5,11 +5,10 @@ ghost use Rattle.kob_pipeline.specs.Pipelines.{IsPipeline};
 use crate::making::answer;
 use crate::plans::FIRST_EVENTS;
 use kob_broker::Broker;
+use kob_delivery::first_breach;
 use kob_inbox::InboxRow;
 use kob_names::{Record, Verdict};
-use kob_pipeline::{
-    PipelineEnd, Plan, WorkerEnd, consumer_law, first_breach, pipeline_law, router_law,
-};
+use kob_pipeline::{PipelineEnd, Plan, WorkerEnd, consumer_law, pipeline_law, router_law};
 use kob_rights::{Body, Code, Reply};
 use kob_router::event_id;
 use std::alloc::Global;

@@ -1,5 +1,5 @@
 use Rattle.kob_pipeline.proofs.Words.{ap, first_after, rules, ◌∙◌}
-use Rattle.kob_pipeline.proofs.Rows.{page_read}
+use Rattle.kob_pipeline.proofs.PlanRows.{page_read}
 use Rattle.kob_pipeline.proofs.posting.page_after.Goals as goal
 
 pub returns : goal.returns

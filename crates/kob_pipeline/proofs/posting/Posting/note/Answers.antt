@@ -1,7 +1,7 @@
 use Rattle.kob_pipeline.proofs.Words.{first_recorded, Err, Recorded, [], ap, inl, option_map, refl, subst, sym, ◌∷◌}
 use Rattle.kob_router.specs.Tick.{IsFirst, hand_of, state_of}
 use Rattle.kob_outbox.specs.Contents.{first_bad}
-use Rattle.kob_pipeline.proofs.Rows.{fits_unless}
+use Rattle.kob_pipeline.proofs.PlanRows.{fits_unless}
 use Rattle.kob_pipeline.proofs.Worked.{leads_still, not_recorded}
 use Rattle.kob_pipeline.proofs.posting.Posting.note.Goals as goal
 

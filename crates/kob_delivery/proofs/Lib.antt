@@ -1,0 +1,16 @@
+mod Words
+pub mod Lists
+mod Logged
+mod ServedRuns
+mod Breaches
+mod OtherSteps
+mod RouterKept
+mod RouterRun
+mod ConsumerKept
+mod ConsumerRun
+mod Arriving
+mod Reaching
+pub mod BrokerSteps
+pub mod Rows
+pub mod Laws
+pub mod Reserving

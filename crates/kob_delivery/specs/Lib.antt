@@ -1,0 +1,4 @@
+pub mod Types
+pub mod View
+pub mod Served
+pub mod Delivered

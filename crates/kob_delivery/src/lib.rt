@@ -1,0 +1,16 @@
+//! The laws of delivery: what a journal, and the calls of services and consumers, say of topics and
+//! inboxes. Premises that a caller can decide, and access rules from which they follow.
+#![tactic(auto)]
+
+mod access_laws;
+mod delivery_laws;
+mod history_laws;
+mod premises;
+
+pub use access_laws::{bindings_leave_one_committer, bindings_leave_one_producer};
+pub use delivery_laws::{
+    a_consumer_takes_each_offset_in_order, a_partition_holds_what_was_routed,
+    a_row_waits_or_was_sent, an_inbox_holds_a_prefix_of_each_aggregate,
+};
+pub use history_laws::a_legal_journal_is_a_history;
+pub use premises::{Breach, Premise, deletion, first_breach, other_committer, other_producer};

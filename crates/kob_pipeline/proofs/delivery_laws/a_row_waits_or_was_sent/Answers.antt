@@ -1,5 +1,0 @@
-use Rattle.kob_pipeline.proofs.PlanLaws.{waits_or_sent}
-use Rattle.kob_pipeline.proofs.delivery_laws.a_row_waits_or_was_sent.Goals as goal
-
-pub returns : goal.returns
-returns c = waits_or_sent

@@ -1,5 +1,0 @@
-use Rattle.kob_pipeline.proofs.PlanLaws.{holds_a_prefix}
-use Rattle.kob_pipeline.proofs.delivery_laws.an_inbox_holds_a_prefix_of_each_aggregate.Goals as goal
-
-pub returns : goal.returns
-returns c = holds_a_prefix
