@@ -3,6 +3,7 @@
 ghost use Rattle.std.specs.Prelude.{◌≡◌};
 
 use crate::broker_line::BrokerLine;
+use crate::connection::{Connection, Serve};
 use crate::lossy::Lossy;
 use crate::recorded_line::RecordedLine;
 use crate::session_line::SessionLine;
@@ -29,6 +30,12 @@ impl<'a> IntoCalls for RecordedLine<'a> {
 }
 
 impl<'a, R: Wait> IntoCalls for SessionLine<'a, R> {
+    fn into_calls(self) -> Vec<Call> {
+        self.close().1
+    }
+}
+
+impl<S: Serve + Drop> IntoCalls for Connection<S> {
     fn into_calls(self) -> Vec<Call> {
         self.close().1
     }

@@ -1,10 +1,11 @@
-//! Lines to a broker: over a borrowed broker, over one with a journal, over a session, and a line
-//! that loses calls on purpose. A router with its outbox under one lock, laws of runs, and one
+//! Lines to a broker: over a borrowed broker, over one with a journal, over a session, over a server
+//! of one's own, and a line that loses calls on purpose. A router with its outbox under one lock, laws of runs, and one
 //! fault for programs that use all these.
 #![tactic(auto)]
 
 mod broker_line;
 mod calls;
+mod connection;
 mod consumer_course;
 mod event;
 mod into_calls;
@@ -19,6 +20,7 @@ mod shared_relay;
 
 pub use broker_line::BrokerLine;
 pub use calls::Calls;
+pub use connection::{Connection, Serve};
 pub use consumer_course::a_consumer_run_goes_on;
 pub use into_calls::IntoCalls;
 pub use lossy::{Loss, Lossy};

@@ -5,3 +5,4 @@ pub mod Claims
 pub mod Differences
 pub mod Fleets
 pub mod Seats
+pub mod Misfits
