@@ -1,5 +1,5 @@
 -- What becomes of the row in hand where others write and sweep the outbox.
-use Rattle.kob_lines.proofs.Words.{Change, Contents, Err, Hand, HoldsFirst, IfOk, IsFirst, IsSomeSweep, List, None, Ok, OnErr, OnOk, Option, OutboxEvent, OutboxFault, RecordFault, Relayed, Result, Some, [], after_record, arith, filter-append, later_than, length, nat_tests, refl, slice_get, swept_waits, take, up_to, without_sent, ℕ, ◌++◌, ◌∷◌, ◌≡◌}
+use Rattle.kob_lines.proofs.Words.{Change, Contents, Err, Hand, HoldsFirst, IsFirst, List, None, Ok, OnErr, OnOk, Option, OutboxEvent, OutboxFault, RecordFault, Relayed, Result, Some, [], after_record, arith, filter-append, later_than, nat_tests, refl, slice_get, swept_waits, take, without_sent, ℕ, ◌++◌, ◌∷◌, ◌≡◌}
 use Rattle.kob_outbox.specs.Contents.{Event}
 
 first_stays : (xs ys : List Event) (x : Event) → slice_get xs 0 ≡ Some x → slice_get (xs ++ ys) 0 ≡ Some x
@@ -39,8 +39,3 @@ pub holds_swept : (old : Relayed) (now : Contents) (result : Result ℕ OutboxFa
     → HoldsFirst (record old { outbox = now })
 holds_swept old now (Ok count) holds is stays = grind (arith, nat_tests, first_swept)
 holds_swept old now (Err fault) holds is stays = grind (arith, nat_tests)
-
-pub is_some_sweep : (old : Contents) (result : Result ℕ OutboxFault)
-    → IfOk result (λ count. count ≡ length (up_to old.mark old.events)) → IfOk result IsSomeSweep
-is_some_sweep old (Ok count) is = (old, is)
-is_some_sweep old (Err fault) is = tt

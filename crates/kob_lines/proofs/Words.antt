@@ -7,7 +7,7 @@ pub use Rattle.kob_inbox.specs.declared.fetcher.Subscription.{Subscription}
 pub use Rattle.kob_inbox.specs.declared.tick.Tick.{Tick}
 pub use Rattle.kob_lines.specs.Calls.{GainsAtMost, IsEntryOf, IsHeardOf, IsServedAtMostOnce, IsServedIfHeard, IsServedInSession, Journals, KeepsSeat, PassesCallsOn, PassesOn, reply_of}
 pub use Rattle.kob_lines.specs.Joined.{no_call_is_journaled, no_call_is_passed_on}
-pub use Rattle.kob_lines.specs.Relayed.{HasConsumerRun, HasServiceRun, HoldsFirst, IsSomeSweep, Relayed}
+pub use Rattle.kob_lines.specs.Relayed.{HasConsumerRun, HasServiceRun, HoldsFirst, Relayed}
 pub use Rattle.kob_lines.specs.declared.lossy.Loss.{Loss}
 pub use Rattle.kob_names.specs.declared.settings.Settings.{Settings}
 pub use Rattle.kob_outbox.proofs.Lawful.{swept_waits}

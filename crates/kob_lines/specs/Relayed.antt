@@ -1,6 +1,6 @@
 -- An outbox, and the router that sends its rows.
-use Rattle.std.specs.Prelude.{◌≡◌, ℕ, List, length, option_map}
-use Rattle.kob_outbox.specs.Contents.{Contents, Event, empty, up_to}
+use Rattle.std.specs.Prelude.{◌≡◌, ℕ, List, option_map}
+use Rattle.kob_outbox.specs.Contents.{Contents, Event, empty}
 use Rattle.kob_router.specs.Run.{dispatch_of, Dispatching, IsRouterRun, events_of}
 use Rattle.kob_router.specs.Tick.{IsFirst, IsOneTick, Ticks, hand_of, point_of}
 use Rattle.kob_router.specs.declared.line.Call.{Call}
@@ -26,16 +26,6 @@ IsTick old new calls then_calls unmade then_unmade tick =
     (new.router.target ≡ old.router.target)
     × Ticks IsOneTick (dispatch_of old.router.target) (point_of old.router old.outbox calls unmade)
     (point_of new.router new.outbox then_calls then_unmade) tick
-
--- one step of a router over some outbox, before and after which the row in hand is the first
-abbrev pub IsSomeTick : List Call → List Call → ℕ → ℕ → Tick → Type 0
-IsSomeTick calls then_calls unmade then_unmade tick =
-    (old : Relayed) × (new : Relayed) × HoldsFirst old × HoldsFirst new
-    × IsTick old new calls then_calls unmade then_unmade tick
-
--- so many events of some outbox were sent
-abbrev pub IsSomeSweep : ℕ → Type 0
-IsSomeSweep count = (old : Contents) × (count ≡ length (up_to old.mark old.events))
 
 -- from an empty outbox and a new router on a run led to this state: it made these calls and recorded
 -- these rows, swept ones included

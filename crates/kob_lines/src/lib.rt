@@ -1,6 +1,6 @@
 //! Lines to a broker: over a borrowed broker, over one with a journal, over a session, over a server
-//! of one's own, and a line that loses calls on purpose. A router with its outbox under one lock, laws of runs, and one
-//! fault for programs that use all these.
+//! of one's own, and a line that loses calls on purpose. A router with its outbox, laws of runs, and one fault for programs that
+//! use all these.
 #![tactic(auto)]
 
 mod broker_line;
@@ -16,7 +16,6 @@ mod recorded_line;
 mod relay;
 mod service_course;
 mod session_line;
-mod shared_relay;
 
 pub use broker_line::BrokerLine;
 pub use calls::Calls;
@@ -29,4 +28,3 @@ pub use recorded_line::RecordedLine;
 pub use relay::Relay;
 pub use service_course::a_service_run_goes_on;
 pub use session_line::SessionLine;
-pub use shared_relay::SharedRelay;
