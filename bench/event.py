@@ -30,7 +30,9 @@ and four times as many.
 --threads measures a pipeline of four services, of this number of events each, and two consumers, which begin
 once all is sent; at twice and four times as many, and the instructions of a quarter of them. Then it measures
 one broker under one lock, with 1 to 16 sessions that each produce a record and fetch it, by turns.
-Microseconds are the least of five runs. Under the lock is what callgrind counts in `Kept::serve`, of one
+Microseconds are the least of five runs. Then a consumer polls a topic without records, a hundred times a
+second for a day, made without waiting: after each 10,000 calls its line is changed and the journal is handed
+out, and both are dropped. Under the lock is what callgrind counts in `Kept::serve`, of one
 session's instructions. Bytes by place are what massif finds in memory when there is the most, by the function
 that allocated it, of the program as Rattle's own compiler builds it; the services have ended then, and their
 outboxes are gone.
@@ -66,7 +68,10 @@ SOURCES = {
     },
     "threads": {"src/main.rt": "threads.txt"},
 }
-NEEDS = "kob_names kob_rights kob_broker kob_outbox kob_router kob_inbox kob_shared kob_pipeline".split()
+# The polls of a day, a hundred a second.
+DAY = 8_640_000
+NEEDS = "kob_names kob_rights kob_broker kob_outbox kob_router kob_inbox kob_shared kob_lines".split()
+NEEDS += ["kob_pipeline", "kob_embedding"]
 NEEDS += ["uuid", "anyhow"]
 CALLS = (
     "record",
@@ -321,6 +326,15 @@ def sessions(program: pathlib.Path, turns: int, size: int) -> None:
         print(f"\nAn entry takes {whole} instructions, {held} of them under the lock.\n")
 
 
+def days(program: pathlib.Path, polls: int) -> None:
+    """Prints what an idle consumer holds after so many polls, and after a tenth of them."""
+    heading("Polls of an idle consumer, by line and journal of 10,000 calls", "microseconds a poll", "bytes held at most")
+    for it in (polls // 10, polls):
+        micros, most = least(program, ("days", it, 10_000), it, 1)
+        row(f"{it:,}", f"{micros / it:.1f}", f"{most:,}")
+    print()
+
+
 def check() -> int:
     """Builds both programs without proofs, and runs each with few events; the exit status is 0 if they do as
     told."""
@@ -333,6 +347,7 @@ def check() -> int:
             run(event, work)
         least(threads, ("pipeline", 100, SERVICES, CONSUMERS, 20), CONSUMERS * SERVICES * 20, 1)
         least(threads, ("lock", 100, 2, 20), 2 * 2 * 20, 1)
+        least(threads, ("days", 1_000, 100), 1_000, 1)
     print("the programs of bench/event were built and run")
     return 0
 
@@ -360,6 +375,7 @@ def measured(given: argparse.Namespace) -> str:
             program = ours(folder, "threads")
             pipelines(program, given.threads, given.bytes)
             sessions(program, 16 * given.threads, given.bytes)
+            days(program, DAY)
             if shutil.which("valgrind"):
                 places(program, given.threads // 4, given.bytes)
     return said.getvalue()
