@@ -13,7 +13,7 @@ pub(crate) fn deliver(alloc: Global) -> Worked<Delivered> {
     let mut recorded = broker(alloc)?;
     let sent = serve(alloc, &mut recorded);
     let mut taken = consume(alloc, &mut recorded);
-    let delivered = reached(alloc, &recorded, &sent, &mut taken);
+    let delivered = reached(alloc, &[recorded.journal()], &sent, &mut taken);
     drop(sent);
     drop(taken);
     drop(recorded);
@@ -36,5 +36,5 @@ fn consume(alloc: Global, recorded: &mut Recorded) -> Worked<ConsumerEnd> {
     let host = Host::parse(alloc, "10.0.0.1")?;
     let mail = Principal::parse(alloc, "User:mail")?;
     let line = RecordedLine::open(alloc, recorded, 2, mail, host);
-    workers::take_all(alloc, line)
+    workers::take(alloc, line)
 }

@@ -1,5 +1,6 @@
-//! Two business changes on their way into an inbox: once without threads, where a reply is lost, and
-//! once in threads, where the service's right to write is revoked and granted again.
+//! Two orders are placed and paid, and their events reach an inbox: once without threads, where a
+//! reply is lost, and once in threads, where journals are handed out, the service changes its line
+//! and restarts, and its right to write is revoked and granted again.
 #![tactic(auto)]
 
 ghost use Rattle.std.specs.Prelude.{◌≡◌};
@@ -8,15 +9,12 @@ mod direct;
 mod threads;
 mod workers;
 
-use kob_embedding::{
-    ConsumerEnd, DeliveryFault, RunningService, ServiceEnd, opened, reaches_in_order,
-};
+use kob_embedding::{ConsumerEnd, DeliveryFault, ServiceEnd, opened, reaches_in_turn};
 use kob_inbox::InboxRow;
 use kob_lines::ProgramFault;
 use kob_outbox::{Change, OutboxEvent};
-use kob_router::Line;
 use kob_script::{Script, read_script};
-use kob_shared::{ENTRY_LIMIT, Recorded};
+use kob_shared::{ENTRY_LIMIT, Journal, Recorded};
 use std::alloc::Global;
 use std::io::Write;
 use uuid::Uuid;
@@ -54,15 +52,33 @@ fn main(rt: HostRuntime) -> Worked<()> {
 
 fn print<W: Write>(out: &mut W, heading: &str, delivered: &Delivered) -> Worked<()> {
     writeln!(out, "{heading}")?;
-    for row in &delivered.rows {
-        let value = std::str::from_utf8(row.value.as_slice()).unwrap_or("?");
-        writeln!(out, "{}: {value}", row.place)?;
+    for order in ["41", "42"] {
+        print_order(out, order, &delivered.rows)?;
     }
     match delivered.reached {
         Ok(()) => writeln!(out, "delivered in order: true")?,
         Err(fault) => writeln!(out, "delivered in order: false, {fault}")?,
     }
     Ok(())
+}
+
+/// Prints an order's states in the order in which they were taken in.
+fn print_order<W: Write>(out: &mut W, order: &str, rows: &[InboxRow]) -> Worked<()> {
+    write!(out, "{order}:")?;
+    for row in rows {
+        if is_of(order, row) {
+            let state = std::str::from_utf8(row.value.as_slice()).unwrap_or("?");
+            write!(out, " {state}")?;
+        }
+    }
+    Ok(writeln!(out)?)
+}
+
+fn is_of(order: &str, row: &InboxRow) -> bool {
+    match &row.key {
+        Some(key) => key.as_slice() == order.as_bytes(),
+        None => false,
+    }
 }
 
 fn script(alloc: Global, text: &str) -> Worked<Script> {
@@ -75,29 +91,29 @@ fn broker(alloc: Global) -> Worked<Recorded> {
     Ok(opened(alloc, settings, events.as_slice(), ENTRY_LIMIT)?)
 }
 
-/// Records two orders with their events, and sends these.
-fn send<L: Line>(alloc: Global, service: &mut RunningService<L>) -> Worked<()>
-    ensures { service.new.earlier ≡ service.old.earlier }
-{
-    for (id, order) in [(1, "41"), (2, "42")] {
-        let change = Change::of(alloc, "order", order, "placed")?;
-        let event = OutboxEvent::of(alloc, Uuid::from_u128(id), &change, order)?;
-        service.record(&change, &event)?;
+/// An order's new state, and its event.
+fn order_event(alloc: Global, id: u128, order: &str, state: &str) -> Worked<(Change, OutboxEvent)> {
+    let change = Change::of(alloc, "order", order, state)?;
+    match OutboxEvent::of(alloc, Uuid::from_u128(id), &change, state) {
+        Ok(event) => Ok((change, event)),
+        Err(fault) => {
+            drop(change);
+            Err(ProgramFault::from(fault))
+        }
     }
-    service.send_all(alloc, u32::MAX)
 }
 
 /// What has reached the inbox. The ends are borrowed, since a value that is dropped at `?` makes a
 /// proof long.
 fn reached(
     alloc: Global,
-    recorded: &Recorded,
+    journals: &[&Journal],
     sent: &Worked<ServiceEnd>,
     taken: &mut Worked<ConsumerEnd>,
 ) -> Worked<Delivered> {
     match (taken, sent) {
         (Ok(taken), Ok(sent)) => {
-            let reached = reaches_in_order(alloc, recorded, sent, taken);
+            let reached = reaches_in_turn(alloc, journals, sent, taken);
             let rows = taken.taken()?;
             Ok(Delivered { reached, rows })
         }

@@ -2,7 +2,7 @@
 
 ghost use Rattle.std.specs.Prelude.{◌≡◌, [], IfOk};
 
-use crate::{Worked, send};
+use crate::{Worked, order_event};
 use kob_embedding::{ConsumerEnd, RunningConsumer, RunningService, ServiceEnd};
 use kob_inbox::{Inbox, Subscription};
 use kob_lines::IntoCalls;
@@ -10,7 +10,10 @@ use kob_outbox::Outbox;
 use kob_router::{Line, Route, RouteSettings};
 use std::alloc::Global;
 
-/// Worker 1 sends two orders.
+/// How many events both orders have.
+const EVENTS: usize = 4;
+
+/// Worker 1 places two orders, which are then paid, and sends the events.
 pub(crate) fn serve<L: IntoCalls + Drop>(alloc: Global, line: L) -> Worked<ServiceEnd>
     requires { L.calls line ≡ [] }
 {
@@ -20,7 +23,7 @@ pub(crate) fn serve<L: IntoCalls + Drop>(alloc: Global, line: L) -> Worked<Servi
 }
 
 /// A service with an empty outbox, whose events go to topics of one partition by the default route.
-fn service<L: Line + Drop>(alloc: Global, line: L) -> Worked<RunningService<L>>
+pub(crate) fn service<L: Line + Drop>(alloc: Global, line: L) -> Worked<RunningService<L>>
     requires { L.calls line ≡ [] }
     ensures { IfOk result (λ service. service.earlier ≡ []) }
 {
@@ -29,21 +32,39 @@ fn service<L: Line + Drop>(alloc: Global, line: L) -> Worked<RunningService<L>>
     Ok(RunningService::new(alloc, outbox, route, 1, line))
 }
 
-/// Worker 2 takes the events in until it finds none.
-pub(crate) fn take_all<L: IntoCalls + Drop>(alloc: Global, line: L) -> Worked<ConsumerEnd>
-    requires { L.calls line ≡ [] }
+fn send<L: Line>(alloc: Global, service: &mut RunningService<L>) -> Worked<()>
+    ensures { service.new.earlier ≡ service.old.earlier }
 {
-    let mut consumer = consumer(alloc, line)?;
-    let taken = consumer.take_all(alloc, 100);
-    consumer.end(2, taken)
+    record(alloc, service, 1, "41", "placed")?;
+    record(alloc, service, 3, "42", "placed")?;
+    record(alloc, service, 2, "41", "paid")?;
+    record(alloc, service, 4, "42", "paid")?;
+    service.send_all(alloc, u32::MAX)
 }
 
-/// Worker 2 takes the events in until both are there.
-pub(crate) fn take_both<L: IntoCalls + Drop>(alloc: Global, line: L) -> Worked<ConsumerEnd>
+fn record<L: Line>(
+    alloc: Global,
+    service: &mut RunningService<L>,
+    id: u128,
+    order: &str,
+    state: &str,
+) -> Worked<()>
+    ensures { service.new.earlier ≡ service.old.earlier }
+{
+    let (change, event) = order_event(alloc, id, order, state)?;
+    let recorded = service.record(&change, &event);
+    drop(change);
+    drop(event);
+    recorded?;
+    Ok(())
+}
+
+/// Worker 2 takes the events in until all are there.
+pub(crate) fn take<L: IntoCalls + Drop>(alloc: Global, line: L) -> Worked<ConsumerEnd>
     requires { L.calls line ≡ [] }
 {
     let mut consumer = consumer(alloc, line)?;
-    let taken = consumer.take_rows(alloc, 2, u32::MAX);
+    let taken = consumer.take_rows(alloc, EVENTS, u32::MAX);
     consumer.end(2, taken)
 }
 
