@@ -39,7 +39,7 @@ events_added : (moves : List Move) (s : State) → events_of s.outbox moves ≡ 
 events_added [] s = refl
 events_added (move ∷ moves) s = cc (events_behind s move moves, events_added moves (after s move))
 
-its_calls : (moves : List Move) → calls_of moves ≡ filter_map call_of moves
+pub its_calls : (moves : List Move) → calls_of moves ≡ filter_map call_of moves
 its_calls [] = refl
 its_calls (Called call marks ∷ moves) = ap (λ (cs : List Call). call ∷ cs) (its_calls moves)
 its_calls (_ ∷ moves) = its_calls moves

@@ -1,5 +1,6 @@
 mod Words
 mod Samples
 mod Example
+mod OtherBroker
 mod Needed
 mod ReservedExample

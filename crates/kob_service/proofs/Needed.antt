@@ -70,7 +70,11 @@ other_commits = (
   (
     committed_one,
     same committed_one,
-    (committed_one, (refl, same committed_one), (committed_one, (refl, same committed_one), same committed_one)),
+    (
+      committed_one,
+      (refl, same committed_one),
+      (committed_one, (record { count = 1; body_is = refl }, same committed_one), same committed_one),
+    ),
   ),
 )
 
@@ -126,7 +130,11 @@ other_deletes = (
   (
     view_with two,
     (refl, same (view_with two)),
-    (view_with two, (refl, same (view_with two)), (deleted, same deleted, same deleted)),
+    (
+      view_with two,
+      (record { count = 2; body_is = refl }, same (view_with two)),
+      (deleted, same deleted, same deleted),
+    ),
   ),
 )
 

@@ -18,7 +18,7 @@ pub use Rattle.kob_outbox.specs.declared.event.OutboxEvent.{OutboxEvent}
 pub use Rattle.kob_partition.specs.Retained.{records_of, Retained}
 pub use Rattle.kob_delivery.proofs.Laws.{holds_a_prefix}
 pub use Rattle.kob_delivery.specs.Delivered.{IsDelivered, IsTakenInOrder, ReachesInOrder, rows_of, rows_of_aggregate, taken_ids, told_id}
-pub use Rattle.kob_delivery.specs.View.{ActsAlone, ArePrivate, Commits, IsNeverDeleted, IsPrivate, IsReserved, IsSoleCommitter, NoSuperUser, Produces, IsHistory, IsSameView, View, opening_view, with_batch, with_commit, with_producer, without_topic}
+pub use Rattle.kob_delivery.specs.View.{ActsAlone, ArePrivate, Commits, IsNeverDeleted, IsPrivate, IsReserved, IsSoleCommitter, NoSuperUser, Produces, Gives, IsHistory, IsSameView, View, opening_view, with_batch, with_commit, with_producer, without_topic}
 pub use Rattle.kob_delivery.specs.Served.{IsConsumerPart, IsServicePart}
 pub use Rattle.kob_rights.specs.declared.code.Code.TheVariants.{TopicAuthorizationFailed}
 pub use Rattle.kob_rights.specs.declared.reply.Reply.{Reply}
@@ -39,6 +39,6 @@ pub use Rattle.std.proofs.lemmas.Bool.Decides.{nat_tests}
 pub use Rattle.std.proofs.lemmas.Slice.Eq.{bytes_eq-Decides}
 pub use Rattle.std.proofs.lemmas.Str.{IsUtf8-from_ascii}
 pub use Rattle.std.specs.List.{AllByRecursion, range_with_len}
-pub use Rattle.std.specs.Prelude.{IsTrue, None, Option, Some, bytes_eq, codes, slice_get}
+pub use Rattle.std.specs.Prelude.{Contains, IsTrue, None, Option, Some, bytes_eq, codes, slice_get}
 pub use Rattle.std.specs.Str.{IsAscii}
 pub use denote.RawPtr.{null_ptr}
