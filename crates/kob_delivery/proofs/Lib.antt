@@ -6,6 +6,8 @@ mod Breaches
 mod OtherSteps
 mod RouterKept
 mod RouterRun
+mod Repeats
+mod RepeatsRun
 mod ConsumerKept
 mod ConsumerRun
 mod Arriving

@@ -6,6 +6,7 @@ mod access_laws;
 mod delivery_laws;
 mod history_laws;
 mod premises;
+mod repeat_laws;
 
 pub use access_laws::{bindings_leave_one_committer, bindings_leave_one_producer};
 pub use delivery_laws::{
@@ -14,3 +15,4 @@ pub use delivery_laws::{
 };
 pub use history_laws::a_legal_journal_is_a_history;
 pub use premises::{Breach, Premise, deletion, first_breach, other_committer, other_producer};
+pub use repeat_laws::a_row_is_appended_once_a_start;
