@@ -8,6 +8,7 @@ mod RouterKept
 mod RouterRun
 mod Repeats
 mod RepeatsRun
+mod SeveralRun
 mod ConsumerKept
 mod ConsumerRun
 mod Arriving

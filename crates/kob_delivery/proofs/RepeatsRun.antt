@@ -49,7 +49,7 @@ module _ (route : Dispatching) (q : Place) where
       (elim (place_cases h.place q) [
         | inl e ↦
             let longer : (with_batch v h.place (batch_in_hand p ss h x)).log h.place
-                ≡ v.log h.place ++ batch_in_hand p ss h x ∷ [] =
+            ≡ v.log h.place ++ batch_in_hand p ss h x ∷ [] =
             rw (same_here h.place) refl in
             rw (← e, longer)
             (few_after_batch route rows c p ss h (v.log h.place) v.given x restarts (rw (← e) at k) to judged
@@ -175,8 +175,8 @@ run_counted route (m ∷ moves) s t n run =
     let same : n + one_restart m + restarts_of moves ≡ n + restarts_of (m ∷ moves) = omega (arith, more) in (
       run.0,
       subst (λ (k : ℕ). IsRun (λ (c : Counted) (x : Move). May route c.state x) after_counted
-      (counted (after s m) (n + one_restart m)) moves (counted t k)) same
-      (run_counted route moves (after s m) t (n + one_restart m) run.1),
+          (counted (after s m) (n + one_restart m)) moves (counted t k)) same
+          (run_counted route moves (after s m) t (n + one_restart m) run.1),
     )
 
 module _ (route : Dispatching) (q : Place) (tells : TellsIds route) (worker : ℕ) (end : View) where

@@ -3,3 +3,4 @@ pub mod View
 pub mod Served
 pub mod Delivered
 pub mod Repeats
+pub mod Several

@@ -1,6 +1,6 @@
 -- A history in which a reply is lost, the router begins anew, and a stranger is denied: two rows, three records,
 -- two events in the inbox. All that the laws ask holds of it.
-use Rattle.kob_service.proofs.Words.{ArePrivate, Bool, Call, Contains, Denied, Done, Entry, Fetch, Gives, InitProducerId, IsConsumerPart, IsHistory, IsPrivate, IsSameView, IsServicePart, List, None, OffsetCommit, OffsetFetch, Option, Place, Produce, Producer, ReachesInOrder, Record, Reply, Request, Some, Subscription, TopicAuthorizationFailed, View, [], ap, arith, codes, dispatch_of, false, holds_a_prefix, id_text, inr, nat_tests, opening_view, place_of, records_of, refl, rows_of, rows_of_aggregate, subst, suc, sym, taken_ids, true, true≢false, with_batch, with_commit, with_producer, zero, ℕ, ◌||◌, ◌∷◌, ◌≡◌}
+use Rattle.kob_service.proofs.Words.{ArePrivate, Bool, Call, Contains, Denied, Done, Entry, Fetch, Gives, InitProducerId, IsConsumerPart, IsHistory, IsPrivate, IsSameView, IsServicePart, List, None, OffsetCommit, OffsetFetch, Option, Place, Produce, Producer, ReachesInOrder, Record, Reply, Request, Some, Subscription, TopicAuthorizationFailed, View, [], ap, arith, codes, copies_of, dispatch_of, false, holds_a_prefix, id_text, inr, nat_tests, opening_view, place_of, records_of, refl, restarts_of, rows_of, rows_of_aggregate, subst, suc, sym, taken_ids, true, true≢false, with_batch, with_commit, with_producer, zero, ℕ, ◌+◌, ◌||◌, ◌∷◌, ◌≡◌}
 use Rattle.uuid.specs.Text.{by_index}
 use Rattle.kob_rights.specs.declared.on_groups.OffsetCommit.{OffsetCommit as CommitRequest}
 use Rattle.kob_rights.specs.declared.on_groups.OffsetFetch.{OffsetFetch as PositionRequest}
@@ -264,6 +264,11 @@ reached =
 
 records_at_end : records_of (at_end.log here) ≡ message 1 ∷ message 2 ∷ message 2 ∷ []
 records_at_end = refl
+
+-- the second row stands there twice: as often as the router was started
+copies_at_end : copies_of (id_text (id_of 2)) (records_of (at_end.log here)) ≡ 1 + restarts_of moves
+unfolding by_index
+copies_at_end = refl
 
 mark_at_end : (after_all router.start moves).outbox.mark ≡ 2
 mark_at_end = refl
