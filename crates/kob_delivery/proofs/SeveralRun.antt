@@ -41,7 +41,7 @@ module _ (q : Place) where
             ap (λ (x : Place). same_place (place_at asked.topic asked.partition) x) (sym e)
             ∙ same_here (place_at asked.topic asked.partition) in
             let more : (with_batch v (place_at asked.topic asked.partition) asked.batch).log q
-                ≡ v.log q ++ asked.batch ∷ [] =
+            ≡ v.log q ++ asked.batch ∷ [] =
             rw on refl in
             inr (record {
               asked = asked;

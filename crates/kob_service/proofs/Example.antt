@@ -86,11 +86,11 @@ abbrev pub after_all : router.State → List router.Move → router.State
 after_all s [] = s
 after_all s (m ∷ ms) = after_all (router.after s m) ms
 
-placed : (n : ℕ) → place_of (dispatch_of target (row n)) ≡ Some here
+pub placed : (n : ℕ) → place_of (dispatch_of target (row n)) ≡ Some here
 placed n = ap place_of (goes_here n)
 
 -- what is in hand is sent
-is_sent : (s : router.State) (p : Producer) (base n : ℕ) → s.producer ≡ Some p → s.hand ≡ Some (held n)
+pub is_sent : (s : router.State) (p : Producer) (base n : ℕ) → s.producer ≡ Some p → s.hand ≡ Some (held n)
     → Rattle.kob_router.specs.Run.sequence_of s.sequences here ≡ base
     → router.IsSending (dispatch_of target) s (sends p base n)
 is_sent s p base n has_producer has_hand next = record {
