@@ -34,8 +34,8 @@ pub record AreRoutedTo (route : Dispatching) (rows : List Event) (topic : List �
   pub goes : place_of (route row) ≡ Some place
   pub topic_is : place.topic ≡ topic
 
--- To a topic where one of the rows is routed a worker alone sends, and to another one the others
--- send no event id of the rows. One worker alone commits there for the group, and nobody deletes it.
+-- to the topic, if one of the rows is routed there, one worker alone sends, and what others send
+-- carries no event id of the rows; another worker alone commits for the group, and nobody deletes it
 pub record IsSharedTopic (route : Dispatching) (rows : List Event) (sender taker : ℕ)
     (group topic : List ℕ) (journal : List Entry) : Type 0 where
   pub producer : AreRoutedTo route rows topic → IsSoleProducer sender topic journal
@@ -44,6 +44,7 @@ pub record IsSharedTopic (route : Dispatching) (rows : List Event) (sender taker
   pub kept : IsNeverDeleted topic journal
 
 -- all partitions of an assignment are of such topics
-abbrev pub AreSharedTopics : Dispatching → List Event → ℕ → ℕ → List ℕ → List Place → List Entry → Type 0
+abbrev pub AreSharedTopics
+    : Dispatching → List Event → ℕ → ℕ → List ℕ → List Place → List Entry → Type 0
 AreSharedTopics route rows sender taker group assignment journal = (place : Place)
     → Contains assignment place → IsSharedTopic route rows sender taker group place.topic journal

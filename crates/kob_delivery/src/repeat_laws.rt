@@ -11,10 +11,10 @@ ghost use Rattle.kob_delivery.specs.Served.{IsServicePart};
 ghost use Rattle.kob_delivery.specs.View.{IsHistory, IsNeverDeleted, IsSoleProducer};
 ghost use Rattle.kob_delivery.specs.View.{View, opening_view};
 
-/// Take a partition of a topic to which only the service sends, and that nobody deletes. A row's
-/// record stands there at most once for each start of the router: at most once where the router was
-/// never started again, and else at most once more than it was. So lost replies and repeated
-/// batches put no record there twice, since a repeat is answered and not appended.
+/// Take a partition of a topic to which only the service sends, and that nobody deletes. No event
+/// id stands there in more records than the router was started: in one, and in one more for each
+/// restart. So lost calls and repeated batches alone put no record there twice: the broker answers
+/// a repeat and does not append it.
 pub fn a_row_is_appended_once_a_start()
     ensures { (target : Target) (worker : ℕ) (journal : List Entry) (view : View)
         (moves : List RouterMove) (now : RouterState) (place : Place) (id : List ℕ)
