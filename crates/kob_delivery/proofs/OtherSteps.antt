@@ -1,5 +1,5 @@
 -- What an entry leaves of one partition, and of what a group committed there.
-use Rattle.kob_delivery.proofs.Words.{Accepts, Batch, Commits, DeleteGroups, DeleteTopics, Deletes, Denied, Done, Fetch, InitProducerId, IsSameView, Judgement, List, Next, None, OffsetCommit, OffsetFetch, OldEpoch, OutOfOrder, Place, Produce, Produces, Refused, Repeat, Reply, Request, Step, View, [], and_parts, append-nil, arith, cond-false, inr, nat_tests, refl, subst, sym, with_batch, ℕ, ◌++◌, ◌∙◌, ◌≡◌, ◌≤◌, ◌⊎◌}
+use Rattle.kob_delivery.proofs.Words.{Accepts, Batch, Commits, DeleteGroups, DeleteTopics, Deletes, Denied, Done, Fetch, InitProducerId, IsSameView, Judgement, List, Next, None, OffsetCommit, OffsetFetch, OldEpoch, OutOfOrder, Place, Produce, Produces, Refused, Repeat, Reply, Request, Step, View, [], and_parts, append-nil, arith, cond-false, inr, nat_tests, refl, subst, sym, with_batch, ℕ, ◌++◌, ◌∙◌, ◌≡◌, ◌⊎◌}
 use Rattle.kob_delivery.proofs.Lists.{AreAmong, among_more, among_same, bytes_are, place_cases, places_are, same_here}
 
 module _ (group : List ℕ) (q : Place) where

@@ -1,11 +1,11 @@
 -- How often a row stands on a partition: a batch that is the next under a producer id is of a row that has none there
 -- under this id.
-use Rattle.kob_delivery.proofs.Words.{AllByRecursion, Batch, Bool, Contains, Contains-append_right, Contents, Dispatching, Event, Hand, IsRecordOf, List, Next, None, Option, Place, Producer, Record, Sequence, Some, State, [], ap, arith, batch_of, bytes_eq, cases_Bool, false, filter, filter-append, filter_map, filter_map-append, history, ids_of, inl, inr, judge, later_than, length, length-append, length_push, list_any, list_any-append, map, map_push, nat_tests, records_of, refl, sequence_of, subst, sym, told_id, true, true≢false, ℕ, ◌++◌, ◌+◌, ◌∙◌, ◌∷◌, ◌≡◌, ◌≤◌, ◌⊎◌}
+use Rattle.kob_delivery.proofs.Words.{AllByRecursion, Batch, Bool, Contains, Contains-append_right, Contents, Dispatching, Event, Hand, IsRecordOf, List, Next, Option, Place, Producer, Record, Sequence, Some, State, [], ap, arith, batch_of, bytes_eq, cases_Bool, false, filter, filter-append, filter_map, filter_map-append, history, ids_of, inl, inr, judge, later_than, length, length-append, length_push, list_any, list_any-append, map, map_push, nat_tests, records_of, refl, sequence_of, subst, sym, told_id, true, true≢false, ℕ, ◌++◌, ◌+◌, ◌∙◌, ◌∷◌, ◌≡◌, ◌≤◌, ◌⊎◌}
 use Rattle.kob_partition.proofs.Keeping.{records_of_push}
 use Rattle.kob_delivery.specs.Repeats.{copies_of}
 use Rattle.kob_delivery.proofs.Lists.{all_in, any_last, bytes_are, first_is, same_bytes, same_some}
-use Rattle.kob_delivery.proofs.Logged.{InOrder, IsKept, apart_wrapped, history_last, idem_of, kept_marked, next_base, wrapped}
-use Rattle.kob_delivery.proofs.RouterKept.{IsHeld, Kept, TellsItsId, here, holding}
+use Rattle.kob_delivery.proofs.Logged.{InOrder, apart_wrapped, history_last, idem_of, next_base, wrapped}
+use Rattle.kob_delivery.proofs.RouterKept.{Kept, TellsItsId, here, holding}
 
 -- ---- copies in a log
 

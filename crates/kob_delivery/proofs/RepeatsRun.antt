@@ -1,17 +1,17 @@
 -- What each call of a router adds of a row, served or not, and how often its run leaves a row on a partition.
-use Rattle.kob_delivery.proofs.Words.{Accepts, AreServed, Body, Bool, Call, Called, Contents, Denied, Dispatching, Done, Entry, Event, Hand, InitProducerId, IsHistory, IsNeverDeleted, IsNoDeletion, IsOwnProduce, IsRouterRun, IsServicePart, IsSoleProducer, Judgement, List, May, MayCall, Move, Next, None, Option, Place, Produce, Producer, Record, Recorded, Refused, Repeat, Reply, Request, Restarted, Sequence, Some, State, Step, Swept, Target, Took, View, [], after, ap, append-nil, arith, calls_of, dispatch_of, false, history, id_text, inl, inr, judge, next_seq, opening_view, records_of, refl, sequence_of, served_to, start, stored_event, subst, sym, true, true≢false, with_batch, zero, ℕ, ◌++◌, ◌+◌, ◌∙◌, ◌∷◌, ◌≡◌, ◌≤◌}
+use Rattle.kob_delivery.proofs.Words.{Accepts, AreServed, Body, Bool, Call, Called, Contents, Denied, Dispatching, Done, Entry, Event, Hand, InitProducerId, IsHistory, IsNeverDeleted, IsNoDeletion, IsOwnProduce, IsRouterRun, IsServicePart, IsSoleProducer, Judgement, List, May, MayCall, Move, Next, None, Option, Place, Produce, Producer, Record, Recorded, Refused, Repeat, Reply, Request, Restarted, Sequence, Some, State, Step, Swept, Target, Took, View, [], after, ap, append-nil, arith, calls_of, dispatch_of, false, history, inl, inr, judge, next_seq, opening_view, records_of, refl, sequence_of, served_to, start, stored_event, subst, sym, true, true≢false, with_batch, ℕ, ◌++◌, ◌+◌, ◌∙◌, ◌∷◌, ◌≡◌, ◌≤◌}
 use Rattle.kob_rights.specs.declared.on_partitions.Produce.{Produce as ProduceRequest}
 use Rattle.kob_router.specs.Run.{IsSending}
 use Rattle.kob_delivery.specs.Repeats.{copies_of, restarts_of}
 use Rattle.kob_delivery.proofs.Lists.{all_both, first_is, place_cases, same_here}
 use Rattle.kob_delivery.proofs.Logged.{idem_of, is_fresh, kept_marked}
 use Rattle.kob_delivery.proofs.Reaching.{target_tells}
-use Rattle.kob_delivery.proofs.Repeats.{Few, IsOwnIn, copies, copies_none, few_after_batch, few_as, few_marked, few_recorded, few_restarted, waiting}
-use Rattle.kob_delivery.proofs.RouterKept.{IsUnmarked, TellsIds, held_by_move, here, holding, kept_first}
-use Rattle.kob_delivery.proofs.RouterRun.{IsAsked, IsNoDone, KeptIn, NotDone, batch_in_hand, heard_no_done, heard_none, is_holding, kept_move, others, served, unanswered, unmarked}
+use Rattle.kob_delivery.proofs.Repeats.{Few, copies, copies_none, few_after_batch, few_as, few_marked, few_recorded, few_restarted}
+use Rattle.kob_delivery.proofs.RouterKept.{TellsIds, held_by_move, here, holding, kept_first}
+use Rattle.kob_delivery.proofs.RouterRun.{IsAsked, KeptIn, NotDone, batch_in_hand, heard_no_done, heard_none, is_holding, kept_move, others, served, unanswered, unmarked}
 use Rattle.kob_delivery.proofs.OtherSteps.{leaves}
 use Rattle.kob_delivery.proofs.Rows.{call_of, its_calls, recorded}
-use Rattle.kob_delivery.proofs.ServedRuns.{Hears, IsRun, IsServedBy, IsUnheard, StepsAs, added, history_passes, kept_by_run}
+use Rattle.kob_delivery.proofs.ServedRuns.{Hears, IsRun, IsServedBy, IsUnheard, StepsAs, history_passes, kept_by_run}
 
 abbrev pub one_restart : Move → ℕ
 one_restart Restarted = 1

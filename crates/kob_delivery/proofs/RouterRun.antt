@@ -7,7 +7,6 @@ use Rattle.kob_delivery.proofs.Logged.{idem_of, kept_at_start}
 use Rattle.kob_delivery.proofs.ServedRuns.{Hears, IsServedBy, IsUnheard, StepsAs, history_passes, IsOf, all_pass}
 use Rattle.kob_delivery.proofs.OtherSteps.{leaves}
 use Rattle.kob_delivery.proofs.Rows.{call_of, kept_by_router, recorded}
-use Rattle.kob_rights.specs.declared.reply.Body.TheVariants as bodies
 
 -- no Done was heard
 abbrev pub NotDone : Option Reply → Type 0

@@ -1,6 +1,6 @@
 -- What a partition holds to which others send too: records that the route makes of a row, and others, which carry none
 -- of some event ids.
-use Rattle.kob_delivery.proofs.Words.{Accepts, AllByRecursion, AreServed, Body, Bool, Call, Called, Contains, Contains-append_left, Contains-append_right, Deletes, Denied, Dispatching, Done, Entry, Event, Hand, InitProducerId, IsHistory, IsNeverDeleted, IsNoDeletion, IsRecordOf, IsRouterRun, Judgement, List, May, MayCall, Move, Next, OldEpoch, Option, OutOfOrder, Place, Produce, Produces, Record, Recorded, Refused, Repeat, Reply, Request, Restarted, Some, State, Step, Swept, Took, View, [], after, ap, append-nil, arith, calls_of, events_of, false, inl, inr, opening_view, place_at, records_of, refl, same_place, served_to, start, subst, sym, true, true≢false, with_batch, ℕ, ◌++◌, ◌∙◌, ◌∷◌, ◌≡◌, ◌⊎◌}
+use Rattle.kob_delivery.proofs.Words.{Accepts, AllByRecursion, AreServed, Body, Bool, Call, Called, Contains, Contains-append_left, Contains-append_right, Deletes, Denied, Dispatching, Done, Entry, Event, Hand, InitProducerId, IsHistory, IsNeverDeleted, IsNoDeletion, IsRecordOf, IsRouterRun, Judgement, List, May, MayCall, Move, Next, OldEpoch, Option, OutOfOrder, Place, Produce, Produces, Record, Refused, Repeat, Reply, Request, Some, State, Step, View, [], after, ap, append-nil, arith, calls_of, events_of, false, inl, inr, opening_view, place_at, records_of, refl, same_place, served_to, start, subst, sym, true, true≢false, with_batch, ℕ, ◌++◌, ◌∙◌, ◌∷◌, ◌≡◌, ◌⊎◌}
 use Rattle.kob_rights.specs.declared.on_partitions.Produce.{Produce as ProduceRequest}
 use Rattle.kob_partition.proofs.Keeping.{records_of_push}
 use Rattle.kob_router.specs.Run.{IsSending}
