@@ -1,5 +1,5 @@
 -- Offsets that are taken in order, and what a run of a consumer keeps, of one partition.
-use Rattle.kob_delivery.proofs.Words.{AllByRecursion, Arrival, Cursor, List, None, Option, Place, Record, Some, [], ap, append-nil, arith, arrivals, behind, cursor_of, drop, enumerate_from, false, fetch_limit, filter-append, firsts, fold, fold-append, from_place, inl, inr, length, map, map-append, map-map, max, min, nat_eq, nat_tests, range_with_len, read_from, refl, same_place, slice_get, suc, take, true, with_cursor, with_new, with_progress, zero, ℕ, ◌++◌, ◌+◌, ◌∙◌, ◌∷◌, ◌≡◌, ◌≤◌}
+use Rattle.kob_delivery.proofs.Words.{AllByRecursion, Arrival, Cursor, List, None, Option, Place, Record, Some, [], ap, append-nil, arith, arrivals, behind, cursor_of, drop, enumerate_from, false, filter-append, firsts, fold, fold-append, from_place, inl, inr, length, map, map-append, map-map, max, nat_eq, nat_tests, range_with_len, read_from, refl, same_place, slice_get, suc, take, true, with_cursor, with_new, with_progress, zero, ℕ, ◌++◌, ◌+◌, ◌∙◌, ◌∷◌, ◌≡◌, ◌≤◌}
 use Rattle.kob_delivery.proofs.Lists.{all_append, all_weaker, get_front, place_cases, places_are, same_here, numbers_on}
 
 -- these offsets follow one another, and the records stand there
@@ -31,10 +31,9 @@ read_some records n (suc j) (suc k) (x ∷ rest) e =
     (refl, d.0, read_some records (n + 1) j k rest (ap (λ (m : ℕ). drop m records) next ∙ d.1))
 
 -- so it is of the first of what a FETCH reads
-pub read_in_order : (records : List Record) (offset max count : ℕ)
-    → AreRead records offset (take count (read_from records offset max))
-read_in_order records offset max count =
-    read_some records offset count (min max fetch_limit) (drop offset records) refl
+pub read_in_order : (records : List Record) (offset read count : ℕ)
+    → AreRead records offset (take count (read_from records offset read))
+read_in_order records offset read count = read_some records offset count read (drop offset records) refl
 
 -- ---- what a run of a consumer keeps, of one partition
 

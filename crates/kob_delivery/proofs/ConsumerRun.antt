@@ -1,5 +1,5 @@
 -- What each call of a consumer keeps, served or not, and what its run takes in of a partition.
-use Rattle.kob_delivery.proofs.Words.{AreServed, Arrival, Body, Bool, Call, Cursor, Denied, Done, Entry, Fetch, IsConsumerRun, IsDue, IsHistory, IsNeverDeleted, IsNoDeletion, IsOwnCommit, IsSoleCommitter, IsTakenInOrder, List, None, OffsetCommit, OffsetFetch, Option, Place, Record, Refused, Reply, Request, Some, Step, Subscription, View, [], after_answer, and_parts, ap, arith, bytes_eq, cond, cursor_of, false, filter_map, inl, inr, nat_tests, opening_view, place_at, read_from, records_of, records_of_append, refl, same_place, served_to, subst, sym, take, taken_by, taken_of, true, unwrap_or, with_commit, ℕ, ◌&&◌, ◌++◌, ◌∙◌, ◌∷◌, ◌≡◌, ◌≤◌}
+use Rattle.kob_delivery.proofs.Words.{AreServed, Arrival, Body, Bool, Call, Cursor, Denied, Done, Entry, Fetch, IsConsumerRun, IsDue, IsHistory, IsNeverDeleted, IsNoDeletion, IsOwnCommit, IsSoleCommitter, IsTakenInOrder, List, None, OffsetCommit, OffsetFetch, Option, Place, Record, Refused, Reply, Request, Some, Step, Subscription, View, [], after_answer, and_parts, ap, arith, bytes_eq, cond, cursor_of, false, filter_map, inl, inr, nat_tests, opening_view, place_at, Reads, read_from, records_of, records_of_append, refl, same_place, served_to, subst, sym, take, taken_by, taken_of, true, unwrap_or, with_commit, ℕ, ◌&&◌, ◌++◌, ◌∙◌, ◌∷◌, ◌≡◌, ◌≤◌}
 use Rattle.kob_rights.specs.declared.on_groups.OffsetCommit.{OffsetCommit as CommitRequest}
 use Rattle.kob_rights.specs.declared.on_groups.OffsetFetch.{OffsetFetch as PositionRequest}
 use Rattle.kob_rights.specs.declared.on_partitions.Fetch.{Fetch as FetchRequest}
@@ -87,18 +87,17 @@ module _ (t : Subscription) (q : Place) where
   fetched_in : (s : State) (v : View) (arrived : List Arrival) (asked : FetchRequest) (body : Body)
       (heard : Option Reply) (count : ℕ) (c : Standing)
       → standing (cursor_of s.cursors (place_at asked.topic asked.partition)) ≡ Some c → asked.offset ≡ c.position
-      → body ≡ bodies.Records (read_from (records_of (v.log (place_at asked.topic asked.partition))) asked.offset
-      asked.max)
+      → Reads (records_of (v.log (place_at asked.topic asked.partition))) asked.offset body
       → heard ≡ Some (Done body) → TakingIn s v arrived → After s v arrived (Fetch asked) heard count
   fetched_in s v arrived asked body heard count c at here is e k =
       let p : Place = place_at asked.topic asked.partition in
-      let all : List (ℕ × Record) = read_from (records_of (v.log p)) asked.offset asked.max in
+      let all : List (ℕ × Record) = read_from (records_of (v.log p)) asked.offset is.count in
       let fits : p ≡ q → Fits q (records_of (v.log q)) k.bound asked.offset (take count all) =
       λ same. (
         rw here (position_within s.cursors p q c k.bound at k.cursor same),
-        rw (← same) (read_in_order (records_of (v.log p)) asked.offset asked.max count),
+        rw (← same) (read_in_order (records_of (v.log p)) asked.offset is.count count),
       ) in
-      rw (e, is) (taking_after_fetch q p asked.offset count (take count all) k (none_taken count all) fits)
+      rw (e, is.body_is) (taking_after_fetch q p asked.offset count (take count all) k (none_taken count all) fits)
 
   -- OFFSET_COMMIT that was served
   committed_in : (s : State) (v : View) (arrived : List Arrival) (asked : CommitRequest) (body : Body)
@@ -148,7 +147,14 @@ module _ (t : Subscription) (q : Place) where
   taking_served s v w arrived place request (Refused code reason) heard count d hears step k = grind (arith, nat_tests, taking_silent, heard_no_done)
   taking_served s v w arrived place (OffsetFetch asked) (Done body) heard count d hears step k = grind (arith, nat_tests, taking_silent, heard_none, placed)
   taking_served s v w arrived place (OffsetCommit asked) (Done body) heard count d hears step k = grind (arith, nat_tests, committed_in s v arrived asked body heard count d.2 (ap (λ (y : Place). standing (cursor_of s.cursors y)) d.1 ∙ d.3) d.4 hears k)
-  taking_served s v w arrived place (Fetch asked) (Done body) heard count d hears step k = grind (arith, nat_tests, taking_silent, heard_none, fetched_in)
+  taking_served s v w arrived place (Fetch asked) (Done body) heard count d hears step k =
+      rw (step.1.log q, step.1.committed t.group q)
+      (elim hears [
+        | inl e ↦ taking_silent s v arrived (Fetch asked) heard count (heard_none heard e) k
+        | inr e ↦
+            fetched_in s v arrived asked body heard count d.1
+            (ap (λ (y : Place). standing (cursor_of s.cursors y)) d.0 ∙ d.2) d.3 step.0 e k
+      ])
   taking_served s v w arrived place _ (Done body) heard count d hears step k = absurd d
 
 -- ---- what a consumer takes in of a partition: by its own moves and the entries of the journal, each at its pace

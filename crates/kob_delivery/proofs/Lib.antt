@@ -6,6 +6,9 @@ mod Breaches
 mod OtherSteps
 mod RouterKept
 mod RouterRun
+mod Repeats
+mod RepeatsRun
+mod SeveralRun
 mod ConsumerKept
 mod ConsumerRun
 mod Arriving

@@ -1,5 +1,5 @@
 -- Lemmas on lists and places.
-use Rattle.kob_delivery.proofs.Words.{All-contains, All-filter, All-from_recursion, AllByRecursion, Bool, Contains, IsPrefixOf, List, None, Option, Place, Some, [], and_from, and_parts, ap, append-nil, append_assoc, arith, bytes_eq, cases_Bool, cond, cons_option, drop, eq-eqb, eqb-true, false, filter, filter-append, filter_map, filter_map-append, filter_passes, firsts, fold, fold-append, get_or_from_slice_get, inl, inr, list_any, list_any-append, map, max, nat_eq, nat_list_eq_equiv, nat_lt, nat_tests, option_and_then, range_with_len, recursion_from_All, refl, same_place, slice_get, slice_get-append_left, slice_get_within, suc, sym, take, take-append-drop, true, with_new, zero, ℕ, ◌&&◌, ◌++◌, ◌+◌, ◌||◌, ◌∙◌, ◌∷◌, ◌≡◌, ◌≤◌, ◌⊎◌}
+use Rattle.kob_delivery.proofs.Words.{All-contains, All-filter, All-from_recursion, AllByRecursion, Bool, Contains, Contains-append_left, IsPrefixOf, List, None, Option, Place, Some, [], and_from, and_parts, ap, append-nil, append_assoc, arith, bytes_eq, cases_Bool, cond, cons_option, drop, eq-eqb, eqb-true, false, filter, filter-append, filter_map, filter_map-append, filter_passes, firsts, fold, fold-append, get_or-range_with_len, get_or_from_slice_get, inl, inr, length-range_with_len, list_any, list_any-append, map, max, nat_eq, nat_list_eq_equiv, nat_lt, nat_tests, option_and_then, range_with_len, recursion_from_All, refl, same_place, slice_get, slice_get-append_left, slice_get_within, suc, sym, take, take-append-drop, true, with_new, zero, ℕ, ◌&&◌, ◌++◌, ◌+◌, ◌<◌, ◌||◌, ◌∙◌, ◌∷◌, ◌≡◌, ◌≤◌, ◌⊎◌}
 use Rattle.std.specs.List.{IsDistinct}
 use Rattle.std.proofs.lemmas.Slice.Eq.{bytes_eq-Decides}
 use Rattle.std.proofs.lemmas.Map.Keys.{IsDistinct-push}
@@ -42,6 +42,16 @@ contains_at xs i x h = (i, slice_get_within xs i x h, get_or_from_slice_get xs i
 
 pub contains_more : {A : Type 0} (xs : List A) (y x : A) → Contains xs x → Contains (y ∷ xs) x
 contains_more xs y x (k, l, at) = (suc k, omega arith, at)
+
+-- all of the one list are in the other
+pub record AreAmong {A : Type 0} (xs ys : List A) : Type 0 where
+  pub each : (x : A) → Contains xs x → Contains ys x
+
+pub among_same : {A : Type 0} (xs : List A) → AreAmong xs xs
+among_same xs = record { each = λ x c. c }
+
+pub among_more : {A : Type 0} (xs : List A) (y : A) → AreAmong xs (xs ++ y ∷ [])
+among_more xs y = record { each = λ x c. Contains-append_left xs (y ∷ []) x c }
 
 -- a filter after a filter is the one that both make, of what a list contains
 pub filter_both : {A : Type 0} (p r s : A → Bool) (xs : List A) → AllByRecursion (λ x. (r x && p x) ≡ s x) xs
@@ -187,6 +197,23 @@ is_below a (suc n) (suc k) = let next : a + suc k ≡ a + 1 + k = omega arith in
 range_more : (a n : ℕ) → range_with_len a n ++ (a + n) ∷ [] ≡ range_with_len a (n + 1)
 range_more a zero = grind arith
 range_more a (suc n) = grind (arith, range_more (a + 1) n)
+
+-- the numbers from 0 on are those below the next
+pub number_there : (n k : ℕ) → k < n → Contains (range_with_len 0 n) k
+number_there n k l =
+    let same : 0 + k ≡ k = omega arith in
+    (k, rw (length-range_with_len 0 n) l, get_or-range_with_len 0 n k k l ∙ same)
+
+pub number_next : (n : ℕ) → range_with_len 0 (n + 1) ≡ range_with_len 0 n ++ n ∷ []
+number_next n =
+    let same : 0 + n ≡ n = omega arith in
+    sym (range_more 0 n) ∙ ap (λ (k : ℕ). range_with_len 0 n ++ k ∷ []) same
+
+pub number_new : (n : ℕ) → Contains (range_with_len 0 n) n → ⊥
+number_new n (k, within, at) =
+    let l : k < n = rw (length-range_with_len 0 n) at within in
+    let same : 0 + k ≡ n = sym (get_or-range_with_len 0 n k n l) ∙ at in
+    absurd (omega arith)
 
 new_number : (bound n : ℕ) → n ≤ bound
     → with_new nat_eq (range_with_len 0 bound) n ≡ range_with_len 0 (max bound (n + 1))

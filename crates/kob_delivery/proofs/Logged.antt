@@ -1,6 +1,6 @@
 -- What the outbox of a service keeps of the rows that were recorded, and a partition's log of those routed there.
-use Rattle.kob_delivery.proofs.Words.{AllByRecursion, Batch, Bool, Change, Contains, Contains-append_left, Contents, Dispatching, Event, Idem, IsGiven, IsRecordOf, IsRecordable, List, Next, None, Option, OutboxEvent, Place, Producer, Record, Repeat, Sent, Sequence, Some, [], after_record, after_use, ap, append-nil, append_assoc, arith, batch_of, bytes_eq, cases_Bool, empty, eq-eqb, false, filter, filter_keep, filter_map, filter_map-append, filter_skip, find, firsts, fold-append, get_or, get_or-drop, get_or_append_left, get_or_push, goes_to, history, history_from, id_text, ids_of, inl, inr, is_same, judge, judge_same, later_than, le-ltb, length, length-append, length-drop, length-map, length_push, list_any, lt-ltb, ltb-true, map-append, map_push, memory_length, nat_lt, nat_tests, next_seq, records_of, records_of_push, refl, routed_to, same_place, sent_batch, sent_in, sequence_of, slice_get, slice_get-get_or, stored_event, sym, told_id, true, with_new, with_sequence_for, without_sent, ℕ, ◌%◌, ◌++◌, ◌+◌, ◌<◌, ◌∙◌, ◌∷◌, ◌≡◌, ◌≤◌}
-use Rattle.kob_delivery.proofs.Lists.{any_same, bytes_turned, filter_twice, filter_all, all_last, all_weaker, any_last, none_in_filter, same_bytes, same_here, contains_more, places_are, same_some}
+use Rattle.kob_delivery.proofs.Words.{AllByRecursion, Batch, Bool, Change, Contains, Contains-append_left, Contents, Dispatching, Event, Idem, IsGiven, IsRecordOf, IsRecordable, List, Next, None, Option, OutboxEvent, Place, Producer, Record, Repeat, Sent, Sequence, Some, [], after_record, after_use, ap, append-nil, append_assoc, arith, batch_of, bytes_eq, cases_Bool, empty, eq-eqb, eqb-true, false, filter, filter_keep, filter_map, filter_map-append, filter_skip, find, firsts, fold-append, get_or, get_or-drop, get_or_append_left, get_or_push, goes_to, history, history_from, id_text, ids_of, inl, inr, is_same, judge, judge_same, later_than, le-ltb, length, length-append, length-drop, length-map, length_push, list_any, lt-ltb, ltb-true, map-append, map_push, memory_length, nat_lt, nat_tests, next_seq, records_of, records_of_push, refl, routed_to, same_place, sent_batch, sent_in, sequence_of, slice_get, slice_get-get_or, stored_event, subst, sym, told_id, true, with_new, with_sequence_for, without_sent, ℕ, ◌%◌, ◌++◌, ◌+◌, ◌<◌, ◌==◌, ◌∙◌, ◌∷◌, ◌≡◌, ◌≤◌}
+use Rattle.kob_delivery.proofs.Lists.{AreAmong, any_same, bytes_turned, filter_twice, filter_all, all_last, all_weaker, any_last, none_in_filter, same_bytes, same_here, contains_more, places_are, same_some}
 use Rattle.circular_buffer.specs.Buffer.{keep_last}
 use Rattle.kob_producers.specs.Judge.{next_sequence}
 
@@ -73,59 +73,71 @@ kept_marked {c = c} {sent = sent} {rest = rest} {r = r} k =
 
 -- ---- what a partition's log holds of the rows that are routed there
 
+-- what was given is still given once more is
+pub given_later : {issued later : List ℕ} → AreAmong issued later → (o : Option Idem) → IsGiven issued o
+    → IsGiven later o
+given_later l None g = tt
+given_later l (Some idem) g = l.each idem.id g
+
 -- a batch of one record, which is what the route makes of a row for the place
-pub record IsBatchOf (route : Dispatching) (q : Place) (row : Event) (message : Record) (next : ℕ) (b : Batch) : Type 0
+pub record IsBatchOf (route : Dispatching) (q : Place) (row : Event) (message : Record) (issued : List ℕ)
+    (b : Batch) : Type 0
   where
     pub tells : told_id message ≡ Some row.id
     pub routed : route row ≡ Some (record { place = q; message = message })
     pub single : b.records ≡ message ∷ []
-    pub given : IsGiven next b.idem
+    pub given : IsGiven issued b.idem
 
 module _ (route : Dispatching) (q : Place) where
   -- of the rows the log holds those up to some, and each batch is of a producer that was given its id
-  pub record IsLogged (rows : List Event) (log : List Batch) (next : ℕ) (upto : List Event) : Type 0 where
+  pub record IsLogged (rows : List Event) (log : List Batch) (issued : List ℕ) (upto : List Event) : Type 0 where
     pub delivered : firsts bytes_eq (filter_map told_id (records_of log)) ≡ ids_of (routed_to route q upto)
     pub each : AllByRecursion (IsRecordOf route q rows) (records_of log)
-    pub given : AllByRecursion (λ (b : Batch). IsGiven next b.idem) log
+    pub given : AllByRecursion (λ (b : Batch). IsGiven issued b.idem) log
 
-  pub logged_more_rows : {rows : List Event} {log : List Batch} {next : ℕ} {upto : List Event} (more : List Event)
-      → IsLogged rows log next upto → IsLogged (rows ++ more) log next upto
+  pub logged_more_rows : {rows : List Event} {log : List Batch} {issued : List ℕ} {upto : List Event} (more : List Event)
+      → IsLogged rows log issued upto → IsLogged (rows ++ more) log issued upto
   logged_more_rows {rows} {log} more k = grind (arith, nat_tests, all_weaker (IsRecordOf route q rows) (IsRecordOf route q (rows ++ more)) (λ x (r, at, e). (r, Contains-append_left rows more r at, e)) (records_of log) k.each)
 
-  pub logged_later : {rows : List Event} {log : List Batch} {next later : ℕ} {upto : List Event} → next ≤ later
-      → IsLogged rows log next upto → IsLogged rows log later upto
-  logged_later {log = log} {next = next} {later = later} l k = grind (arith, nat_tests, all_weaker)
+  pub logged_later : {rows : List Event} {log : List Batch} {issued later : List ℕ} {upto : List Event}
+      → AreAmong issued later → IsLogged rows log issued upto → IsLogged rows log later upto
+  logged_later {log = log} {issued = issued} {later = later} l k = record {
+    delivered = k.delivered;
+    each = k.each;
+    given = all_weaker (λ (b : Batch). IsGiven issued b.idem) (λ (b : Batch). IsGiven later b.idem)
+        (λ b g. given_later l b.idem g) log k.given;
+  }
 
   -- a row that is routed elsewhere
-  pub logged_elsewhere : {rows : List Event} {log : List Batch} {next : ℕ} {upto : List Event} (row : Event)
-      → goes_to q (route row) ≡ false → IsLogged rows log next upto → IsLogged rows log next (upto ++ row ∷ [])
+  pub logged_elsewhere : {rows : List Event} {log : List Batch} {issued : List ℕ} {upto : List Event} (row : Event)
+      → goes_to q (route row) ≡ false → IsLogged rows log issued upto → IsLogged rows log issued (upto ++ row ∷ [])
   logged_elsewhere {upto = upto} row h k = grind (arith, nat_tests, filter_skip)
 
   -- what a log holds with one more batch
-  appended : {rows : List Event} {log : List Batch} {next : ℕ} {upto : List Event} {row : Event} {x : Record}
-      {b : Batch} (done : List Event) → Contains rows row → IsBatchOf route q row x next b
+  appended : {rows : List Event} {log : List Batch} {issued : List ℕ} {upto : List Event} {row : Event} {x : Record}
+      {b : Batch} (done : List Event) → Contains rows row → IsBatchOf route q row x issued b
       → with_new bytes_eq (ids_of (routed_to route q upto)) row.id ≡ ids_of (routed_to route q done)
-      → IsLogged rows log next upto → IsLogged rows (log ++ b ∷ []) next done
-  appended {rows} {log} {next} {upto} {row} {x} {b} done at is e k = grind (arith, nat_tests, records_of_push, filter_map-append, fold-append, all_last)
+      → IsLogged rows log issued upto → IsLogged rows (log ++ b ∷ []) issued done
+  appended {rows} {log} {issued} {upto} {row} {x} {b} done at is e k = grind (arith, nat_tests, records_of_push, filter_map-append, fold-append, all_last)
 
   routed_last : (sent : List Event) (row : Event) (x : Record) → route row ≡ Some (record { place = q; message = x })
       → ids_of (routed_to route q (sent ++ row ∷ [])) ≡ ids_of (routed_to route q sent) ++ row.id ∷ []
   routed_last sent row x r = grind (arith, nat_tests, filter_keep, same_here, map_push)
 
   -- the first batch of a row
-  pub logged_first : {rows : List Event} {log : List Batch} {next : ℕ} {sent : List Event} {row : Event} {x : Record}
-      {b : Batch} → Contains rows row → IsBatchOf route q row x next b
+  pub logged_first : {rows : List Event} {log : List Batch} {issued : List ℕ} {sent : List Event} {row : Event} {x : Record}
+      {b : Batch} → Contains rows row → IsBatchOf route q row x issued b
       → list_any (bytes_eq row.id) (ids_of sent) ≡ false
-      → IsLogged rows log next sent → IsLogged rows (log ++ b ∷ []) next (sent ++ row ∷ [])
+      → IsLogged rows log issued sent → IsLogged rows (log ++ b ∷ []) issued (sent ++ row ∷ [])
   logged_first {sent = sent} {row = row} {x = x} at is new k =
       appended (sent ++ row ∷ []) at is
       (rw (none_in_filter (bytes_eq row.id) (λ r. r.id) (λ r. goes_to q (route r)) sent new)
       (sym (routed_last sent row x is.routed))) k
 
   -- a further batch of the last row
-  pub logged_again : {rows : List Event} {log : List Batch} {next : ℕ} {row : Event} {x : Record} {b : Batch}
-      (sent : List Event) → Contains rows row → IsBatchOf route q row x next b
-      → IsLogged rows log next (sent ++ row ∷ []) → IsLogged rows (log ++ b ∷ []) next (sent ++ row ∷ [])
+  pub logged_again : {rows : List Event} {log : List Batch} {issued : List ℕ} {row : Event} {x : Record} {b : Batch}
+      (sent : List Event) → Contains rows row → IsBatchOf route q row x issued b
+      → IsLogged rows log issued (sent ++ row ∷ []) → IsLogged rows (log ++ b ∷ []) issued (sent ++ row ∷ [])
   logged_again {row = row} {x = x} sent at is k =
       appended (sent ++ row ∷ []) at is
       (rw (routed_last sent row x is.routed)
@@ -219,22 +231,27 @@ pub history_last : (p : Producer) (log : List Batch) (base : ℕ) (message : Rec
     offset ∷ [])
 history_last p log base message = grind (arith, nat_tests, history_last_from p.id 0 log (batch_of p base message), eq-eqb p.id p.id refl)
 
-not_its : (id next offset count : ℕ) → next ≤ id → (o : Option Idem) → IsGiven next o → sent_in id offset count o ≡ []
-not_its id next offset count l None h = refl
-not_its id next offset count l (Some idem) h = grind (arith, nat_tests, h, l)
+not_its : (id offset count : ℕ) (issued : List ℕ) → (Contains issued id → ⊥) → (o : Option Idem) → IsGiven issued o
+    → sent_in id offset count o ≡ []
+not_its id offset count issued new None h = refl
+not_its id offset count issued new (Some idem) h =
+    elim (cases_Bool (id == idem.id)) [
+      | inl same ↦ absurd (new (subst (Contains issued) (sym (eqb-true id idem.id same)) h))
+      | inr apart ↦ rw apart refl
+    ]
 
 -- a producer whose id was not given yet has sent nothing
-pub no_history : (id next : ℕ) → next ≤ id → (log : List Batch)
-    → AllByRecursion (λ (b : Batch). IsGiven next b.idem) log
+pub no_history : (id : ℕ) (issued : List ℕ) → (Contains issued id → ⊥) → (log : List Batch)
+    → AllByRecursion (λ (b : Batch). IsGiven issued b.idem) log
     → history id log ≡ []
-no_history id next l log h = go 0 log h
+no_history id issued new log h = go 0 log h
   where
-    go : (start : ℕ) (log : List Batch) → AllByRecursion (λ (b : Batch). IsGiven next b.idem) log
+    go : (start : ℕ) (log : List Batch) → AllByRecursion (λ (b : Batch). IsGiven issued b.idem) log
         → history_from id start log ≡ []
     go start [] h = refl
     go start (b ∷ log) h =
         ap (λ (xs : List Sent). xs ++ history_from id (start + length b.records) log)
-        (not_its id next start (length b.records) l b.idem h.0)
+        (not_its id start (length b.records) issued new b.idem h.0)
         ∙ go (start + length b.records) log h.1
 
 pub sequence_used_here : (ss : List Sequence) (q : Place)

@@ -1,5 +1,5 @@
 -- Ids that read back from records, and the rows of an aggregate among all rows, and among those of a place.
-use Rattle.kob_delivery.proofs.Words.{All, All-from_recursion, AllByRecursion, AreServed, Arrival, Bool, Contains, Contents, Dispatch, Dispatching, Entry, Event, Intake, IsCopy, IsDelivered, IsDistinct, IsPrefixOf, IsRecordOf, IsRouterRun, IsTakenInOrder, List, May, Move, None, Option, Place, ReachesInOrder, Record, Recorded, Some, State, Target, [], after, after_record, and_parts, ap, append-nil, arith, bytes_eq, calls_of, cases_Bool, dispatch_of, event_id, events_of, false, filter, filter_keep, filter_map, filter_skip, firsts, from_place, goes_to, id_text, ids_of, inl, inr, intake_of, is_of_aggregate, kept_by_filter, list_any, list_any-append, map_push, nat_tests, next_seq, of_each, option_map, place_of, refl, routed_to, rows_of_aggregate, same_place, served_to, slice_index, start, stored_event, subst, suc, sym, take, taken_ids, taken_in, taken_of_aggregate, told_id, true, was_kept, with_record, zero, ℕ, ◌%◌, ◌&&◌, ◌++◌, ◌<◌, ◌∙◌, ◌∷◌, ◌≡◌}
+use Rattle.kob_delivery.proofs.Words.{All, All-from_recursion, AllByRecursion, AreServed, Arrival, Bool, Contains, Contents, Dispatch, Dispatching, Entry, Event, Intake, IsCopy, IsDelivered, IsDistinct, IsPrefixOf, IsRecordOf, IsRouterRun, IsTakenInOrder, List, May, Move, None, Option, Place, ReachesInOrder, Record, Recorded, Some, State, Target, [], after, after_record, and_parts, ap, append-nil, arith, bytes_eq, calls_of, cases_Bool, dispatch_of, event_id, events_of, false, filter, filter_keep, filter_map, filter_skip, firsts, from_place, goes_to, id_text, ids_of, inl, inr, intake_of, is_of_aggregate, is_there, kept_by_filter, list_any, list_any-append, map_push, nat_tests, next_seq, of_each, option_map, place_of, refl, routed_to, rows_of_aggregate, same_place, served_to, slice_index, start, stored_event, subst, suc, sym, take, taken_ids, taken_in, taken_of_aggregate, told_id, true, true≢false, was_kept, with_record, zero, ℕ, ◌%◌, ◌&&◌, ◌++◌, ◌<◌, ◌∙◌, ◌∷◌, ◌≡◌, ◌⊎◌}
 use Rattle.uuid.specs.Text.{by_index, digit_place, lower, nibble, parsed}
 use Rattle.uuid.proofs.RoundTrips.{parses_hyphenated}
 use Rattle.uuid.proofs.TextLemmas.{by_index_at, by_index_cong, by_index_length}
@@ -10,6 +10,8 @@ use Rattle.kob_delivery.proofs.Logged.{is_fresh}
 use Rattle.kob_delivery.proofs.Rows.{call_of, called_ids, kept_by_router, recorded}
 use Rattle.kob_delivery.proofs.ServedRuns.{IsOf, IsUnheard, all_pass}
 use Rattle.kob_inbox.specs.Contents.{Contents as Inbox}
+use Rattle.kob_delivery.specs.Several.{CarriesNone, is_one_of}
+use Rattle.kob_delivery.proofs.SeveralRun.{IsOfRowOrOther}
 use Rattle.kob_delivery.proofs.Arriving.{filter_told, firsts_of_front, ids_told, inbox_ids, passes, record_told, told_by, with_told}
 use Rattle.kob_delivery.proofs.ConsumerKept.{IsContent}
 use Rattle.kob_router.proofs.Lawful as lawful
@@ -149,17 +151,22 @@ module _ (target : Target) (rows : List Event) where
   abbrev IsFromRow : Arrival → Type 0
   IsFromRow a = IsRecordOf (dispatch_of target) a.place rows a.message
 
+  -- or it carries none of some ids
+  abbrev IsFromRowOr : List (List ℕ) → Arrival → Type 0
+  IsFromRowOr ids a = IsFromRow a ⊎ CarriesNone ids a.message
+
   -- all that arrived, where it is so for each place
-  from_rows : (assigned : Place → Type 0) (records : Place → List Record) (arrived : List Arrival)
+  from_rows : (ids : List (List ℕ)) (assigned : Place → Type 0) (records : Place → List Record)
+      (arrived : List Arrival)
       → ((q : Place) → assigned q → AllByRecursion (IsContent (records q)) (from_place q arrived))
-      → ((q : Place) → assigned q → AllByRecursion (IsRecordOf (dispatch_of target) q rows) (records q))
-      → AllByRecursion (λ (a : Arrival). assigned a.place) arrived → AllByRecursion IsFromRow arrived
-  from_rows assigned records arrived contents each places =
-      of_each IsFromRow arrived
+      → ((q : Place) → assigned q → AllByRecursion (IsOfRowOrOther (dispatch_of target) q ids rows) (records q))
+      → AllByRecursion (λ (a : Arrival). assigned a.place) arrived → AllByRecursion (IsFromRowOr ids) arrived
+  from_rows ids assigned records arrived contents each places =
+      of_each (IsFromRowOr ids) arrived
       (λ a there.
       let q : Place = a.place in
       let at = all_in (λ (b : Arrival). assigned b.place) arrived a there places in
-      all_at (IsRecordOf (dispatch_of target) q rows) (records q) a.offset a.message
+      all_at (IsOfRowOrOther (dispatch_of target) q ids rows) (records q) a.offset a.message
       (all_in (IsContent (records q)) (from_place q arrived) a
       (kept_by_filter (λ (b : Arrival). same_place b.place q) arrived a there (same_here q)) (contents q at)) (each q at))
 
@@ -174,23 +181,43 @@ module _ (target : Target) (rows : List Event) where
         → IsCopy rows (intake_of text a)
     copy_of a text e f = grind (arith, nat_tests, sent_message target f.0 (record { place = a.place; message = a.message }) f.2, same_some text f.0.id (sym e ∙ tells_of a f), tells_of a f)
 
-    copies_more : (inbox : Inbox) (a : Arrival) (o : Option (List ℕ)) → told_by a ≡ o → IsFromRow a
-        → AllByRecursion (IsCopy rows) inbox → AllByRecursion (IsCopy rows) (with_told inbox o a)
-    copies_more inbox a None e f h = h
-    copies_more inbox a (Some text) e f h = grind (arith, nat_tests, all_last, copy_of)
+    -- what was taken in under one of the ids is a row's copy
+    abbrev IsCopyIf : List (List ℕ) → Intake → Type 0
+    IsCopyIf ids i = list_any (bytes_eq i.id) ids ≡ true → IsCopy rows i
 
-    copies_all : (inbox : Inbox) (arrived : List Arrival) → AllByRecursion IsFromRow arrived
-        → AllByRecursion (IsCopy rows) inbox
-        → AllByRecursion (IsCopy rows) (taken_in inbox arrived)
-    copies_all inbox [] f h = h
-    copies_all inbox (a ∷ arrived) f h =
-        copies_all (with_record inbox (event_id a.message) a) arrived f.1
-        (rw (record_told inbox (event_id a.message) a) (copies_more inbox a (told_by a) refl f.0 h))
+    copy_if : (ids : List (List ℕ)) (a : Arrival) (text : List ℕ) → told_by a ≡ Some text → IsFromRowOr ids a
+        → IsCopyIf ids (intake_of text a)
+    copy_if ids a text e (inl f) = λ on. copy_of a text e f
+    copy_if ids a text e (inr off) = λ on. let none = rw e at off in absurd (true≢false (sym on ∙ none))
+
+    copies_more : (ids : List (List ℕ)) (inbox : Inbox) (a : Arrival) (o : Option (List ℕ)) → told_by a ≡ o
+        → IsFromRowOr ids a → AllByRecursion (IsCopyIf ids) inbox → AllByRecursion (IsCopyIf ids) (with_told inbox o a)
+    copies_more ids inbox a None e f h = h
+    copies_more ids inbox a (Some text) e f h =
+        elim (cases_Bool (is_there inbox text)) [
+          | inl old ↦ rw old h
+          | inr new ↦ rw new (all_last (IsCopyIf ids) inbox (intake_of text a) h (copy_if ids a text e f))
+        ]
+
+    copies_all : (ids : List (List ℕ)) (inbox : Inbox) (arrived : List Arrival)
+        → AllByRecursion (IsFromRowOr ids) arrived → AllByRecursion (IsCopyIf ids) inbox
+        → AllByRecursion (IsCopyIf ids) (taken_in inbox arrived)
+    copies_all ids inbox [] f h = h
+    copies_all ids inbox (a ∷ arrived) f h =
+        copies_all ids (with_record inbox (event_id a.message) a) arrived f.1
+        (rw (record_told inbox (event_id a.message) a) (copies_more ids inbox a (told_by a) refl f.0 h))
 
     -- what passes is of a row of the aggregate
     module _ (kind id : List ℕ) (said : AllByRecursion (IsToldById (is_of_aggregate kind id) rows) rows) where
+      abbrev its_ids : List (List ℕ)
+      its_ids = ids_of (rows_of_aggregate rows kind id)
+
       abbrev in_aggregate : List ℕ → Bool
-      in_aggregate i = list_any (bytes_eq i) (ids_of (rows_of_aggregate rows kind id))
+      in_aggregate i = list_any (bytes_eq i) its_ids
+
+      passes_none : (o : Option (List ℕ)) → is_one_of its_ids o ≡ false → passes in_aggregate o ≡ false
+      passes_none None h = refl
+      passes_none (Some i) h = h
 
       is_said : (row : Event) → Contains rows row → in_aggregate row.id ≡ true → is_of_aggregate kind id row ≡ true
       is_said row at h = sym (all_in (IsToldById (is_of_aggregate kind id) rows) rows row at said) ∙ h
@@ -198,9 +225,13 @@ module _ (target : Target) (rows : List Event) where
       own_copy : (i : Intake) → IsCopy rows i × (in_aggregate i.id ≡ true) → IsCopy (rows_of_aggregate rows kind id) i
       own_copy i (copy, h) = grind (arith, nat_tests, kept_by_filter, is_said)
 
-      own_copies : (inbox : Inbox) → AllByRecursion (IsCopy rows) inbox
+      own_copies : (inbox : Inbox) → AllByRecursion (IsCopyIf its_ids) inbox
           → AllByRecursion (IsCopy (rows_of_aggregate rows kind id)) (taken_of_aggregate inbox rows kind id)
-      own_copies inbox h = grind (arith, nat_tests, all_weaker, own_copy, all_passing)
+      own_copies inbox h =
+          all_weaker (λ (i : Intake). IsCopyIf its_ids i × (in_aggregate i.id ≡ true))
+          (IsCopy (rows_of_aggregate rows kind id)) (λ i p. own_copy i (p.0 p.1, p.1))
+          (taken_of_aggregate inbox rows kind id)
+          (all_passing (IsCopyIf its_ids) (λ (i : Intake). in_aggregate i.id) inbox h)
 
       row_of_passing : (a : Arrival) → IsFromRow a → passes in_aggregate (told_by a) ≡ true
           → (row : Event) × (is_of_aggregate kind id row ≡ true) × (place_of (dispatch_of target row) ≡ Some a.place)
@@ -212,8 +243,8 @@ module _ (target : Target) (rows : List Event) where
       same_place_as a b f g pass_a pass_b = grind (arith, nat_tests, row_of_passing, same_some, one_place)
 
       -- the ids that pass, of the one place that they come from
-      begins_here : (arrived : List Arrival) (a : Arrival) (records : List Record) → AllByRecursion IsFromRow arrived
-          → IsFromRow a
+      begins_here : (arrived : List Arrival) (a : Arrival) (records : List Record)
+          → AllByRecursion (IsFromRowOr its_ids) arrived → IsFromRow a
           → passes in_aggregate (told_by a) ≡ true → IsDelivered (dispatch_of target) a.place rows records
           → IsTakenInOrder a.place records arrived
           → IsPrefixOf (firsts bytes_eq (filter in_aggregate (ids_told arrived)))
@@ -236,14 +267,17 @@ module _ (target : Target) (rows : List Event) where
               ap (firsts bytes_eq)
               (filter_told in_aggregate arrived
               ∙ ap ids_told (sym (filter_both passing (λ b. same_place b.place a.place) passing arrived
-              (all_weaker IsFromRow (λ b. (same_place b.place a.place && passing b) ≡ passing b) here arrived from)))
+              (all_weaker (IsFromRowOr its_ids) (λ b. (same_place b.place a.place && passing b) ≡ passing b) here arrived from)))
               ∙ sym (filter_told in_aggregate (from_place a.place arrived)))
               ∙ sym (filter_firsts in_aggregate (ids_told (from_place a.place arrived)))
               ∙ ap (filter in_aggregate)
               (firsts_of_front records order.bound (from_place a.place arrived) order.offsets order.contents)
             where
-              here : (b : Arrival) → IsFromRow b → (same_place b.place a.place && passing b) ≡ passing b
-              here b g =
+              here : (b : Arrival) → IsFromRowOr its_ids b → (same_place b.place a.place && passing b) ≡ passing b
+              here b (inr off) =
+                  and_as (same_place b.place a.place) (passing b)
+                  (λ on. absurd (true≢false (sym on ∙ passes_none (told_by b) off)))
+              here b (inl g) =
                   and_as (same_place b.place a.place) (passing b)
                   (λ on. rw (same_place_as a b f g pass on) (same_here a.place))
 
@@ -259,16 +293,17 @@ module _ (target : Target) (rows : List Event) where
       -- an inbox that is what was taken in
       pub reaches : (assigned : Place → Type 0) (records : Place → List Record) (arrived : List Arrival)
           (inbox : Inbox)
-          → ((q : Place) → assigned q → IsDelivered (dispatch_of target) q rows (records q))
+          → ((q : Place) → assigned q → AllByRecursion (IsOfRowOrOther (dispatch_of target) q its_ids rows) (records q))
+          → ((q : Place) → assigned q → (row : Event) → Contains rows row → is_of_aggregate kind id row ≡ true
+          → place_of (dispatch_of target row) ≡ Some q → IsDelivered (dispatch_of target) q rows (records q))
           → ((q : Place) → assigned q → IsTakenInOrder q (records q) arrived)
           → AllByRecursion (λ (a : Arrival). assigned a.place) arrived → inbox ≡ taken_in [] arrived
           → ReachesInOrder rows inbox kind id
-      reaches assigned records arrived inbox delivered order all_assigned is =
+      reaches assigned records arrived inbox each delivered order all_assigned is =
           record { begins = begins; once = once; copies = copies }
         where
-          from : AllByRecursion IsFromRow arrived
-          from =
-              from_rows assigned records arrived (λ q a. (order q a).contents) (λ q a. (delivered q a).each) all_assigned
+          from : AllByRecursion (IsFromRowOr its_ids) arrived
+          from = from_rows its_ids assigned records arrived (λ q a. (order q a).contents) each all_assigned
 
           ids_are : taken_ids (taken_of_aggregate inbox rows kind id) ≡ firsts bytes_eq
               (filter in_aggregate (ids_told arrived))
@@ -278,7 +313,9 @@ module _ (target : Target) (rows : List Event) where
               ∙ filter_firsts in_aggregate (ids_told arrived)
 
           copies : AllByRecursion (IsCopy (rows_of_aggregate rows kind id)) (taken_of_aggregate inbox rows kind id)
-          copies = own_copies inbox (subst (AllByRecursion (IsCopy rows)) (sym is) (copies_all [] arrived from tt))
+          copies =
+              own_copies inbox
+              (subst (AllByRecursion (IsCopyIf its_ids)) (sym is) (copies_all its_ids [] arrived from tt))
 
           once : IsDistinct bytes_eq (taken_ids (taken_of_aggregate inbox rows kind id))
           once = subst (IsDistinct bytes_eq) (sym ids_are) (firsts_distinct (filter in_aggregate (ids_told arrived)))
@@ -291,8 +328,13 @@ module _ (target : Target) (rows : List Event) where
           by (a ∷ more) is =
               let (there, pass) = was_kept (λ b. passes in_aggregate (told_by b)) arrived a (rw is (0, omega arith, refl)) in
               let at = all_in (λ (b : Arrival). assigned b.place) arrived a there all_assigned in
-              begins_here arrived a (records a.place) from (all_in IsFromRow arrived a there from) pass
-              (delivered a.place at) (order a.place at)
+              elim (all_in (IsFromRowOr its_ids) arrived a there from) [
+                | inl f ↦
+                    let its = is_said f.0 f.1 (ap (passes in_aggregate) (sym (tells_of a f)) ∙ pass) in
+                    begins_here arrived a (records a.place) from f pass
+                    (delivered a.place at f.0 f.1 its (ap place_of f.2)) (order a.place at)
+                | inr off ↦ absurd (true≢false (sym pass ∙ passes_none (told_by a) off))
+              ]
 
           begins : IsPrefixOf (taken_ids (taken_of_aggregate inbox rows kind id))
               (ids_of (rows_of_aggregate rows kind id))

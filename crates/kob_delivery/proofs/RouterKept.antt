@@ -1,7 +1,7 @@
 -- What a run of a router keeps, beside the log of one partition.
-use Rattle.kob_delivery.proofs.Words.{All-contains, All-from_recursion, AllByRecursion, Batch, Called, Contains, Contains-append_right, Contents, Dispatch, Dispatching, Event, Hand, List, May, Move, Next, None, Option, OutboxEvent, Place, Producer, Record, Recorded, Repeat, Restarted, Sent, Sequence, Some, State, Swept, Took, [], after, after_use, ap, append-nil, append_assoc, arith, batch_of, both_ways, false, goes_to, history, inl, inr, judge, length, length_push, nat_tests, next_seq, place_of, refl, same_place, sent_batch, sequence_of, slice_get, start, stored_event, subst, sym, told_id, with_sequence_for, ℕ, ◌++◌, ◌+◌, ◌<◌, ◌∙◌, ◌∷◌, ◌≡◌, ◌≤◌, ◌⊎◌}
+use Rattle.kob_delivery.proofs.Words.{All-contains, All-from_recursion, AllByRecursion, Batch, Called, Contains, Contains-append_right, Contains-push, Contents, Dispatch, Dispatching, Event, Hand, List, May, Move, Next, None, Option, OutboxEvent, Place, Producer, Record, Recorded, Repeat, Restarted, Sent, Sequence, Some, State, Swept, Took, [], after, after_use, ap, append-nil, append_assoc, arith, batch_of, both_ways, false, goes_to, history, inl, inr, judge, length, length_push, nat_tests, next_seq, place_of, refl, same_place, sent_batch, sequence_of, slice_get, start, stored_event, subst, sym, told_id, with_sequence_for, ℕ, ◌++◌, ◌+◌, ◌∙◌, ◌∷◌, ◌≡◌, ◌⊎◌}
 use Rattle.kob_delivery.proofs.Logged.{IsKept, kept_at_start, kept_recorded, kept_swept, kept_marked, IsLogged, logged_later, logged_more_rows, IsBatchOf, logged_again, logged_elsewhere, logged_first, AreCounted, counted_none, no_history, sequence_prepared, wrapped, IsNumber, apart_wrapped, counted_last, history_last, idem_of, next_base, next_wrapped, repeat_base, sequence_used_elsewhere, sequence_used_here}
-use Rattle.kob_delivery.proofs.Lists.{all_append, bytes_turned, get_front, first_is, same_here, same_some}
+use Rattle.kob_delivery.proofs.Lists.{AreAmong, all_append, among_more, bytes_turned, get_front, first_is, same_here, same_some}
 use Rattle.kob_delivery.proofs.Rows.{recorded}
 
 abbrev pub here : Option Event → List Event
@@ -78,50 +78,60 @@ pub record IsPending (ss : List Sequence) (hand : Option Hand) (q : Place) (coun
 abbrev pub InStep : List Sequence → Option Hand → Place → ℕ → Option Event → Type 0
 InStep ss hand q count ahead = (sequence_of ss q ≡ wrapped count) ⊎ IsPending ss hand q count ahead
 
-pub record IsKnown (p : Producer) (ss : List Sequence) (hand : Option Hand) (q : Place) (log : List Batch) (next : ℕ)
+pub record IsKnown (p : Producer) (ss : List Sequence) (hand : Option Hand) (q : Place) (log : List Batch) (issued : List ℕ)
     (ahead : Option Event) : Type 0 where
-  pub below : p.id < next
+  pub is_issued : Contains issued p.id
   pub counted : AreCounted p (history p.id log)
   pub in_step : InStep ss hand q (length (history p.id log)) ahead
 
-abbrev pub Known : Option Producer → List Sequence → Option Hand → Place → List Batch → ℕ → Option Event → Type 0
-Known None ss hand q log next ahead = sequence_of ss q ≡ 0
-Known (Some p) ss hand q log next ahead = IsKnown p ss hand q log next ahead
+abbrev pub Known : Option Producer → List Sequence → Option Hand → Place → List Batch → List ℕ → Option Event → Type 0
+Known None ss hand q log issued ahead = sequence_of ss q ≡ 0
+Known (Some p) ss hand q log issued ahead = IsKnown p ss hand q log issued ahead
 
 known_later : (o : Option Producer) (ss : List Sequence) (hand : Option Hand) (q : Place) (log : List Batch)
-    (next later : ℕ)
-    (ahead : Option Event) → next ≤ later → Known o ss hand q log next ahead → Known o ss hand q log later ahead
-known_later o ss hand q log next later ahead l k = grind (arith, nat_tests)
+    (issued later : List ℕ) (ahead : Option Event) → AreAmong issued later → Known o ss hand q log issued ahead
+    → Known o ss hand q log later ahead
+known_later None ss hand q log issued later ahead l k = k
+known_later (Some p) ss hand q log issued later ahead l k =
+    record { is_issued = l.each p.id k.is_issued; counted = k.counted; in_step = k.in_step }
 
 pub known_taken : (o : Option Producer) (ss : List Sequence) (old : Option Hand) (hand : Hand) (q : Place)
-    (log : List Batch) (next : ℕ) (ahead : Option Event) → old ≡ None → Known o ss old q log next ahead
-    → Known o (with_sequence_for ss hand.place) (Some hand) q log next ahead
-known_taken o ss old hand q log next ahead none k = grind (arith, nat_tests, sequence_prepared)
+    (log : List Batch) (issued : List ℕ) (ahead : Option Event) → old ≡ None → Known o ss old q log issued ahead
+    → Known o (with_sequence_for ss hand.place) (Some hand) q log issued ahead
+known_taken o ss old hand q log issued ahead none k = grind (arith, nat_tests, sequence_prepared)
 
 module _ (route : Dispatching) (q : Place) where
   -- the rows up to the mark, and at most the one after it, are in the log
-  pub record Kept (rows : List Event) (s : State) (log : List Batch) (next : ℕ) : Type 0 where
+  pub record Kept (rows : List Event) (s : State) (log : List Batch) (issued : List ℕ) : Type 0 where
     pub sent : List Event
     pub ahead : Option Event
     pub rest : List Event
     pub held : IsHeld route rows s.outbox s.hand sent (here ahead ++ rest)
     pub tells : AllByRecursion (TellsItsId route) rows
-    pub logged : IsLogged route q rows log next (sent ++ here ahead)
-    pub known : Known s.producer s.sequences s.hand q log next ahead
+    pub logged : IsLogged route q rows log issued (sent ++ here ahead)
+    pub known : Known s.producer s.sequences s.hand q log issued ahead
 
-  pub kept_first : Kept [] start [] 0
+  pub kept_first : Kept [] start [] []
   kept_first = grind (arith, nat_tests, kept_at_start)
 
   -- somebody was given a producer id
-  pub kept_later : {rows : List Event} {s : State} {log : List Batch} {next later : ℕ} → next ≤ later
-      → Kept rows s log next → Kept rows s log later
-  kept_later {s = s} {log = log} {next = next} {later = later} l k = grind (arith, nat_tests, logged_later route q l k.logged, known_later s.producer s.sequences s.hand q log next later k.ahead l k.known)
+  pub kept_later : {rows : List Event} {s : State} {log : List Batch} {issued later : List ℕ}
+      → AreAmong issued later → Kept rows s log issued → Kept rows s log later
+  kept_later {s = s} {log = log} {issued = issued} {later = later} l k = record {
+    sent = k.sent;
+    ahead = k.ahead;
+    rest = k.rest;
+    held = k.held;
+    tells = k.tells;
+    logged = logged_later route q l k.logged;
+    known = known_later s.producer s.sequences s.hand q log issued later k.ahead l k.known;
+  }
 
   -- a move that leaves the mark
-  pub kept_by_move : {rows : List Event} {s : State} {log : List Batch} {next : ℕ} (m : Move) → TellsIds route
-      → May route s m → IsUnmarked m → (k : Kept rows s log next)
-      → Known (after s m).producer (after s m).sequences (after s m).hand q log next k.ahead
-      → Kept (rows ++ recorded s m) (after s m) log next
+  pub kept_by_move : {rows : List Event} {s : State} {log : List Batch} {issued : List ℕ} (m : Move) → TellsIds route
+      → May route s m → IsUnmarked m → (k : Kept rows s log issued)
+      → Known (after s m).producer (after s m).sequences (after s m).hand q log issued k.ahead
+      → Kept (rows ++ recorded s m) (after s m) log issued
   kept_by_move {rows} {s} m tells may u k known =
       record {
         sent = k.sent;
@@ -135,25 +145,21 @@ module _ (route : Dispatching) (q : Place) where
 
   -- the producer is given an id
   pub kept_after_id : {rows : List Event} {c : Contents} {ss : List Sequence} {hand : Option Hand} {log : List Batch}
-      {next : ℕ} → Kept rows (record { outbox = c; producer = None; sequences = ss; hand = hand }) log next
-      → Kept rows (record {
-        outbox = c;
-        producer = Some (record { id = next; epoch = 0 });
-        sequences = ss;
-        hand = hand;
-      }) log (next + 1)
-  kept_after_id {log = log} {next = next} k =
-      let none : history next log ≡ [] = no_history next next (omega arith) log k.logged.given in
+      {issued : List ℕ} (p : Producer) → (Contains issued p.id → ⊥)
+      → Kept rows (record { outbox = c; producer = None; sequences = ss; hand = hand }) log issued
+      → Kept rows (record { outbox = c; producer = Some p; sequences = ss; hand = hand }) log (issued ++ p.id ∷ [])
+  kept_after_id {log = log} {issued = issued} p new k =
+      let none : history p.id log ≡ [] = no_history p.id issued new log k.logged.given in
       record {
         sent = k.sent;
         ahead = k.ahead;
         rest = k.rest;
         held = k.held;
         tells = k.tells;
-        logged = logged_later route q (omega arith) k.logged;
+        logged = logged_later route q (among_more issued p.id) k.logged;
         known = record {
-          below = omega arith;
-          counted = rw none (counted_none (record { id = next; epoch = 0 }));
+          is_issued = Contains-push issued p.id;
+          counted = rw none (counted_none p);
           in_step = inl (k.known ∙ ap (λ (sents : List Sent). wrapped (length sents)) (sym none));
         };
       }
@@ -182,26 +188,26 @@ sent_why route ss h q n ahead at ready = grind (arith, nat_tests, apart_back, sa
 
 module _ (route : Dispatching) (q : Place) where
   -- the row in hand counts as sent
-  sent_one : {rows : List Event} {c : Contents} {log : List Batch} {next : ℕ} {sent : List Event} (r : Event)
+  sent_one : {rows : List Event} {c : Contents} {log : List Batch} {issued : List ℕ} {sent : List Event} (r : Event)
       (ahead : Option Event) (rest : List Event)
       → slice_get (here ahead ++ rest) 0 ≡ Some r → (goes_to q (route r) ≡ false) ⊎ (ahead ≡ Some r)
-      → IsKept rows c sent (here ahead ++ rest) → IsLogged route q rows log next (sent ++ here ahead)
+      → IsKept rows c sent (here ahead ++ rest) → IsLogged route q rows log issued (sent ++ here ahead)
       → (tail : List Event) × IsKept rows (record c { mark = r.seq }) (sent ++ r ∷ []) tail
-      × IsLogged route q rows log next (sent ++ r ∷ [])
-  sent_one {rows} {c} {log} {next} {sent} r None rest f w k l = let at = first_is rest r f in (at.0, kept_marked (rw at.1 at k), elim w [ inl e ↦ logged_elsewhere route q r e (rw (append-nil sent) at l) | inr e ↦ absurd cc ])
-  sent_one {rows} {c} {log} {next} {sent} r (Some x) rest f w k l = grind (arith, nat_tests, same_some x r f, kept_marked k)
+      × IsLogged route q rows log issued (sent ++ r ∷ [])
+  sent_one {rows} {c} {log} {issued} {sent} r None rest f w k l = let at = first_is rest r f in (at.0, kept_marked (rw at.1 at k), elim w [ inl e ↦ logged_elsewhere route q r e (rw (append-nil sent) at l) | inr e ↦ absurd cc ])
+  sent_one {rows} {c} {log} {issued} {sent} r (Some x) rest f w k l = grind (arith, nat_tests, same_some x r f, kept_marked k)
 
   -- the mark moves to the row in hand
   pub kept_after_mark : {rows : List Event} {c : Contents} {p : Producer} {ss : List Sequence} {h : Hand}
-      {log : List Batch} {next : ℕ} (k : Kept route q rows (holding c p ss h) log next)
+      {log : List Batch} {issued : List ℕ} (k : Kept route q rows (holding c p ss h) log issued)
       → IsReady ss h q (length (history p.id log)) k.ahead
       → Kept route q rows (record {
         outbox = record c { mark = h.event.seq };
         producer = Some p;
         sequences = after_use ss h.place;
         hand = None;
-      }) log next
-  kept_after_mark {rows} {c} {p} {ss} {h} {log} {next} k ready =
+      }) log issued
+  kept_after_mark {rows} {c} {p} {ss} {h} {log} {issued} k ready =
       let n : ℕ = length (history p.id log) in
       let why = sent_why route ss h q n k.ahead k.held.holds.1 ready in
       let one = sent_one h.event k.ahead k.rest k.held.holds.0 why k.held.kept k.logged in
@@ -213,31 +219,31 @@ module _ (route : Dispatching) (q : Place) where
         held = record { kept = one.1; holds = tt };
         tells = k.tells;
         logged = rw (append-nil (k.sent ++ h.event ∷ [])) one.2;
-        known = record { below = k.known.below; counted = k.known.counted; in_step = inl on };
+        known = record { is_issued = k.known.is_issued; counted = k.known.counted; in_step = inl on };
       }
 
-  log_more : {rows : List Event} {c : Contents} {log : List Batch} {next : ℕ} {sent : List Event} {r : Event}
+  log_more : {rows : List Event} {c : Contents} {log : List Batch} {issued : List ℕ} {sent : List Event} {r : Event}
       {x : Record} {b : Batch} (ahead : Option Event) (rest tail : List Event) → here ahead ++ rest ≡ r ∷ tail
-      → Contains rows r → IsBatchOf route q r x next b → IsKept rows c sent (here ahead ++ rest)
-      → IsLogged route q rows log next (sent ++ here ahead)
-      → IsLogged route q rows (log ++ b ∷ []) next (sent ++ r ∷ [])
-  log_more {rows} {c} {log} {next} {sent} None rest tail w at is k l = logged_first route q at is (rw w at k).order.1 (rw (append-nil sent) at l)
-  log_more {rows} {c} {log} {next} {sent} (Some y) rest tail w at is k l = grind (arith, nat_tests, logged_again route q sent at is (subst (λ (z : Event). IsLogged route q rows log next (sent ++ z ∷ [])) (cc) l))
+      → Contains rows r → IsBatchOf route q r x issued b → IsKept rows c sent (here ahead ++ rest)
+      → IsLogged route q rows log issued (sent ++ here ahead)
+      → IsLogged route q rows (log ++ b ∷ []) issued (sent ++ r ∷ [])
+  log_more {rows} {c} {log} {issued} {sent} None rest tail w at is k l = logged_first route q at is (rw w at k).order.1 (rw (append-nil sent) at l)
+  log_more {rows} {c} {log} {issued} {sent} (Some y) rest tail w at is k l = grind (arith, nat_tests, logged_again route q sent at is (subst (λ (z : Event). IsLogged route q rows log issued (sent ++ z ∷ [])) (cc) l))
 
   -- a router whose row was put on the log, or goes elsewhere
-  abbrev pub IsServed : List Event → Contents → Producer → List Sequence → Hand → List Batch → ℕ → Type 0
-  IsServed rows c p ss h log next =
-      (k : Kept route q rows (holding c p ss h) log next) × IsReady ss h q (length (history p.id log)) k.ahead
+  abbrev pub IsServed : List Event → Contents → Producer → List Sequence → Hand → List Batch → List ℕ → Type 0
+  IsServed rows c p ss h log issued =
+      (k : Kept route q rows (holding c p ss h) log issued) × IsReady ss h q (length (history p.id log)) k.ahead
 
 -- a new batch of the row in hand
 pub kept_after_batch : (route : Dispatching) (rows : List Event) (c : Contents) (p : Producer) (ss : List Sequence)
     (h : Hand)
-    (log : List Batch) (next : ℕ) (x : Record)
-    → Kept route h.place rows (holding c p ss h) log next
+    (log : List Batch) (issued : List ℕ) (x : Record)
+    → Kept route h.place rows (holding c p ss h) log issued
     → route h.event ≡ Some (record { place = h.place; message = x })
     → judge (history p.id log) (idem_of p (sequence_of ss h.place)) 1 ≡ Next
-    → IsServed route h.place rows c p ss h (log ++ batch_of p (sequence_of ss h.place) x ∷ []) next
-kept_after_batch route rows c p ss h log next x k to comes =
+    → IsServed route h.place rows c p ss h (log ++ batch_of p (sequence_of ss h.place) x ∷ []) issued
+kept_after_batch route rows c p ss h log issued x k to comes =
     let q : Place = h.place in
     let n : ℕ = length (history p.id log) in
     let base : sequence_of ss q ≡ wrapped n =
@@ -252,8 +258,8 @@ kept_after_batch route rows c p ss h log next x k to comes =
     let last = Contains-append_right k.sent (h.event ∷ at.0) h.event (0, omega arith, refl) in
     let has : Contains rows h.event = rw kept.rows_are last in
     let tells = All-contains (TellsItsId route) rows h.event (All-from_recursion (TellsItsId route) rows k.tells) has in
-    let is : IsBatchOf route q h.event x next (batch_of p (sequence_of ss q) x) =
-    record { tells = tells (record { place = q; message = x }) to; routed = to; single = refl; given = k.known.below } in
+    let is : IsBatchOf route q h.event x issued (batch_of p (sequence_of ss q) x) =
+    record { tells = tells (record { place = q; message = x }) to; routed = to; single = refl; given = k.known.is_issued } in
     let pending : IsPending ss (Some h) q (length (history p.id longer)) (Some h.event) =
     record {
       before = n;
@@ -273,7 +279,7 @@ kept_after_batch route rows c p ss h log next x k to comes =
         tells = k.tells;
         logged = logged;
         known = record {
-          below = k.known.below;
+          is_issued = k.known.is_issued;
           counted = rw more.1 (counted_last p (history p.id log) s k.known.counted number);
           in_step = inr pending;
         };
@@ -284,7 +290,7 @@ kept_after_batch route rows c p ss h log next x k to comes =
 -- a repeat stands in the log
 pub repeat_is_pending : (route : Dispatching) (rows : List Event) (c : Contents) (p : Producer) (ss : List Sequence)
     (h : Hand)
-    (log : List Batch) (next offset : ℕ) (k : Kept route h.place rows (holding c p ss h) log next)
+    (log : List Batch) (issued : List ℕ) (offset : ℕ) (k : Kept route h.place rows (holding c p ss h) log issued)
     → judge (history p.id log) (idem_of p (sequence_of ss h.place)) 1 ≡ Repeat offset
     → IsReady ss h h.place (length (history p.id log)) k.ahead
-repeat_is_pending route rows c p ss h log next offset k again = grind (arith, nat_tests, repeat_base, apart_wrapped)
+repeat_is_pending route rows c p ss h log issued offset k again = grind (arith, nat_tests, repeat_base, apart_wrapped)

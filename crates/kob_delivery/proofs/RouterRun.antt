@@ -1,13 +1,12 @@
 -- What each call of a router keeps, served or not, and what its run leaves on a partition.
-use Rattle.kob_delivery.proofs.Words.{Accepts, AllByRecursion, AreServed, Batch, Body, Bool, Call, Called, Contains, Contents, Denied, Dispatching, Does, Done, Entry, Event, Hand, InitProducerId, IsDelivered, IsDone, IsHistory, IsNeverDeleted, IsNoDeletion, IsOwnProduce, IsRouterRun, IsSameView, IsSending, IsSent, IsSoleProducer, IsWaitingOrSent, Judgement, List, May, MayCall, Move, Next, None, Option, Place, Produce, Producer, Record, Recorded, Refused, Repeat, Reply, Request, Restarted, Sequence, Some, State, Step, Swept, Took, View, [], after, after_acknowledgement, ap, append-nil, append_assoc, arith, batch_of, calls_of, events_of, false, filter-append, goes_to, history, inl, inr, judge, ltb-true, map, map-append, nat_lt, nat_tests, of_each, opening_view, producer_after, records_of, refl, routed_to, sequence_of, served_to, start, subst, sym, true, true≢false, was_kept, with_batch, with_producer, ℕ, ◌++◌, ◌∙◌, ◌∷◌, ◌≡◌}
+use Rattle.kob_delivery.proofs.Words.{Accepts, AllByRecursion, AreServed, Batch, Body, Bool, Call, Called, Contains, Contents, Denied, Dispatching, Does, Done, Entry, Event, Gives, Hand, InitProducerId, IsDelivered, IsDone, IsHistory, IsNeverDeleted, IsNoDeletion, IsOwnProduce, IsRouterRun, IsSameView, IsSending, IsSent, IsSoleProducer, IsWaitingOrSent, Judgement, List, May, MayCall, Move, Next, None, Option, Place, Produce, Producer, Record, Recorded, Refused, Repeat, Reply, Request, Restarted, Sequence, Some, State, Step, Swept, Took, View, [], after, after_acknowledgement, ap, append-nil, append_assoc, arith, batch_of, calls_of, events_of, false, filter-append, goes_to, history, inl, inr, judge, ltb-true, map, map-append, nat_lt, nat_tests, of_each, opening_view, producer_after, records_of, refl, routed_to, sequence_of, served_to, start, subst, sym, true, true≢false, was_kept, with_batch, with_producer, ℕ, ◌++◌, ◌∙◌, ◌∷◌, ◌≡◌}
 use Rattle.kob_rights.specs.declared.on_partitions.Produce.{Produce as ProduceRequest}
-use Rattle.kob_delivery.proofs.Lists.{all_both, place_cases, same_here, all_append, all_last, all_weaker}
+use Rattle.kob_delivery.proofs.Lists.{all_both, among_more, place_cases, same_here, all_append, all_last, all_weaker}
 use Rattle.kob_delivery.proofs.RouterKept.{IsServed, Kept, TellsIds, here, holding, kept_after_batch, kept_after_id, kept_after_mark, kept_by_move, kept_first, kept_later, known_taken, repeat_is_pending, IsHeld, IsUnmarked, held_by_move, held_marked}
 use Rattle.kob_delivery.proofs.Logged.{idem_of, kept_at_start}
 use Rattle.kob_delivery.proofs.ServedRuns.{Hears, IsServedBy, IsUnheard, StepsAs, history_passes, IsOf, all_pass}
 use Rattle.kob_delivery.proofs.OtherSteps.{leaves}
 use Rattle.kob_delivery.proofs.Rows.{call_of, kept_by_router, recorded}
-use Rattle.kob_rights.specs.declared.reply.Body.TheVariants as bodies
 
 -- no Done was heard
 abbrev pub NotDone : Option Reply → Type 0
@@ -28,7 +27,7 @@ heard_no_done heard reply no_done (inl e) = heard_none heard e
 heard_no_done heard reply no_done (inr e) = subst NotDone (sym e) no_done
 
 -- a call that was not answered with Done gives no id, and moves no mark
-unanswered : (old : Option Producer) (request : Request) (heard : Option Reply) → NotDone heard
+pub unanswered : (old : Option Producer) (request : Request) (heard : Option Reply) → NotDone heard
     → producer_after old request heard ≡ old
 unanswered old request heard n = grind (arith, nat_tests)
 
@@ -40,21 +39,21 @@ unmarked route s request heard marks may n = grind (arith, nat_tests)
 abbrev holding_id : State → Option Producer → State
 holding_id s o = record { outbox = s.outbox; producer = o; sequences = s.sequences; hand = s.hand }
 
-is_holding : (s : State) (p : Producer) (h : Hand) → s.producer ≡ Some p → s.hand ≡ Some h
+pub is_holding : (s : State) (p : Producer) (h : Hand) → s.producer ≡ Some p → s.hand ≡ Some h
     → s ≡ holding s.outbox p s.sequences h
 is_holding s p h e f = grind (arith, nat_tests)
 
 -- the batch of the row in hand that comes next
-abbrev batch_in_hand : Producer → List Sequence → Hand → Record → Batch
+abbrev pub batch_in_hand : Producer → List Sequence → Hand → Record → Batch
 batch_in_hand p ss h x = batch_of p (sequence_of ss h.place) x
 
 module _ (route : Dispatching) where
   -- as a view shows it
   abbrev pub KeptIn : Place → List Event → State → View → Type 0
-  KeptIn q rows s v = Kept route q rows s (v.log q) v.next_producer
+  KeptIn q rows s v = Kept route q rows s (v.log q) v.given
 
   abbrev pub ServedIn : Place → List Event → Contents → Producer → List Sequence → Hand → View → Type 0
-  ServedIn q rows c p ss h v = IsServed route q rows c p ss h (v.log q) v.next_producer
+  ServedIn q rows c p ss h v = IsServed route q rows c p ss h (v.log q) v.given
 
   accepted : (q : Place) (rows : List Event) (c : Contents) (p : Producer) (ss : List Sequence) (h : Hand) (v w : View)
       (x : Record) (j : Judgement) → KeptIn q rows (holding c p ss h) v
@@ -63,23 +62,23 @@ module _ (route : Dispatching) where
       → Accepts j v h.place (batch_in_hand p ss h x) w
       → ServedIn q rows c p ss h w
   accepted q rows c p ss h v w x Next k to judged a =
-      rw (a.log q, a.next_producer)
+      rw (a.log q, a.given)
       (elim (place_cases h.place q) [
         | inl e ↦
             let b : Batch = batch_in_hand p ss h x in
             let longer : (with_batch v h.place b).log h.place ≡ v.log h.place ++ b ∷ [] = rw (same_here h.place) refl in
             rw (← e, longer)
-            (kept_after_batch route rows c p ss h (v.log h.place) v.next_producer x (rw (← e) at k) to judged)
+            (kept_after_batch route rows c p ss h (v.log h.place) v.given x (rw (← e) at k) to judged)
         | inr apart ↦
             let same : (with_batch v h.place (batch_in_hand p ss h x)).log q ≡ v.log q = rw apart refl in
             rw same (k, inl apart)
       ])
   accepted q rows c p ss h v w x (Repeat offset) k to judged a =
-      rw (a.log q, a.next_producer)
+      rw (a.log q, a.given)
       (elim (place_cases h.place q) [
         | inl e ↦
             let k' : KeptIn h.place rows (holding c p ss h) v = rw (← e) at k in
-            rw (← e) (k', repeat_is_pending route rows c p ss h (v.log h.place) v.next_producer offset k' judged)
+            rw (← e) (k', repeat_is_pending route rows c p ss h (v.log h.place) v.given offset k' judged)
         | inr apart ↦ (k, inl apart)
       ])
   accepted q rows c p ss h v w x _ k to judged a = absurd a
@@ -119,10 +118,14 @@ module _ (route : Dispatching) (q : Place) where
       rw (unmarked route s request heard marks may n, unanswered s.producer request heard n) k
 
   -- an INIT_PRODUCER_ID that was answered
-  given_id : (rows : List Event) (s : State) (v : View) (body : Body) (heard : Option Reply)
-      → s.producer ≡ None → body ≡ bodies.Producer v.next_producer 0 → Hears heard (Done body) → KeptIn route q rows s v
-      → KeptIn route q rows (holding_id s (producer_after s.producer InitProducerId heard)) (with_producer v)
-  given_id rows s v body heard none is hears k = grind (arith, nat_tests, heard_none, kept_later, kept_after_id)
+  given_id : (rows : List Event) (s : State) (v w : View) (body : Body) (heard : Option Reply)
+      → s.producer ≡ None → (g : Gives v body w) → Hears heard (Done body) → KeptIn route q rows s v
+      → KeptIn route q rows (holding_id s (producer_after s.producer InitProducerId heard)) (with_producer v g.id)
+  given_id rows s v w body heard none g (inl e) k = rw e (kept_later route q (among_more v.given g.id) k)
+  given_id rows s v w body heard none g (inr e) k =
+      rw (e, g.body_is)
+      (kept_after_id route q (record { id = g.id; epoch = g.epoch }) g.first
+      (subst (λ (o : Option Producer). KeptIn route q rows (holding_id s o) v) none k))
 
   -- a call that was served, whatever was heard
   pub kept_after_served : (rows : List Event) (s : State) (v w : View) (request : Request) (reply : Reply)
@@ -133,7 +136,7 @@ module _ (route : Dispatching) (q : Place) where
   kept_after_served rows s v w request (Refused code reason) heard marks may hears step k = grind (arith, nat_tests)
   kept_after_served rows s v w InitProducerId (Done body) heard true may hears step k = absurd (true≢false may.1)
   kept_after_served rows s v w InitProducerId (Done body) heard false may hears step k =
-      rw (step.1.log q, step.1.next_producer) (given_id rows s v body heard may.0 step.0 hears k)
+      rw (step.then_given.log q, step.then_given.given) (given_id rows s v w body heard may.0 step hears k)
   kept_after_served rows s v w (Produce asked) (Done body) heard marks may hears step k =
       produced rows s v w asked body heard marks k may.0 step
   kept_after_served rows s v w _ (Done body) heard marks may hears step k = absurd may
@@ -142,10 +145,10 @@ module _ (route : Dispatching) (q : Place) where
 
 module _ (route : Dispatching) (q : Place) (tells : TellsIds route) (worker : ℕ) (end : View) where
   -- a PRODUCE to the topic that was done is the worker's, and nobody deletes the topic
-  abbrev IsAsked : Entry → Type 0
+  abbrev pub IsAsked : Entry → Type 0
   IsAsked e = IsOwnProduce worker q.topic e × IsNoDeletion q.topic e
 
-  kept_move : (m : Move) (rows : List Event) (s : State) (v : View) → May route s m → IsUnheard (call_of m)
+  pub kept_move : (m : Move) (rows : List Event) (s : State) (v : View) → May route s m → IsUnheard (call_of m)
       → KeptIn route q rows s v → KeptIn route q (rows ++ recorded s m) (after s m) v
   kept_move (Recorded change event) rows s v may u k =
       kept_by_move route q (Recorded change event) tells may tt k k.known
@@ -153,21 +156,21 @@ module _ (route : Dispatching) (q : Place) (tells : TellsIds route) (worker : �
   kept_move Restarted rows s v may u k = kept_by_move route q Restarted tells may tt k refl
   kept_move (Took hand) rows s v may u k =
       kept_by_move route q (Took hand) tells may tt k
-      (known_taken s.producer s.sequences s.hand hand q (v.log q) v.next_producer k.ahead may.0 k.known)
+      (known_taken s.producer s.sequences s.hand hand q (v.log q) v.given k.ahead may.0 k.known)
   kept_move (Called c marks) rows s v may u k = grind (arith, nat_tests, append-nil, kept_after_no_answer, heard_none)
 
-  served : (c : Call) (marks : Bool) (rows : List Event) (s : State) (e : Entry) (v w : View)
+  pub served : (c : Call) (marks : Bool) (rows : List Event) (s : State) (e : Entry) (v w : View)
       → May route s (Called c marks) → IsServedBy e (Some c) → e.worker ≡ worker → StepsAs IsAsked v e w
       → KeptIn route q rows s v → KeptIn route q rows (after s (Called c marks)) w
   served c marks rows s e v w may by own goes k = grind (arith, nat_tests, kept_after_served)
 
-  others : (rows : List Event) (s : State) (e : Entry) (v w : View) → (e.worker ≡ worker → ⊥)
+  pub others : (rows : List Event) (s : State) (e : Entry) (v w : View) → (e.worker ≡ worker → ⊥)
       → StepsAs IsAsked v e w → KeptIn route q rows s v → KeptIn route q rows s w
   others rows s e v w other ((sole, never), step) k = grind (arith, nat_tests, leaves [] q v w e.event.request e.reply never step, append-nil (v.log q), kept_later route q (leaves [] q v w e.event.request e.reply never step).later k)
 
   as_shown : (rows : List Event) (s : State) (v : View) → IsSameView end v → KeptIn route q rows s v
       → KeptIn route q rows s end
-  as_shown rows s v same k = rw (same.log q, same.next_producer) k
+  as_shown rows s v same k = rw (same.log q, same.given) k
 
   -- what is kept says what was delivered
   delivered : (rows : List Event) (s : State) → KeptIn route q rows s end

@@ -1,5 +1,5 @@
 -- The moves of a router, one at a time: what they record, keep along a journal, and leave of the rows.
-use Rattle.kob_delivery.proofs.Words.{All-filter, All-from_recursion, AllByRecursion, AreServed, Bool, Call, Called, Contents, Dispatching, Entry, Event, Hand, IsRouterRun, List, May, Move, None, Option, Recorded, Restarted, Some, State, Swept, Took, [], after, after_acknowledgement, after_record, ap, append-nil, arith, calls_of, events_of, false, filter_map, id_text, later_than, lt-ltb, nat_lt, nat_tests, next_seq, recursion_from_All, refl, served_to, start, stored_event, subst, sym, true, ℕ, ◌++◌, ◌-◌, ◌<◌, ◌∷◌, ◌≡◌}
+use Rattle.kob_delivery.proofs.Words.{All-filter, All-from_recursion, AllByRecursion, AreServed, Bool, Call, Called, Contents, Dispatching, Entry, Event, Hand, IsRouterRun, List, May, Move, None, Option, Recorded, Restarted, Some, State, Swept, Took, [], after, after_acknowledgement, after_record, ap, append-nil, arith, calls_of, events_of, false, filter_map, id_text, later_than, lt-ltb, nat_lt, nat_tests, next_seq, recursion_from_All, refl, served_to, start, stored_event, subst, sym, true, ℕ, ◌++◌, ◌<◌, ◌∷◌, ◌≡◌}
 use Rattle.kob_delivery.proofs.ServedRuns.{IsRun, IsServedBy, IsUnheard, Passes, added, kept_by_run}
 use Rattle.kob_delivery.proofs.Lists.{all_last, all_weaker, filter_all}
 
@@ -39,7 +39,7 @@ events_added : (moves : List Move) (s : State) → events_of s.outbox moves ≡ 
 events_added [] s = refl
 events_added (move ∷ moves) s = cc (events_behind s move moves, events_added moves (after s move))
 
-its_calls : (moves : List Move) → calls_of moves ≡ filter_map call_of moves
+pub its_calls : (moves : List Move) → calls_of moves ≡ filter_map call_of moves
 its_calls [] = refl
 its_calls (Called call marks ∷ moves) = ap (λ (cs : List Call). call ∷ cs) (its_calls moves)
 its_calls (_ ∷ moves) = its_calls moves

@@ -16,9 +16,8 @@ pub use Rattle.kob_outbox.specs.declared.change.Change.{Change}
 pub use Rattle.kob_outbox.specs.declared.event.OutboxEvent.{OutboxEvent}
 pub use Rattle.kob_partition.proofs.Keeping.{records_of_append, records_of_push}
 pub use Rattle.kob_partition.specs.Retained.{history_from, sent_in}
-pub use Rattle.kob_partition.specs.Meaning.{fetch_limit}
 pub use Rattle.kob_delivery.specs.Delivered.{IsCopy, IsDelivered, IsPrefixOf, IsRecordOf, IsSent, IsTakenInOrder, IsWaitingOrSent, ReachesInOrder, firsts, from_place, goes_to, ids_of, is_of_aggregate, routed_to, rows_of, rows_of_aggregate, taken_ids, taken_of_aggregate, told_id, with_new}
-pub use Rattle.kob_delivery.specs.View.{ActsAlone, ArePrivate, Commits, Deletes, IsNeverDeleted, IsNoDeletion, IsOwnCommit, IsOwnProduce, IsReserved, IsReservedFor, IsSoleCommitter, IsSoleProducer, NoSuperUser, Produces, Accepts, Does, IsGiven, IsHistory, IsSameView, Step, View, batches_of, judged_in, opening_view, read_from, view_after, view_of, with_batch, with_commit, with_producer}
+pub use Rattle.kob_delivery.specs.View.{ActsAlone, ArePrivate, Commits, Deletes, IsNeverDeleted, IsNoDeletion, IsOwnCommit, IsOwnProduce, IsReserved, IsReservedFor, IsSoleCommitter, IsSoleProducer, NoSuperUser, Produces, Accepts, Does, Gives, IsGiven, IsHistory, IsSameView, Step, View, batches_of, judged_in, opening_view, Reads, read_from, view_after, view_of, with_batch, with_commit, with_producer}
 pub use Rattle.kob_delivery.specs.Served.{IsConsumerPart, IsServicePart, served_to}
 pub use Rattle.kob_delivery.specs.Types.{AreServed, Arrival, Body, Call, DeleteGroups, DeleteTopics, Dispatching, Entry, Fetch, InitProducerId, IsConsumerRun, OffsetCommit, OffsetFetch, Place, Plain, Produce, Reply, Request, Retained, Served, Settings, Subscription, dispatch_of, history, id_text, open_state, place_at, plain_meaning, records_of, same_place, stored_event, taken_in, taken_of}
 pub use Rattle.kob_producers.specs.Judge.{is_same, judge, judge_same, memory_length}
@@ -42,7 +41,8 @@ pub use Rattle.std.proofs.lemmas.Bool.{and_from, and_parts, both_ways, cases_Boo
 pub use Rattle.std.proofs.lemmas.Bool.Decides.{nat_tests}
 pub use Rattle.std.proofs.lemmas.Cmp.{nat_list_eq_equiv}
 pub use Rattle.std.proofs.lemmas.List.{drop-drop, get_or-drop, get_or_append_left, get_or_push, length-drop, length-map, length_push, map-append, map_push, take-append-drop, take_all}
-pub use Rattle.std.proofs.lemmas.List.Elements.{All-contains, All-filter, All-from_recursion, Contains-append_left, Contains-append_right, filter-append, filter_map-append, filter_passes, recursion_from_All}
+pub use Rattle.std.proofs.lemmas.List.Elements.{All-contains, All-filter, All-from_recursion, Contains-append_left, Contains-append_right, Contains-push, filter-append, filter_map-append, filter_passes, recursion_from_All}
+pub use Rattle.std.proofs.lemmas.List.FromFn.{get_or-range_with_len, length-range_with_len}
 pub use Rattle.std.proofs.lemmas.List.Folds.{list_any-append}
 pub use Rattle.std.proofs.lemmas.List.Sums.{fold-append}
 pub use Rattle.std.proofs.lemmas.Option.{get_or_from_slice_get, slice_get-get_or, slice_get_within}

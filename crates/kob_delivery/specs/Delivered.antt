@@ -1,5 +1,5 @@
 -- What the laws of delivery say: of a partition, of what a consumer takes in, of rows, and of an inbox.
-use Rattle.std.specs.Prelude.{ℕ, ◌+◌, List, [], ◌∷◌, ◌++◌, Bool, ◌&&◌, if◌then◌else◌, ◌≡◌, false, filter, map, Contains, Option, None, Some, option_map, bytes_eq, nat_eq, slice_get, ◌⊎◌, ◌<◌}
+use Rattle.std.specs.Prelude.{ℕ, List, [], ◌∷◌, ◌++◌, Bool, ◌&&◌, if◌then◌else◌, ◌≡◌, false, filter, map, Contains, Option, None, Some, option_map, bytes_eq, nat_eq, slice_get, ◌⊎◌, ◌<◌}
 use Rattle.std.specs.List.{fold, list_any, AllByRecursion, filter_map, range_with_len, IsDistinct}
 use Rattle.kob_delivery.specs.Types.{id_text, Record, Dispatching, same_place, Place, Arrival, Body, Produce, Entry, Move, events_of, Done}
 use Rattle.kob_outbox.specs.Contents.{Event, Contents as Outbox, empty}

@@ -2,3 +2,5 @@ pub mod Types
 pub mod View
 pub mod Served
 pub mod Delivered
+pub mod Repeats
+pub mod Several

@@ -9,7 +9,7 @@ ghost use Rattle.kob_shared.specs.Journals.{IsLegal, opened_by};
 ghost use Rattle.kob_shared.specs.declared.journal.Entry.{Entry};
 
 /// A legal journal is a history of what the laws of delivery see: of each partition all batches
-/// that it ever accepted, of each group its commits, and the next producer id.
+/// that it ever accepted, of each group its commits, and the producer ids that were given.
 pub fn a_legal_journal_is_a_history()
     ensures { (opening : Settings) (journal : List Entry) (now : State Retained)
         → IsLegal (opened_by opening) journal now

@@ -6,6 +6,8 @@ mod access_laws;
 mod delivery_laws;
 mod history_laws;
 mod premises;
+mod repeat_laws;
+mod several_laws;
 
 pub use access_laws::{bindings_leave_one_committer, bindings_leave_one_producer};
 pub use delivery_laws::{
@@ -14,3 +16,5 @@ pub use delivery_laws::{
 };
 pub use history_laws::a_legal_journal_is_a_history;
 pub use premises::{Breach, Premise, deletion, first_breach, other_committer, other_producer};
+pub use repeat_laws::a_row_is_appended_once_a_start;
+pub use several_laws::an_inbox_among_services_holds_a_prefix;

@@ -1,6 +1,6 @@
 -- A history in which a reply is lost, the router begins anew, and a stranger is denied: two rows, three records,
 -- two events in the inbox. All that the laws ask holds of it.
-use Rattle.kob_service.proofs.Words.{ArePrivate, Bool, Call, Denied, Done, Entry, Fetch, InitProducerId, IsConsumerPart, IsHistory, IsPrivate, IsSameView, IsServicePart, List, None, OffsetCommit, OffsetFetch, Option, Place, Produce, ReachesInOrder, Record, Reply, Request, Some, Subscription, TopicAuthorizationFailed, View, [], ap, arith, codes, dispatch_of, false, holds_a_prefix, id_text, inr, nat_tests, opening_view, place_of, records_of, refl, rows_of, rows_of_aggregate, subst, suc, sym, taken_ids, true, true≢false, with_batch, with_commit, with_producer, zero, ℕ, ◌||◌, ◌∷◌, ◌≡◌}
+use Rattle.kob_service.proofs.Words.{ArePrivate, Bool, Call, Contains, Denied, Done, Entry, Fetch, Gives, InitProducerId, IsConsumerPart, IsHistory, IsPrivate, IsSameView, IsServicePart, List, None, OffsetCommit, OffsetFetch, Option, Place, Produce, Producer, ReachesInOrder, Record, Reply, Request, Some, Subscription, TopicAuthorizationFailed, View, [], ap, arith, codes, copies_of, dispatch_of, false, holds_a_prefix, id_text, inr, nat_tests, opening_view, place_of, records_of, refl, restarts_of, rows_of, rows_of_aggregate, subst, suc, sym, taken_ids, true, true≢false, with_batch, with_commit, with_producer, zero, ℕ, ◌+◌, ◌||◌, ◌∷◌, ◌≡◌}
 use Rattle.uuid.specs.Text.{by_index}
 use Rattle.kob_rights.specs.declared.on_groups.OffsetCommit.{OffsetCommit as CommitRequest}
 use Rattle.kob_rights.specs.declared.on_groups.OffsetFetch.{OffsetFetch as PositionRequest}
@@ -13,8 +13,17 @@ use Rattle.kob_service.proofs.Samples.{batch, change, event, goes_here, held, he
 
 -- what is asked
 
-abbrev sends : ℕ → ℕ → ℕ → ProduceRequest
-sends id base n = record { topic = here.topic; partition = here.partition; batch = batch id base n }
+abbrev pub sends : Producer → ℕ → ℕ → ProduceRequest
+sends p base n = record { topic = here.topic; partition = here.partition; batch = batch p base n }
+
+abbrev pub gives : Producer → Reply
+gives p = Done (bodies.Producer p.id p.epoch)
+
+abbrev one : Producer
+one = producer 0
+
+abbrev other : Producer
+other = producer 1
 
 abbrev pub position : PositionRequest
 position = record { group = codes "g"; topic = here.topic; partition = here.partition }
@@ -39,50 +48,53 @@ entry worker request reply = record {
 
 abbrev journal : List Entry
 journal =
-    entry 1 InitProducerId (Done (bodies.Producer 0 0))
-    ∷ entry 1 (Produce (sends 0 0 1)) (Done (bodies.Offset 0))
+    entry 1 InitProducerId (gives one)
+    ∷ entry 1 (Produce (sends one 0 1)) (Done (bodies.Offset 0))
     ∷ entry 2 (OffsetFetch position) (Done (bodies.Commit None))
-    ∷ entry 1 (Produce (sends 0 1 2)) (Done (bodies.Offset 1))
-    ∷ entry 1 InitProducerId (Done (bodies.Producer 1 0))
-    ∷ entry 3 (Produce (sends 0 1 2)) (Denied TopicAuthorizationFailed [])
-    ∷ entry 1 (Produce (sends 1 0 2)) (Done (bodies.Offset 2))
+    ∷ entry 1 (Produce (sends one 1 2)) (Done (bodies.Offset 1))
+    ∷ entry 1 InitProducerId (gives other)
+    ∷ entry 3 (Produce (sends one 1 2)) (Denied TopicAuthorizationFailed [])
+    ∷ entry 1 (Produce (sends other 0 2)) (Done (bodies.Offset 2))
     ∷ entry 2 (Fetch fetch) (Done (bodies.Records found))
     ∷ entry 2 (OffsetCommit commit) (Done bodies.Committed)
     ∷ []
 
--- what the service does: the second reply is lost, and the router begins anew
+-- what the service does, with a first producer and then another: the second reply is lost, and the router begins anew
 
 abbrev pub call : Request → Option Reply → Call
 call request heard = record { request = request; heard = heard }
 
-abbrev moves : List router.Move
-moves =
+abbrev pub moves_of : Producer → Producer → List router.Move
+moves_of p q =
     router.Move.Recorded change (event 1)
     ∷ router.Move.Recorded change (event 2)
-    ∷ router.Move.Called (call InitProducerId (Some (Done (bodies.Producer 0 0)))) false
+    ∷ router.Move.Called (call InitProducerId (Some (gives p))) false
     ∷ router.Move.Took (held 1)
-    ∷ router.Move.Called (call (Produce (sends 0 0 1)) (Some (Done (bodies.Offset 0)))) true
+    ∷ router.Move.Called (call (Produce (sends p 0 1)) (Some (Done (bodies.Offset 0)))) true
     ∷ router.Move.Took (held 2)
-    ∷ router.Move.Called (call (Produce (sends 0 1 2)) None) false
+    ∷ router.Move.Called (call (Produce (sends p 1 2)) None) false
     ∷ router.Move.Restarted
-    ∷ router.Move.Called (call InitProducerId (Some (Done (bodies.Producer 1 0)))) false
+    ∷ router.Move.Called (call InitProducerId (Some (gives q))) false
     ∷ router.Move.Took (held 2)
-    ∷ router.Move.Called (call (Produce (sends 1 0 2)) (Some (Done (bodies.Offset 2)))) true
+    ∷ router.Move.Called (call (Produce (sends q 0 2)) (Some (Done (bodies.Offset 2)))) true
     ∷ []
 
-abbrev after_all : router.State → List router.Move → router.State
+abbrev moves : List router.Move
+moves = moves_of one other
+
+abbrev pub after_all : router.State → List router.Move → router.State
 after_all s [] = s
 after_all s (m ∷ ms) = after_all (router.after s m) ms
 
-placed : (n : ℕ) → place_of (dispatch_of target (row n)) ≡ Some here
+pub placed : (n : ℕ) → place_of (dispatch_of target (row n)) ≡ Some here
 placed n = ap place_of (goes_here n)
 
 -- what is in hand is sent
-is_sent : (s : router.State) (id base n : ℕ) → s.producer ≡ Some (producer id) → s.hand ≡ Some (held n)
+pub is_sent : (s : router.State) (p : Producer) (base n : ℕ) → s.producer ≡ Some p → s.hand ≡ Some (held n)
     → Rattle.kob_router.specs.Run.sequence_of s.sequences here ≡ base
-    → router.IsSending (dispatch_of target) s (sends id base n)
-is_sent s id base n has_producer has_hand next = record {
-  producer = producer id;
+    → router.IsSending (dispatch_of target) s (sends p base n)
+is_sent s p base n has_producer has_hand next = record {
+  producer = p;
   hand = held n;
   message = message n;
   has_producer = has_producer;
@@ -90,14 +102,15 @@ is_sent s id base n has_producer has_hand next = record {
   routed = goes_here n;
   same_topic = refl;
   same_partition = refl;
-  same_batch = ap (λ (k : ℕ). batch id k n) (sym next);
+  same_batch = ap (λ (k : ℕ). batch p k n) (sym next);
 }
 
 pub never : {A : Type 0} → false ≡ true → A
 never e = absurd (true≢false (sym e))
 
-runs : router.IsRouterRun (dispatch_of target) router.start moves (after_all router.start moves)
-runs = (
+pub runs : (p q : Producer)
+    → router.IsRouterRun (dispatch_of target) router.start (moves_of p q) (after_all router.start (moves_of p q))
+runs p q = (
   record { fits = refl; fresh = refl; room = omega arith },
   (
     record { fits = refl; fresh = ap (λ (b : Bool). b || false) second_is_new; room = omega arith },
@@ -106,12 +119,12 @@ runs = (
       (
         (refl, refl, placed 1),
         (
-          (is_sent _ 0 0 1 refl refl refl, λ _. tt),
+          (is_sent _ p 0 1 refl refl refl, λ _. tt),
           (
             (refl, refl, placed 2),
             (
-              (is_sent _ 0 1 2 refl refl refl, never),
-              (tt, ((refl, refl), ((refl, refl, placed 2), ((is_sent _ 1 0 2 refl refl refl, λ _. tt), refl)))),
+              (is_sent _ p 1 2 refl refl refl, never),
+              (tt, ((refl, refl), ((refl, refl, placed 2), ((is_sent _ q 0 2 refl refl refl, λ _. tt), refl)))),
             ),
           ),
         ),
@@ -122,7 +135,7 @@ runs = (
 
 service_part : IsServicePart target 1 journal moves (after_all router.start moves)
 service_part = record {
-  run = runs;
+  run = runs one other;
   served = grind (arith, nat_tests);
 }
 
@@ -157,46 +170,68 @@ consumer_part = record {
 -- what the laws see of the broker
 
 pub same : (v : View) → IsSameView v v
-same v = record { log = λ place. refl; committed = λ group place. refl; next_producer = refl }
+same v = record { log = λ place. refl; committed = λ group place. refl; given = refl }
 
 abbrev view_0 : View
-view_0 = with_producer opening_view
+view_0 = with_producer opening_view 0
 
 abbrev view_1 : View
-view_1 = with_batch view_0 here (batch 0 0 1)
+view_1 = with_batch view_0 here (batch one 0 1)
 
 abbrev view_2 : View
-view_2 = with_batch view_1 here (batch 0 1 2)
+view_2 = with_batch view_1 here (batch one 1 2)
 
 abbrev view_3 : View
-view_3 = with_producer view_2
+view_3 = with_producer view_2 1
 
 abbrev view_4 : View
-view_4 = with_batch view_3 here (batch 1 0 2)
+view_4 = with_batch view_3 here (batch other 0 2)
 
 abbrev at_end : View
 at_end = with_commit view_4 (codes "g") here 3
 
+-- an id that was not given before is given
+pub given_by : (v : View) (p : Producer) → (Contains v.given p.id → ⊥)
+    → Gives v (bodies.Producer p.id p.epoch) (with_producer v p.id)
+given_by v p first = record {
+  id = p.id;
+  epoch = p.epoch;
+  body_is = refl;
+  first = first;
+  then_given = same (with_producer v p.id);
+}
+
+pub first_id : (id : ℕ) → Contains [] id → ⊥
+first_id id (k, within, at) = absurd (omega arith)
+
+pub second_id : (a b : ℕ) → (a ≡ b → ⊥) → Contains (a ∷ []) b → ⊥
+second_id a b apart (zero, within, at) = apart at
+second_id a b apart (suc k, within, at) = absurd (omega arith)
+
 history : IsHistory opening_view journal at_end
 history = (
   view_0,
-  (refl, same view_0),
+  given_by opening_view one (first_id 0),
   (
     view_1,
-    (omega arith, same view_1),
+    ((0, omega arith, refl), same view_1),
     (
       view_1,
       (refl, same view_1),
       (
         view_2,
-        (omega arith, same view_2),
+        ((0, omega arith, refl), same view_2),
         (
           view_3,
-          (refl, same view_3),
+          given_by view_2 other (second_id 0 1 (λ e. omega (arith, e))),
           (
             view_3,
             same view_3,
-            (view_4, (omega arith, same view_4), (view_4, (refl, same view_4), (at_end, same at_end, same at_end))),
+            (
+              view_4,
+              ((1, omega arith, refl), same view_4),
+              (view_4, (record { count = 3; body_is = refl }, same view_4), (at_end, same at_end, same at_end)),
+            ),
           ),
         ),
       ),
@@ -229,6 +264,11 @@ reached =
 
 records_at_end : records_of (at_end.log here) ≡ message 1 ∷ message 2 ∷ message 2 ∷ []
 records_at_end = refl
+
+-- the second row stands there twice: as often as the router was started
+copies_at_end : copies_of (id_text (id_of 2)) (records_of (at_end.log here)) ≡ 1 + restarts_of moves
+unfolding by_index
+copies_at_end = refl
 
 mark_at_end : (after_all router.start moves).outbox.mark ≡ 2
 mark_at_end = refl

@@ -1,5 +1,7 @@
 mod Words
 mod Samples
 mod Example
+mod OtherBroker
+mod SharedTopics
 mod Needed
 mod ReservedExample

@@ -83,8 +83,8 @@ abbrev pub producer : ℕ → Producer
 producer n = record { id = n; epoch = 0 }
 
 -- the producer's batch with this sequence, of the n-th row
-abbrev pub batch : ℕ → ℕ → ℕ → Batch
-batch id base n = batch_of (producer id) base (message n)
+abbrev pub batch : Producer → ℕ → ℕ → Batch
+batch p base n = batch_of p base (message n)
 
 pub first_told : told_id (message 1) ≡ Some (id_text (id_of 1))
 unfolding by_index
