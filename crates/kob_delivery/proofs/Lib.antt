@@ -1,4 +1,6 @@
 mod Words
+pub mod OnNames
+pub mod Following
 pub mod Lists
 mod Logged
 mod ServedRuns

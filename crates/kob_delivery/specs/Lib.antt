@@ -1,3 +1,4 @@
+pub mod Reserved
 pub mod Types
 pub mod View
 pub mod Served
