@@ -19,3 +19,10 @@ pub mod BrokerSteps
 pub mod Rows
 pub mod Laws
 pub mod Reserving
+mod ExampleWords
+mod Samples
+mod Example
+mod OtherBroker
+mod SharedTopics
+mod Needed
+mod ReservedExample

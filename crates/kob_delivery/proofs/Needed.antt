@@ -1,12 +1,12 @@
 -- Each premise is needed: a law without it is false, by a journal of a few entries.
-use Rattle.kob_service.proofs.Words.{AllByRecursion, Batch, Bool, DeleteTopics, Done, Entry, Event, Fetch, Idem, InitProducerId, IsConsumerPart, IsDelivered, IsHistory, IsNeverDeleted, IsOwnOrApart, IsPrefixOf, IsServicePart, IsSoleCommitter, IsTakenInOrder, List, None, OffsetCommit, OffsetFetch, Place, Produce, ReachesInOrder, Record, Some, Subscription, Target, View, [], ap, arith, bytes_eq, bytes_eq-Decides, codes, dispatch_of, false, get_or, id_text, ids_of, inl, inr, nat_tests, opening_view, range_with_len, records_of, refl, rows_of, rows_of_aggregate, slice_get, subst, suc, sym, taken_ids, taken_of_aggregate, true, true≢false, with_batch, with_commit, with_producer, without_topic, zero, ℕ, ◌||◌, ◌∙◌, ◌∷◌, ◌≡◌}
+use Rattle.kob_delivery.proofs.ExampleWords.{AllByRecursion, Batch, Bool, DeleteTopics, Done, Entry, Event, Fetch, Idem, InitProducerId, IsConsumerPart, IsDelivered, IsHistory, IsNeverDeleted, IsOwnOrApart, IsPrefixOf, IsServicePart, IsSoleCommitter, IsTakenInOrder, List, None, OffsetCommit, OffsetFetch, Place, Produce, ReachesInOrder, Record, Some, Subscription, Target, View, [], ap, arith, bytes_eq, bytes_eq-Decides, codes, dispatch_of, false, get_or, id_text, ids_of, inl, inr, nat_tests, opening_view, range_with_len, records_of, refl, rows_of, rows_of_aggregate, slice_get, subst, suc, sym, taken_ids, taken_of_aggregate, true, true≢false, with_batch, with_commit, with_producer, without_topic, zero, ℕ, ◌||◌, ◌∙◌, ◌∷◌, ◌≡◌}
 use Rattle.uuid.specs.Text.{by_index}
 use Rattle.kob_rights.specs.declared.on_partitions.Fetch.{Fetch as FetchRequest}
 use Rattle.kob_rights.specs.declared.reply.Body.TheVariants as bodies
 use Rattle.kob_router.specs.Run as router
 use Rattle.kob_inbox.specs.Run as consumer
-use Rattle.kob_service.proofs.Example.{after_all, call, entry, first_id, given_by, gives, is_sent, placed, position, same, sends, subscription, taken_all}
-use Rattle.kob_service.proofs.Samples.{batch, change, event, first_is_new, held, here, id_of, message, producer, row, second_is_new, target}
+use Rattle.kob_delivery.proofs.Example.{after_all, call, entry, first_id, given_by, gives, is_sent, placed, position, same, sends, subscription, taken_all}
+use Rattle.kob_delivery.proofs.Samples.{batch, change, event, first_is_new, held, here, id_of, message, producer, row, second_is_new, target}
 
 -- a stranger sends these without a producer id
 

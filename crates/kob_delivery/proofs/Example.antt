@@ -1,6 +1,6 @@
 -- A history in which a reply is lost, the router begins anew, and a stranger is denied: two rows, three records,
 -- two events in the inbox. All that the laws ask holds of it.
-use Rattle.kob_service.proofs.Words.{ArePrivate, Bool, Call, Contains, Denied, Done, Entry, Fetch, Gives, InitProducerId, IsConsumerPart, IsHistory, IsPrivate, IsSameView, IsServicePart, List, None, OffsetCommit, OffsetFetch, Option, Place, Produce, Producer, ReachesInOrder, Record, Reply, Request, Some, Subscription, TopicAuthorizationFailed, View, [], ap, arith, codes, copies_of, dispatch_of, false, holds_a_prefix, id_text, inr, nat_tests, opening_view, place_of, records_of, refl, restarts_of, rows_of, rows_of_aggregate, subst, suc, sym, taken_ids, true, true≢false, with_batch, with_commit, with_producer, zero, ℕ, ◌+◌, ◌||◌, ◌∷◌, ◌≡◌}
+use Rattle.kob_delivery.proofs.ExampleWords.{ArePrivate, Bool, Call, Contains, Denied, Done, Entry, Fetch, Gives, InitProducerId, IsConsumerPart, IsHistory, IsPrivate, IsSameView, IsServicePart, List, None, OffsetCommit, OffsetFetch, Option, Place, Produce, Producer, ReachesInOrder, Record, Reply, Request, Some, Subscription, TopicAuthorizationFailed, View, [], ap, arith, codes, copies_of, dispatch_of, false, holds_a_prefix, id_text, inr, nat_tests, opening_view, place_of, records_of, refl, restarts_of, rows_of, rows_of_aggregate, subst, suc, sym, taken_ids, true, true≢false, with_batch, with_commit, with_producer, zero, ℕ, ◌+◌, ◌||◌, ◌∷◌, ◌≡◌}
 use Rattle.uuid.specs.Text.{by_index}
 use Rattle.kob_rights.specs.declared.on_groups.OffsetCommit.{OffsetCommit as CommitRequest}
 use Rattle.kob_rights.specs.declared.on_groups.OffsetFetch.{OffsetFetch as PositionRequest}
@@ -9,7 +9,7 @@ use Rattle.kob_rights.specs.declared.on_partitions.Produce.{Produce as ProduceRe
 use Rattle.kob_rights.specs.declared.reply.Body.TheVariants as bodies
 use Rattle.kob_router.specs.Run as router
 use Rattle.kob_inbox.specs.Run as consumer
-use Rattle.kob_service.proofs.Samples.{batch, change, event, goes_here, held, here, id_of, message, producer, row, second_is_new, target}
+use Rattle.kob_delivery.proofs.Samples.{batch, change, event, goes_here, held, here, id_of, message, producer, row, second_is_new, target}
 
 -- what is asked
 

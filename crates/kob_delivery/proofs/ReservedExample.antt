@@ -1,9 +1,9 @@
 -- A history that fulfils what the laws of reserved names ask, of a producer and of a committer: a super user creates a
 -- topic, and bindings by which one principal alone may write to it and another alone may read a group; each of the two
 -- then does so.
-use Rattle.kob_service.proofs.Words.{ActsAlone, Allow, Commits, CreateAcls, CreateTopics, Done, Draft, Entry, Group, IsLegal, IsReserved, IsTrue, List, Literal, NoSuperUser, None, OffsetCommit, Operation, Produce, Produces, Read, Reply, Request, ResourceKind, Retained, Settings, State, Topic, Write, [], and_parts, arith, bytes_eq-Decides, codes, covers, false, nat_tests, opened_by, or-false, reaches, refl, standing_after, suc, zero, ℕ, ◌&&◌, ◌∷◌, ◌≡◌}
+use Rattle.kob_delivery.proofs.ExampleWords.{ActsAlone, Allow, Commits, CreateAcls, CreateTopics, Done, Draft, Entry, Group, IsLegal, IsReserved, IsTrue, List, Literal, NoSuperUser, None, OffsetCommit, Operation, Produce, Produces, Read, Reply, Request, ResourceKind, Retained, Settings, State, Topic, Write, [], and_parts, arith, bytes_eq-Decides, codes, covers, false, nat_tests, opened_by, or-false, reaches, refl, standing_after, suc, zero, ℕ, ◌&&◌, ◌∷◌, ◌≡◌}
 use Rattle.kob_rights.specs.declared.reply.Body.TheVariants as bodies
-use Rattle.kob_service.proofs.Example.{never}
+use Rattle.kob_delivery.proofs.Example.{never}
 
 abbrev admin : List ℕ
 admin = codes "User:a"

@@ -1,13 +1,13 @@
 -- A history of a broker that is not this project's: it gives the producer ids 4000 and 4711 with epoch 3, and a FETCH
 -- brings one record of three. All that the laws ask holds of it too.
-use Rattle.kob_service.proofs.Words.{ArePrivate, Done, Entry, Fetch, InitProducerId, IsConsumerPart, IsHistory, IsPrivate, IsServicePart, List, None, OffsetFetch, Place, Produce, Producer, ReachesInOrder, Some, View, [], arith, codes, holds_a_prefix, id_text, inr, nat_tests, opening_view, refl, rows_of, subst, suc, taken_ids, with_batch, with_producer, zero, ◌∷◌, ◌≡◌}
+use Rattle.kob_delivery.proofs.ExampleWords.{ArePrivate, Done, Entry, Fetch, InitProducerId, IsConsumerPart, IsHistory, IsPrivate, IsServicePart, List, None, OffsetFetch, Place, Produce, Producer, ReachesInOrder, Some, View, [], arith, codes, holds_a_prefix, id_text, inr, nat_tests, opening_view, refl, rows_of, subst, suc, taken_ids, with_batch, with_producer, zero, ◌∷◌, ◌≡◌}
 use Rattle.uuid.specs.Text.{by_index}
 use Rattle.kob_rights.specs.declared.on_partitions.Fetch.{Fetch as FetchRequest}
 use Rattle.kob_rights.specs.declared.reply.Body.TheVariants as bodies
 use Rattle.kob_router.specs.Run as router
 use Rattle.kob_inbox.specs.Run as consumer
-use Rattle.kob_service.proofs.Example.{after_all, call, entry, first_id, given_by, gives, moves_of, position, runs, same, second_id, sends, subscription, taken_all}
-use Rattle.kob_service.proofs.Samples.{batch, here, id_of, message, target}
+use Rattle.kob_delivery.proofs.Example.{after_all, call, entry, first_id, given_by, gives, moves_of, position, runs, same, second_id, sends, subscription, taken_all}
+use Rattle.kob_delivery.proofs.Samples.{batch, here, id_of, message, target}
 
 abbrev one : Producer
 one = record { id = 4000; epoch = 3 }

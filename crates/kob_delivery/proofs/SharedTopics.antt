@@ -1,6 +1,6 @@
 -- A history of a consumer with a topic of its service and one of another service, which sends an event of its own: all
 -- that the law of topics of several services asks holds of it, and the one for private topics does not apply.
-use Rattle.kob_service.proofs.Words.{ArePrivate, AreRoutedTo, AreSharedTopics, Batch, Bool, Contains, Done, Entry, Event, Fetch, InitProducerId, IsConsumerPart, IsHistory, IsSharedTopic, IsServicePart, List, None, OffsetCommit, OffsetFetch, Place, Produce, Producer, ReachesInOrder, Some, Subscription, View, [], ap, arith, codes, dispatch_of, false, get_or, holds_a_prefix_among, id_text, ids_of, inl, inr, is_one_of, nat_tests, opening_view, place_of, refl, rows_of, rows_of_aggregate, subst, suc, sym, taken_ids, told_id, true, with_batch, with_commit, with_producer, zero, ◌||◌, ◌∙◌, ◌∷◌, ◌≡◌}
+use Rattle.kob_delivery.proofs.ExampleWords.{ArePrivate, AreRoutedTo, AreSharedTopics, Batch, Bool, Contains, Done, Entry, Event, Fetch, InitProducerId, IsConsumerPart, IsHistory, IsSharedTopic, IsServicePart, List, None, OffsetCommit, OffsetFetch, Place, Produce, Producer, ReachesInOrder, Some, Subscription, View, [], ap, arith, codes, dispatch_of, false, get_or, holds_a_prefix_among, id_text, ids_of, inl, inr, is_one_of, nat_tests, opening_view, place_of, refl, rows_of, rows_of_aggregate, subst, suc, sym, taken_ids, told_id, true, with_batch, with_commit, with_producer, zero, ◌||◌, ◌∙◌, ◌∷◌, ◌≡◌}
 use Rattle.uuid.specs.Text.{by_index}
 use Rattle.kob_rights.specs.declared.on_groups.OffsetCommit.{OffsetCommit as CommitRequest}
 use Rattle.kob_rights.specs.declared.on_groups.OffsetFetch.{OffsetFetch as PositionRequest}
@@ -9,8 +9,8 @@ use Rattle.kob_rights.specs.declared.on_partitions.Produce.{Produce as ProduceRe
 use Rattle.kob_rights.specs.declared.reply.Body.TheVariants as bodies
 use Rattle.kob_router.specs.Run as router
 use Rattle.kob_inbox.specs.Run as consumer
-use Rattle.kob_service.proofs.Example.{after_all, call, entry, first_id, given_by, gives, is_sent, placed, same, sends}
-use Rattle.kob_service.proofs.Samples.{batch, change, event, first_is_new, held, here, id_of, message, producer, second_told, target}
+use Rattle.kob_delivery.proofs.Example.{after_all, call, entry, first_id, given_by, gives, is_sent, placed, same, sends}
+use Rattle.kob_delivery.proofs.Samples.{batch, change, event, first_is_new, held, here, id_of, message, producer, second_told, target}
 
 -- the topic of the other service
 abbrev there : Place

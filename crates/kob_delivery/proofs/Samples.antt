@@ -1,5 +1,5 @@
 -- Two events of one aggregate, and where they go: for the example of a history.
-use Rattle.kob_service.proofs.Words.{AllByRecursion, Batch, Change, Event, Global, Hand, IsAscii, IsUtf8-from_ascii, List, OutboxEvent, Place, Producer, Record, Some, String, Target, [], arith, batch_of, bytes_eq, codes, dispatch_of, false, id_text, null_ptr, refl, stored_event, suc, told_id, zero, ℕ, ◌<◌, ◌∷◌, ◌≡◌}
+use Rattle.kob_delivery.proofs.ExampleWords.{AllByRecursion, Batch, Change, Event, Global, Hand, IsAscii, IsUtf8-from_ascii, List, OutboxEvent, Place, Producer, Record, Some, String, Target, [], arith, batch_of, bytes_eq, codes, dispatch_of, false, id_text, null_ptr, refl, stored_event, suc, told_id, zero, ℕ, ◌<◌, ◌∷◌, ◌≡◌}
 use Rattle.bstr.proofs.Computing.{computing}
 use Rattle.uuid.specs.Text.{by_index}
 use Rattle.kob_router.specs.declared.settings.RouteBy.TheVariants as by

@@ -1,7 +1,0 @@
-mod Words
-mod Samples
-mod Example
-mod OtherBroker
-mod SharedTopics
-mod Needed
-mod ReservedExample
