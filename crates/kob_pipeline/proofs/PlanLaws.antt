@@ -3,6 +3,7 @@ use Rattle.kob_pipeline.proofs.Words.{Administering, AllZip, ArePrivate, Consume
 use Rattle.kob_rights.specs.declared.event.Event.{Event as Asked}
 use Rattle.kob_shared.specs.declared.work.Done.{Done}
 use Rattle.kob_delivery.proofs.BrokerSteps.{legal_is_history}
+use Rattle.kob_delivery.proofs.Laws.{holds_a_prefix, partition_holds, takes_in_order, waits_or_sent}
 use Rattle.kob_delivery.proofs.Lists.{all_weaker, get_front}
 use Rattle.kob_pipeline.proofs.PlanRows.{rows_of_steps}
 use Rattle.kob_router.specs.Run as router

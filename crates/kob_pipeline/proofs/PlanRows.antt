@@ -1,5 +1,6 @@
 -- The rows that a plan's steps record, and rows that are read by pages.
 use Rattle.kob_pipeline.proofs.Words.{AllByRecursion, Called, Contents, Dispatching, Event, IsOfTick, IsPrefixOf, IsRising, IsRouterRun, IsServiceStep, List, Move, None, Option, Served, ServiceStep, Some, State, Steps, Took, [], after, ap, append-nil, append_assoc, arith, drop, events_of, first_after, later_than, le-ltb, length, length-map, lt-ltb, ltb-true, map, map-append, nat_lt, nat_tests, option_map, refl, rows_from, slice_get, slice_get-get_or, slice_get-map, slice_get_within, stored_row, subst, suc, sym, take, take-append-drop, unwrap_or, zero, ℕ, ◌++◌, ◌-◌, ◌<◌, ◌∙◌, ◌∷◌, ◌≡◌}
+use Rattle.kob_delivery.proofs.Rows.{events_behind}
 use Rattle.kob_delivery.proofs.Lists.{all_weaker, filter_all, all_at, filter_twice, get_front, same_some}
 use Rattle.kob_outbox.specs.declared.event.Row.{Row}
 use Rattle.kob_outbox.proofs.statements.Words.{ascending-filter}
