@@ -1,5 +1,6 @@
 //! The forms of lines, as the pages show them, and the words that lines are made of.
 
+use crate::worker::WorkerKind;
 use std::alloc::{AllocError, Global};
 
 /// The names of commands, with what follows each.
@@ -59,7 +60,7 @@ static LINES: [(&str, &str); 8] = [
     ),
     (
         "consumer",
-        "consumer NAME PRINCIPAL HOST group GROUP max N [start latest] [commits before|no dedup] reads TOPIC:PARTITION ..",
+        "consumer NAME PRINCIPAL HOST group GROUP max N [start latest] [commits before|no dedup] [reads TOPIC:PARTITION ..]",
     ),
     ("journal", "journal"),
     ("law", "law SERVICE CONSUMER"),
@@ -195,9 +196,12 @@ pub(crate) fn is_step(word: &[u8]) -> bool {
 }
 
 /// The form of a line, by the word that says what it is: the command of a request, the first word
-/// of a declaration or a setting, or the word after a worker's name. The general form if there is
-/// no such word.
-pub(crate) fn form_of(words: &[&[u8]]) -> &'static str {
+/// of a declaration or a setting, or the word after a worker's name. If that is no step of the
+/// worker, it is the form of such a worker's steps. The general form if there is no such word.
+pub(crate) fn form_of(words: &[&[u8]], stepping: Option<WorkerKind>) -> &'static str {
+    if let Some(kind) = stepping {
+        return kind.form();
+    }
     match words {
         [first, ..] if form_in(&LINES, first).is_some() => form_in(&LINES, first).unwrap_or(""),
         [first, _, command, ..] if first.contains(&b':') => {
@@ -216,7 +220,11 @@ pub(crate) fn names_at(
     alloc: Global,
     words: &[&[u8]],
     place: usize,
+    stepping: Option<WorkerKind>,
 ) -> Result<Vec<&'static str>, AllocError> {
+    if let Some(kind) = stepping {
+        return copied(alloc, kind.steps());
+    }
     let is_request = words.first().is_some_and(|first| first.contains(&b':'));
     match (is_request, place) {
         (true, 2) => names_of(alloc, &REQUESTS),
