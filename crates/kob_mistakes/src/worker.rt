@@ -1,4 +1,4 @@
-//! The workers that lines declare, and the steps that they have.
+//! The workers that lines declare.
 
 use crate::words::raw_words;
 use kob_scene_text::SceneFaultKind;
@@ -9,31 +9,6 @@ use std::alloc::{AllocError, Global};
 pub(crate) enum WorkerKind {
     Service,
     Consumer,
-}
-
-static SERVICE_STEPS: [&str; 8] = [
-    "record", "tick", "run", "restart", "sweep", "outbox", "business", "visible",
-];
-
-static CONSUMER_STEPS: [&str; 4] = ["tick", "run", "restart", "inbox"];
-
-impl WorkerKind {
-    /// The names of the steps of such a worker.
-    pub(crate) fn steps(self) -> &'static [&'static str] {
-        match self {
-            WorkerKind::Service => &SERVICE_STEPS,
-            WorkerKind::Consumer => &CONSUMER_STEPS,
-        }
-    }
-
-    /// The form of a step of such a worker.
-    pub(crate) fn form(self) -> &'static str {
-        match self {
-            WorkerKind::Service =>
-                "a step of a service: record, tick, run, restart, sweep, outbox or business; with visible late also visible",
-            WorkerKind::Consumer => "a step of a consumer: tick, run, restart or inbox",
-        }
-    }
 }
 
 /// What a line declares that begins with this word.
