@@ -3,7 +3,6 @@
 #![tactic(auto)]
 
 mod ask;
-mod bare_line;
 mod check;
 mod commits_before;
 mod consumer_steps;
@@ -23,6 +22,7 @@ mod output;
 mod page;
 mod playing;
 mod poll;
+mod sent_line;
 mod service_steps;
 mod service_turn;
 mod service_worker;

@@ -2,11 +2,11 @@
 
 ghost use Rattle.std.specs.Prelude.{◌≡◌, IfOk, OnOk};
 ghost use Rattle.kob_scene_play.specs.Services.{GivesUp, GoesOn, IsRouterTick, Skips, StartsAgain};
-ghost use Rattle.kob_scene_play.specs.Services.{sent_bare, sent_by, sent_whole};
+ghost use Rattle.kob_scene_play.specs.Services.{sent_as, sent_by};
 
-use crate::bare_line::BareLine;
 use crate::fault::{PlayFault, line_fault, loses_first, stop_of_service, unless};
-use crate::line::{send_bare_over, send_over};
+use crate::line::send_over;
+use crate::sent_line::SentLine;
 use crate::service_worker::ServiceWorker;
 use crate::skip::skip_first;
 use kob_lines::{Calls, Loss, Lossy, RecordedLine};
@@ -29,28 +29,35 @@ impl<'s> ServiceWorker<'s> {
             recorded.new) }
     {
         match sending {
-            Sending::Proved => self.send_whole(alloc, recorded, loss),
-            Sending::RetriesNew => self.send_whole(alloc, recorded, loss),
-            Sending::DeletesFirst => self.send_whole(alloc, recorded, loss),
-            Sending::NotIdempotent => self.send_bare(alloc, recorded, loss),
-            Sending::Separate => self.send_whole(alloc, recorded, loss),
-            Sending::VisibleLate => self.send_whole(alloc, recorded, loss),
+            Sending::Proved => self.send_as(alloc, recorded, false, loss),
+            Sending::RetriesNew => self.send_as(alloc, recorded, false, loss),
+            Sending::DeletesFirst => self.send_as(alloc, recorded, false, loss),
+            Sending::NotIdempotent => self.send_as(alloc, recorded, true, loss),
+            Sending::Separate => self.send_as(alloc, recorded, false, loss),
+            Sending::VisibleLate => self.send_as(alloc, recorded, false, loss),
         }
     }
 
-    /// One step of the router, whose calls are served as they are.
-    fn send_whole(
+    /// One step of the router, whose calls are served without producer ids, or as they are.
+    fn send_as(
         &mut self,
         alloc: Global,
         recorded: &mut Recorded,
+        is_bare: bool,
         loss: Loss,
     ) -> Result<Tick, PlayFault>
-        ensures { IfOk result (IsRouterTick sent_whole loss self.old self.new recorded.old
+        ensures { IfOk result (IsRouterTick (sent_as is_bare) loss self.old self.new recorded.old
             recorded.new) }
     {
         let principal = self.principal.copy(alloc)?;
         let host = self.host.copy(alloc)?;
         let line = RecordedLine::open(alloc, recorded, self.worker, principal, host);
+        let between = Calls::new(alloc);
+        let line = SentLine {
+            line,
+            is_bare,
+            calls: between,
+        };
         let calls = Calls::new(alloc);
         let mut line = Lossy { line, loss, calls };
         let tick = send_over(&mut self.router, alloc, &mut self.outbox, &mut line);
@@ -61,50 +68,9 @@ impl<'s> ServiceWorker<'s> {
             loss: _,
             calls,
         } = line;
-        let RecordedLine {
-            recorded,
-            worker: _,
-            principal,
-            host,
-            calls: below,
-        } = line;
-        drop((calls, below));
-        drop((principal, host));
-        let _ = *recorded;
-        let tick = unless(fault, is_lost, tick)?;
-        Ok(tick)
-    }
-
-    /// One step of the router, whose calls are served without producer ids.
-    fn send_bare(
-        &mut self,
-        alloc: Global,
-        recorded: &mut Recorded,
-        loss: Loss,
-    ) -> Result<Tick, PlayFault>
-        ensures { IfOk result (IsRouterTick sent_bare loss self.old self.new recorded.old
-            recorded.new) }
-    {
-        let principal = self.principal.copy(alloc)?;
-        let host = self.host.copy(alloc)?;
-        let line = RecordedLine::open(alloc, recorded, self.worker, principal, host);
-        let between = Calls::new(alloc);
-        let line = BareLine {
+        let SentLine {
             line,
-            calls: between,
-        };
-        let calls = Calls::new(alloc);
-        let mut line = Lossy { line, loss, calls };
-        let tick = send_bare_over(&mut self.router, alloc, &mut self.outbox, &mut line);
-        let fault = stop_of_service(&tick).or(line_fault(line.calls.fault, line.line.calls.fault));
-        let is_lost = loses_first(loss, &line.calls.made);
-        let Lossy {
-            line,
-            loss: _,
-            calls,
-        } = line;
-        let BareLine {
-            line,
+            is_bare: _,
             calls: between,
         } = line;
         let RecordedLine {
