@@ -31,6 +31,32 @@ class Release(unittest.TestCase):
             found = [(it.name, it.mode, it.mtime, it.uid) for it in read.getmembers()]
         self.assertEqual(found, [("kob/a", 0o644, 1_700_000_000, 0), ("kob/b", 0o755, 1_700_000_000, 0)])
 
+    def test_an_archive_has_its_links_behind_its_files(self) -> None:
+        made = release.tar({"b": (b"two", 0o644)}, 1_700_000_000, "kob", {"a": "share/a"})
+        with tarfile.open(fileobj=io.BytesIO(gzip.decompress(made))) as read:
+            found = [(it.name, it.linkname) for it in read.getmembers()]
+        self.assertEqual(found, [("kob/b", ""), ("kob/a", "share/a")])
+
+    def test_scenes_and_lists_are_named_where_they_lie_in_a_release(self) -> None:
+        for text, wanted in (
+            ("play crates/kob/data/first_scene.txt", "play examples/scenes/first_scene.txt"),
+            ("crates/kob/cases/policies/page/list.txt:9", "examples/policies/page/list.txt:9"),
+            ("(../crates/kob/src/main.rt)", "(../crates/kob/src/main.rt)"),
+        ):
+            self.assertEqual(release.moved(text), wanted)
+
+    def test_scenes_and_lists_that_pages_name_are_found(self) -> None:
+        for text, wanted in (
+            ("`first_scene.txt`", ["data/first_scene.txt", "data/first_scene.txt.stdout"]),
+            ("play crates/kob/data/first_scene.txt.", ["data/first_scene.txt", "data/first_scene.txt.stdout"]),
+            (
+                "crates/kob/cases/scenes/json/scene.txt",
+                ["cases/scenes/json/scene.txt", "cases/scenes/json/stdout"],
+            ),
+            ("your.txt, examples/kafka_acls_line.txt and kafka_acls_line.txt", []),
+        ):
+            self.assertEqual(release.shown([text]), [f"crates/kob/{it}" for it in wanted])
+
     def test_options_are_those_of_the_program(self) -> None:
         text = "kafka-acls --list --add, kob play --json, \\-\\-trace and -l skip; no--option"
         self.assertEqual(release.options_in(text), {"--json", "--trace", "--skip"})

@@ -11,10 +11,10 @@ usage: kob play [OPTION]... [FILE]...  plays scenes and scripts; - or none: stan
                                        answers questions about access rules
        kob topic ROWS RECORDS          compares the records of a topic with the rows of an outbox
        kob help [SUBJECT]              prints a page: play, export, policy, topic or scene
-       kob --version                   prints the version, the commit, and whether it is proved
+       kob -V, --version               prints the version, the commit, and whether it is proved
 
 Status: 0 all was done, 1 a fault, or something could not be read or written, 2 out of memory,
-3 an answer is not the one that was expected, or something is wrong with a topic.
+3 an answer changes or is not the one that was expected, or something is wrong with a topic.
 ";
 
 /// The page on `kob play`.
@@ -31,7 +31,7 @@ usage: kob play [--trace | --json] [FILE]...
 
 Each answer has its number. A text with a fault prints only fault line LINE KIND; standard error has
 the line and the word. Status: 0 all was played, 1 a fault, or a read or a write failed, 2 out of
-memory.
+memory, 3 something that a scene expects is not so.
 ";
 
 /// The page on `kob export`.
@@ -61,8 +61,8 @@ usage: kob policy [FILE]... [--skip] [QUESTION]...
   --policy FILE     the same, whatever its name is: bindings and settings, in order; - or none: standard input
   --questions FILE  questions, one on a line; repeated
   --topics FILE     names of topics, one on a line; repeated
-  --before FILE     prints what changes from these bindings ..
-  --after FILE      .. to these; questions are answered by these; --policy counts for both
+  --before FILE     prints what changes from these bindings ..; repeated
+  --after FILE      .. to these; questions are answered by these; repeated; --policy counts for both
   --log FILE        as the question log FILE; repeated
   --commands        prints the lines of kafka-acls that lead from --before to --after, and nothing
                     else: no right that both grant is missing on the way
@@ -100,8 +100,9 @@ Questions, each one word of the command line or one line; a name with a blank st
   log FILE                              accesses of a broker's kafka-authorizer.log that are now
                                         decided otherwise, and bindings that decide none of them
 
-Status: 0 all read, 1 a fault, 2 out of memory, 3 an answer changes or is not as
-expected, or an access of a log is decided otherwise. docs/POLICY.md has an example.
+Status: 0 all was answered, 1 a fault, bindings that are left out without --skip, or a read or a
+write failed, 2 out of memory, 3 an answer changes or is not as expected, or an access of a log is
+decided otherwise. docs/POLICY.md has an example.
 ";
 
 /// The page on `kob topic`.
@@ -143,7 +144,7 @@ hexadecimal digits stand for a byte. A line that begins with # is a comment.
     NAME tick [lose-request|lose-reply]     NAME run    NAME restart    NAME sweep    NAME outbox
     NAME business KIND KEY                  NAME visible
   consumer NAME PRINCIPAL HOST group GROUP max N [start latest] [commits before|no dedup]
-          reads TOPIC:PARTITION ..
+          [reads TOPIC:PARTITION ..]
     NAME tick [lose-request|lose-reply]     NAME run    NAME restart    NAME inbox
   journal               every request that was served, with its reply
   law SERVICE CONSUMER  whether the laws of delivery apply to the two

@@ -5,7 +5,7 @@ ghost use Rattle.kob.specs.Input.{limit_of};
 
 use std::alloc::Global;
 use std::fs;
-use std::io::{self, Read};
+use std::io::{self, ErrorKind, Read};
 use std::rt::Files;
 use thiserror::Error;
 
@@ -46,6 +46,16 @@ pub enum InputFault {
     SceneTooLong,
     #[error("has more than 67,108,864 bytes")]
     ListTooLong,
+}
+
+impl InputFault {
+    /// Whether there is no such file.
+    pub fn is_missing(&self) -> bool {
+        match self {
+            InputFault::Failed(error) => error.kind() == ErrorKind::NotFound,
+            InputFault::SceneTooLong | InputFault::ListTooLong => false,
+        }
+    }
 }
 
 /// The text of a file, or of standard input for `-`.

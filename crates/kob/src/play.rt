@@ -11,7 +11,7 @@ use crate::options::ExportForm;
 use crate::report;
 use crate::watched::Watched;
 use kob_broker::OpenFault;
-use kob_mistakes::{mistake_in, quoted_name};
+use kob_mistakes::{doubtful_state, mistake_in, quoted_name};
 use kob_scene_play::{Ended, Form, PlayFault, play_text, push_json_string};
 use kob_scene_text::{Scene, SceneError, SceneFault, print_scene_fault, read_scene};
 use std::alloc::{AllocError, Global};
@@ -120,7 +120,10 @@ fn report_play<R: AllocGlobal + Eprint>(
     played: Result<Ended, PlayFault>,
 ) -> Ending {
     match played {
-        Ok(Ended::Clean | Ended::Unmet) => say_quotes(rt, name, text),
+        Ok(Ended::Clean | Ended::Unmet) => {
+            say_quotes(rt, name, text);
+            say_state(rt, name, text);
+        }
         Ok(Ended::Fault(fault)) => say_fault(rt, name, text, fault),
         Ok(Ended::Stopped(fault)) | Err(fault) => report::stopped(rt, name, fault),
     }
@@ -133,6 +136,13 @@ fn say_quotes(rt: &impl Eprint, name: &str, text: &[u8]) {
         if let Ok(word) = str::from_utf8(word) {
             report::quoted(rt, name, line, word);
         }
+    }
+}
+
+/// Says which record has a state that is the word of a variant.
+fn say_state(rt: &impl Eprint, name: &str, text: &[u8]) {
+    if let Some((line, word)) = doubtful_state(text) {
+        report::doubtful(rt, name, line, word);
     }
 }
 

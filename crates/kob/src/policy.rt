@@ -128,45 +128,25 @@ fn push_questions<R: AllocGlobal + Files + Input + Eprint>(
     for file in options.topics.as_slice() {
         let text = list_of(rt, file.as_str())?;
         let read = read_topics(alloc, questions, &text);
-        unless_fault(
-            rt,
-            options.form,
-            out,
-            &questions_in(file.as_str(), &text),
-            read,
-        )?;
+        let source = questions_in(file.as_str(), &text);
+        unless_fault(rt, options.form, out, &source, read)?;
     }
     for file in options.questions.as_slice() {
         let text = list_of(rt, file.as_str())?;
         let read = read_questions(alloc, questions, &text);
-        unless_fault(
-            rt,
-            options.form,
-            out,
-            &questions_in(file.as_str(), &text),
-            read,
-        )?;
+        let source = questions_in(file.as_str(), &text);
+        unless_fault(rt, options.form, out, &source, read)?;
     }
     for word in options.words.as_slice() {
         let text = word.as_str().as_bytes();
         let read = read_questions(alloc, questions, text);
-        unless_fault(
-            rt,
-            options.form,
-            out,
-            &questions_in(word.as_str(), text),
-            read,
-        )?;
+        let source = questions_in(word.as_str(), text);
+        unless_fault(rt, options.form, out, &source, read)?;
     }
     if options.before.is_empty() && options.logs.is_empty() && questions.asked().is_empty() {
         let read = read_questions(alloc, questions, b"summary");
-        unless_fault(
-            rt,
-            options.form,
-            out,
-            &questions_in("summary", b"summary"),
-            read,
-        )?;
+        let source = questions_in("summary", b"summary");
+        unless_fault(rt, options.form, out, &source, read)?;
     }
     Ok(())
 }

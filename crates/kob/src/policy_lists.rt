@@ -1,14 +1,14 @@
 //! The lists that questions are about, read and in force.
 
 use crate::ending::Ending;
-use crate::input::{Kind, text_of};
+use crate::input::{InputFault, Kind, text_of};
 use crate::policy_answers::{push_fault, push_omissions};
 use crate::policy_options::{AnswerForm, Options};
 use crate::report;
 use crate::source::{Source, say_fault};
 use crate::stages::Stages;
 use kob_authorizer::CreateFault;
-use kob_mistakes::{Lines, begins_question};
+use kob_mistakes::{Lines, begins_question, nearest_question};
 use kob_names::Text;
 use kob_policy_text::{Judge, Policy, read_file};
 use kob_script::ScriptError;
@@ -35,10 +35,19 @@ pub(crate) fn list_of<R: AllocGlobal + Files + Input + Eprint>(
         Ok(text) => Ok(text),
         Err(fault) => {
             let ending = report::unread(rt, file, &fault);
-            if begins_question(file.as_bytes()) || file == "log" {
-                report::unquoted(rt, file);
-            }
+            say_question(rt, file, &fault);
             Err(Stop(ending))
+        }
+    }
+}
+
+/// Says which question the name of a file that was not read may be.
+fn say_question<R: AllocGlobal + Eprint>(rt: &R, file: &str, fault: &InputFault) {
+    if begins_question(file.as_bytes()) || file == "log" {
+        report::unquoted(rt, file);
+    } else if fault.is_missing() {
+        if let Ok(Some((name, is_alone))) = nearest_question(rt.alloc(), file) {
+            report::misspelt(rt, name, is_alone);
         }
     }
 }

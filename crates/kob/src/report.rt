@@ -38,6 +38,13 @@ pub fn quoted(rt: &impl Eprint, name: &str, line: u64, word: &str) {
     let _ = eprintln!(rt; "kob: {name}: line {line}: quotes are a part of the name {word}");
 }
 
+/// A record whose state may be meant as the word behind it, which is no fault.
+pub fn doubtful(rt: &impl Eprint, name: &str, line: u64, word: &str) {
+    let _ = eprintln!(rt;
+        "kob: {name}: line {line}: {word} is the STATE here; a word before it may be missing"
+    );
+}
+
 /// A scene that stopped.
 pub fn stopped(rt: &impl Eprint, name: &str, fault: PlayFault) {
     let _ = eprintln!(rt; "kob: {name}: {fault}");
@@ -68,6 +75,14 @@ pub fn left_out(rt: &impl Eprint, count: usize) {
 /// A file that was not found, whose name begins a question.
 pub fn unquoted(rt: &impl Eprint, word: &str) {
     let _ = eprintln!(rt; "  hint: quotes make a question of words, as in '{word} ..'");
+}
+
+/// A file that was not found, whose name is near to the first word of a question.
+pub fn misspelt(rt: &impl Eprint, name: &str, is_alone: bool) {
+    let _ = eprintln!(rt; "  hint: the question is spelled {name}");
+    if !is_alone {
+        unquoted(rt, name);
+    }
 }
 
 /// No commands, since what is left out would be in none.

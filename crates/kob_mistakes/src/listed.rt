@@ -3,6 +3,7 @@
 use crate::hint::hint_on_bytes;
 use crate::option::option_place;
 use crate::usage::{is_command, is_step};
+use crate::worker::declared_by;
 use bstr::ByteSlice;
 use kob_script::{FaultKind, LineError, words_of};
 use kob_words::{operation_named, pattern_named, permission_named, resource_named};
@@ -83,7 +84,7 @@ pub(crate) fn hint_on_list(text: &[u8], words: &[&[u8]]) -> Option<&'static str>
 fn is_of_scene(words: &[&[u8]]) -> bool {
     match words {
         [who, _, command, ..] if who.contains(&b':') => is_played(command),
-        [first, second, ..] => is_declaration(first) || is_step(second),
+        [first, second, ..] => declared_by(first).is_some() || is_step(second),
         _ => false,
     }
 }
@@ -91,8 +92,4 @@ fn is_of_scene(words: &[&[u8]]) -> bool {
 /// Whether a word is the name of a command other than those that lists may have.
 fn is_played(command: &[u8]) -> bool {
     is_command(command) && command != b"create-acl".as_slice() && command != b"acl".as_slice()
-}
-
-fn is_declaration(first: &[u8]) -> bool {
-    first == b"service".as_slice() || first == b"consumer".as_slice()
 }

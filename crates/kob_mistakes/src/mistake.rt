@@ -2,9 +2,11 @@
 
 use crate::hint::hint_on;
 use crate::place::word_place;
+use crate::record::{before_ending, hint_on_record};
 use crate::spelling::nearest;
 use crate::usage::{form_of, names_at};
 use crate::words::{escape_place, raw_words};
+use crate::worker::{WorkerKind, declared_by, hint_on_worker, stepping_at};
 use bstr::ByteSlice;
 use kob_names::Text;
 use kob_scene_text::{SceneFault, SceneFaultKind};
@@ -35,10 +37,17 @@ pub fn mistake_in<'a>(
     let (line, before) = last_of(&lines);
     let words = raw_words(alloc, line)?;
     let place = place_of(alloc, before, line, &words, fault.kind)?;
-    let nearest = nearest_at(alloc, text, &words, place, fault.kind)?;
+    let stepping = stepping_at(alloc, before, &words, place)?;
+    let nearest = nearest_at(alloc, text, &words, place, fault.kind, stepping)?;
+    let hint = match words.get(place) {
+        Some(word) => hint_on_worker(alloc, before, word, fault.kind)?,
+        None => None,
+    };
     Ok(Mistake {
-        form: form_of(&words),
-        hint: hint_on(text, line, words.len()),
+        form: form_of(&words, stepping),
+        hint: hint
+            .or(hint_on_record(&words, place))
+            .or(hint_on(text, line, words.len())),
         words,
         place,
         nearest,
@@ -82,7 +91,7 @@ fn place_of(
         return Ok(place);
     }
     match words_of(alloc, line) {
-        Ok(words) => word_place(alloc, before, &words, kind),
+        Ok(words) => Ok(before_ending(raw, word_place(alloc, before, &words, kind)?)),
         Err(LineError::Memory(refused)) => Err(refused),
         Err(LineError::Fault(_)) => Ok(0),
     }
@@ -111,13 +120,14 @@ fn nearest_at(
     words: &[&[u8]],
     place: usize,
     kind: SceneFaultKind,
+    stepping: Option<WorkerKind>,
 ) -> Result<Option<Text>, AllocError> {
     let Some(word) = words.get(place).and_then(|word| word.to_str().ok()) else {
         return Ok(None);
     };
     let names = match kind {
         SceneFaultKind::UnknownWorker => workers_of(alloc, text)?,
-        _ => names_at(alloc, words, place)?,
+        _ => names_at(alloc, words, place, stepping)?,
     };
     match nearest(alloc, word, &names)? {
         Some(name) if name != word => Ok(Some(Text::copied(alloc, name)?)),
@@ -131,7 +141,7 @@ fn workers_of(alloc: Global, text: &[u8]) -> Result<Vec<&str>, AllocError> {
     for line in text.lines() {
         let words = raw_words(alloc, line)?;
         if let [first, name, ..] = words.as_slice() {
-            if *first == b"service".as_slice() || *first == b"consumer".as_slice() {
+            if declared_by(first).is_some() {
                 if let Ok(name) = name.to_str() {
                     names.push(name)?;
                 }

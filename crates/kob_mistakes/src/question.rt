@@ -181,6 +181,25 @@ pub fn begins_question(word: &[u8]) -> bool {
     question_named(word).is_some()
 }
 
+/// The question whose first word is nearest to a word, if one is near, and whether it has that word
+/// alone.
+pub fn nearest_question(
+    alloc: Global,
+    word: &str,
+) -> Result<Option<(&'static str, bool)>, AllocError> {
+    let mut names = Vec::new(alloc);
+    for question in QUESTIONS.iter() {
+        names.push(question.name)?;
+    }
+    let found = nearest(alloc, word, &names)?;
+    Ok(found.map(|name| (name, is_alone(name))))
+}
+
+/// Whether a question is of one word.
+fn is_alone(name: &str) -> bool {
+    question_named(name.as_bytes()).is_some_and(|question| question.form == question.name)
+}
+
 /// The kind of question that a word begins.
 fn question_named(name: &[u8]) -> Option<&'static Question> {
     QUESTIONS

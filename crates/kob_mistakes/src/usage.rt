@@ -1,5 +1,6 @@
 //! The forms of lines, as the pages show them, and the words that lines are made of.
 
+use crate::worker::WorkerKind;
 use std::alloc::{AllocError, Global};
 
 /// The names of commands, with what follows each.
@@ -59,7 +60,7 @@ static LINES: [(&str, &str); 8] = [
     ),
     (
         "consumer",
-        "consumer NAME PRINCIPAL HOST group GROUP max N [start latest] [commits before|no dedup] reads TOPIC:PARTITION ..",
+        "consumer NAME PRINCIPAL HOST group GROUP max N [start latest] [commits before|no dedup] [reads TOPIC:PARTITION ..]",
     ),
     ("journal", "journal"),
     ("law", "law SERVICE CONSUMER"),
@@ -70,19 +71,26 @@ static LINES: [(&str, &str); 8] = [
     ),
 ];
 
-/// The steps of workers.
-static STEPS: [(&str, &str); 9] = [
+/// The steps of services.
+static SERVICE_STEPS: [(&str, &str); 8] = [
     (
         "record",
         "NAME record ID AGGREGATETYPE AGGREGATEID TYPE PAYLOAD KIND KEY STATE [crash|late]",
     ),
-    ("business", "NAME business KIND KEY"),
     ("tick", "NAME tick [lose-request|lose-reply]"),
     ("run", "NAME run"),
     ("restart", "NAME restart"),
     ("sweep", "NAME sweep"),
     ("outbox", "NAME outbox"),
+    ("business", "NAME business KIND KEY"),
     ("visible", "NAME visible"),
+];
+
+/// The steps of consumers.
+static CONSUMER_STEPS: [(&str, &str); 4] = [
+    ("tick", "NAME tick [lose-request|lose-reply]"),
+    ("run", "NAME run"),
+    ("restart", "NAME restart"),
     ("inbox", "NAME inbox"),
 ];
 
@@ -191,22 +199,37 @@ pub(crate) fn is_keyword(word: &[u8]) -> bool {
 
 /// Whether a word is the name of a step.
 pub(crate) fn is_step(word: &[u8]) -> bool {
-    form_in(&STEPS, word).is_some()
+    form_of_step(word).is_some()
+}
+
+/// The form of a line whose step has this name, if there is such a step.
+fn form_of_step(name: &[u8]) -> Option<&'static str> {
+    form_in(&SERVICE_STEPS, name).or(form_in(&CONSUMER_STEPS, name))
+}
+
+/// The form of any step of such a worker.
+fn steps_form(kind: WorkerKind) -> &'static str {
+    match kind {
+        WorkerKind::Service =>
+            "a step of a service: record, tick, run, restart, sweep, outbox or business; with visible late also visible",
+        WorkerKind::Consumer => "a step of a consumer: tick, run, restart or inbox",
+    }
 }
 
 /// The form of a line, by the word that says what it is: the command of a request, the first word
-/// of a declaration or a setting, or the word after a worker's name. The general form if there is
-/// no such word.
-pub(crate) fn form_of(words: &[&[u8]]) -> &'static str {
+/// of a declaration or a setting, or the word after a worker's name. If that is no step of the
+/// worker, it is the form of such a worker's steps. The general form if there is no such word.
+pub(crate) fn form_of(words: &[&[u8]], stepping: Option<WorkerKind>) -> &'static str {
+    if let Some(kind) = stepping {
+        return steps_form(kind);
+    }
     match words {
         [first, ..] if form_in(&LINES, first).is_some() => form_in(&LINES, first).unwrap_or(""),
         [first, _, command, ..] if first.contains(&b':') => {
             form_in(&REQUESTS, command).unwrap_or("PRINCIPAL HOST COMMAND ..")
         }
         [first, ..] if first.contains(&b':') => "PRINCIPAL HOST COMMAND ..",
-        [_, step, ..] => form_in(&STEPS, step).unwrap_or(
-            "PRINCIPAL HOST COMMAND .. or NAME STEP ..",
-        ),
+        [_, step, ..] => form_of_step(step).unwrap_or("PRINCIPAL HOST COMMAND .. or NAME STEP .."),
         _ => "PRINCIPAL HOST COMMAND .. or NAME STEP ..",
     }
 }
@@ -216,15 +239,35 @@ pub(crate) fn names_at(
     alloc: Global,
     words: &[&[u8]],
     place: usize,
+    stepping: Option<WorkerKind>,
 ) -> Result<Vec<&'static str>, AllocError> {
+    if let Some(kind) = stepping {
+        return names_of_steps(alloc, kind);
+    }
     let is_request = words.first().is_some_and(|first| first.contains(&b':'));
     match (is_request, place) {
         (true, 2) => names_of(alloc, &REQUESTS),
         (true, _) => copied(alloc, &WORDS),
         (false, 0) => names_of(alloc, &LINES),
-        (false, 1) => names_of(alloc, &STEPS),
+        (false, 1) => names_of_each_step(alloc),
         (false, _) => copied(alloc, &PARTS),
     }
+}
+
+fn names_of_steps(alloc: Global, kind: WorkerKind) -> Result<Vec<&'static str>, AllocError> {
+    match kind {
+        WorkerKind::Service => names_of(alloc, &SERVICE_STEPS),
+        WorkerKind::Consumer => names_of(alloc, &CONSUMER_STEPS),
+    }
+}
+
+/// The names of the steps of both kinds of workers.
+fn names_of_each_step(alloc: Global) -> Result<Vec<&'static str>, AllocError> {
+    let mut names = names_of_steps(alloc, WorkerKind::Service)?;
+    for (name, _) in CONSUMER_STEPS {
+        names.push(name)?;
+    }
+    Ok(names)
 }
 
 /// The names of forms.

@@ -4,7 +4,7 @@ use Rattle.kob_outbox.specs.Contents.{Key, first_bad_of_change, with_state}
 use Rattle.kob_outbox.specs.declared.fault.RecordFault.TheVariants as faults
 use Rattle.kob_scene_play.specs.Steps.{Crashes, IsPrinted, IsServiceChange, Tells, crashed, hides}
 use Rattle.kob_scene_text.specs.PrintedRows.{recorded_text}
-use Rattle.kob_scene_text.specs.declared.scene.Recording.TheVariants.{Late}
+use Rattle.kob_scene_text.specs.declared.scene.Recording.TheVariants.{Late, Whole}
 use Rattle.kob_scene_text.specs.declared.scene.ServiceStep.TheVariants as service_steps
 
 pub first_after_record : (hand : Option Hand) (old new : Contents) (change : Change) (event : OutboxEvent)
@@ -56,6 +56,16 @@ crashes change event old new (Err (faults.BadField column)) ok good err bad dupl
 crashes change event old new (Err faults.DuplicateId) ok good err bad duplicate = duplicate refl
 crashes change event old new (Err (faults.Memory e)) ok good err bad duplicate = err
 crashes change event old new (Err faults.Store) ok good err bad duplicate = err
+
+-- what was recorded is printed
+pub recorded_whole : {E : Type 0} (result : Result (Unit {0}) E) (change : Change) (event : OutboxEvent)
+    (old new : Service) (answer : Result ℕ RecordFault) (told then_told : ℕ) (held now : List ℕ)
+    → Records change event old new answer
+    → OnOk result (Tells (IsPrinted (recorded_text answer) told then_told) held now)
+    → OnOk result (Tells (IsServiceChange (service_steps.Record change event Whole) old new told then_told) held now)
+recorded_whole (Ok done) change event old new answer told then_told held now recorded (text, printed, is) =
+    (text, (answer, recorded, printed), is)
+recorded_whole (Err fault) change event old new answer told then_told held now recorded printed = tt
 
 -- what was recorded is hidden, and printed
 pub recorded_late : {E : Type 0} (result : Result (Unit {0}) E) (change : Change) (event : OutboxEvent)

@@ -1,5 +1,5 @@
 -- Services that send otherwise than the proved router.
-use Rattle.kob_scene_play.proofs.Words.{ArePassedOn, Call, Contents, Journals, List, Loss, None, Option, PassesCallsOn, Record, Service, Some, [], ap, inl, inr, map, map-append, refl, subst, ℕ, ◌++◌, ◌∙◌, ◌∷◌, ◌≡◌}
+use Rattle.kob_scene_play.proofs.Words.{ArePassedOn, Bool, Call, Contents, Journals, List, Loss, None, Option, PassesCallsOn, Record, Service, Some, [], ap, false, inl, inr, map, map-append, refl, subst, true, ℕ, ◌++◌, ◌∙◌, ◌∷◌, ◌≡◌}
 use Rattle.kob_lines.proofs.Adding as adding
 use Rattle.kob_lines.specs.Calls.{IsHeardOf, IsServedIfHeard, reply_of}
 use Rattle.kob_outbox.specs.Contents.{Event, stored_row}
@@ -11,7 +11,7 @@ use Rattle.kob_rights.specs.declared.request.Request.TheVariants.{Produce}
 use Rattle.kob_router.specs.Run.{next_row}
 use Rattle.kob_router.specs.declared.line.Delivery.{Delivery}
 use Rattle.kob_router.specs.declared.tick.Tick.{Tick}
-use Rattle.kob_scene_play.specs.Services.{GoesOn, IsRouterTick, IsSeenTick, bare, bare_call, mark_past, past_first, sent_bare, sent_by}
+use Rattle.kob_scene_play.specs.Services.{GoesOn, IsRouterTick, IsSeenTick, asked_as, bare, bare_call, mark_past, past_first, sent_as, sent_bare, sent_by}
 use Rattle.kob_scene_text.specs.declared.scene.Sending.{Sending}
 use Rattle.kob_shared.specs.Journals.{after_event, event_by, outcome_of}
 
@@ -32,19 +32,34 @@ past_some old mid new row some same moved =
 -- ---- without producer ids
 
 -- a reply to a request without a producer id is one to the request
-pub fits_whole : (request : Request) (reply : Reply) → Fits (bare request) reply → Fits request reply
+fits_whole : (request : Request) (reply : Reply) → Fits (bare request) reply → Fits request reply
 fits_whole (Produce asked) reply fits = fits
 fits_whole request reply fits = fits
 
--- a call that was served without a producer id is in the journal so
-pub one_call_is_journaled : (worker : ℕ) (principal host : List ℕ) (calls then_calls : List Call) (r new : Record)
+-- nor is one that is sent so
+pub fits_asked : (is_bare : Bool) (request : Request) (reply : Reply) → Fits (asked_as is_bare request) reply
+    → Fits request reply
+fits_asked true request reply fits = fits_whole request reply fits
+fits_asked false request reply fits = fits
+
+-- no call is none, however it is sent
+pub none_sent : (is_bare : Bool) → sent_as is_bare [] ≡ []
+none_sent true = refl
+none_sent false = refl
+
+-- a call that was served as it was sent is in the journal so
+pub one_call_is_journaled : (is_bare : Bool) (worker : ℕ) (principal host : List ℕ) (calls then_calls : List Call) (r new : Record)
     (request : Request) (there : Option Reply) (delivery : Delivery)
-    → IsServedIfHeard r (after_event r worker (event_by principal host (bare request))) new
-    (outcome_of r (event_by principal host (bare request))).reply there
+    → IsServedIfHeard r (after_event r worker (event_by principal host (asked_as is_bare request))) new
+    (outcome_of r (event_by principal host (asked_as is_bare request))).reply there
     → IsHeardOf there delivery
     → then_calls ≡ calls ++ record { request = request; heard = reply_of delivery } ∷ []
-    → Journals worker principal host (sent_bare calls) (sent_bare then_calls) r new
-one_call_is_journaled worker principal host calls then_calls r new request there delivery served told noted =
+    → Journals worker principal host (sent_as is_bare calls) (sent_as is_bare then_calls) r new
+one_call_is_journaled false worker principal host calls then_calls r new request there delivery served told noted =
+    let event = event_by principal host request in
+    adding.one_call_is_journaled worker principal host calls then_calls r new request delivery
+    (adding.served_if_told r (after_event r worker event) new (outcome_of r event).reply there delivery served told) noted
+one_call_is_journaled true worker principal host calls then_calls r new request there delivery served told noted =
     let event = event_by principal host (bare request) in
     let last : List Call = record { request = request; heard = reply_of delivery } ∷ [] in
     adding.one_call_is_journaled worker principal host (map bare_call calls) (map bare_call then_calls) r new
@@ -62,7 +77,7 @@ bare_are_passed_on (c ∷ cs) (b ∷ bs) (inr (same, heard, passed)) =
     inr (ap bare same, heard, bare_are_passed_on cs bs passed)
 
 -- calls that are passed on are so without producer ids
-pub passes_bare : (calls then_calls below then_below : List Call) → PassesCallsOn calls then_calls below then_below
+passes_bare : (calls then_calls below then_below : List Call) → PassesCallsOn calls then_calls below then_below
     → PassesCallsOn (sent_bare calls) (sent_bare then_calls) (sent_bare below) (sent_bare then_below)
 passes_bare calls then_calls below then_below passes = record {
   made = map bare_call passes.made;
@@ -71,6 +86,14 @@ passes_bare calls then_calls below then_below passes = record {
   beneath = ap (map bare_call) passes.beneath ∙ map-append bare_call below passes.passed;
   are_passed = bare_are_passed_on passes.made passes.passed passes.are_passed;
 }
+
+-- and as they are sent
+pub passes_sent : (is_bare : Bool) (calls then_calls below then_below : List Call)
+    → PassesCallsOn calls then_calls below then_below
+    → PassesCallsOn (sent_as is_bare calls) (sent_as is_bare then_calls) (sent_as is_bare below)
+    (sent_as is_bare then_below)
+passes_sent true calls then_calls below then_below passes = passes_bare calls then_calls below then_below passes
+passes_sent false calls then_calls below then_below passes = passes
 
 -- ---- a whole tick
 

@@ -100,6 +100,11 @@ abbrev pub bare : Request → Request
 bare (Produce asked) = Produce (record asked { batch = record asked.batch { idem = None } })
 bare request = request
 
+-- as the broker gets it: without the producer id, or as it is
+abbrev pub asked_as : Bool → Request → Request
+asked_as true request = bare request
+asked_as false request = request
+
 abbrev pub bare_call : Call → Call
 bare_call call = record { request = bare call.request; heard = call.heard }
 
@@ -109,6 +114,10 @@ sent_whole calls = calls
 
 abbrev pub sent_bare : List Call → List Call
 sent_bare calls = map bare_call calls
+
+abbrev pub sent_as : Bool → List Call → List Call
+sent_as true = sent_bare
+sent_as false = sent_whole
 
 abbrev pub sent_by : Sending → List Call → List Call
 sent_by Proved = sent_whole

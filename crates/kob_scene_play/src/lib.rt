@@ -3,10 +3,10 @@
 #![tactic(auto)]
 
 mod ask;
-mod bare_line;
 mod check;
 mod commits_before;
 mod consumer_steps;
+mod consumer_turn;
 mod consumer_worker;
 mod every;
 mod expect;
@@ -22,7 +22,9 @@ mod output;
 mod page;
 mod playing;
 mod poll;
+mod sent_line;
 mod service_steps;
+mod service_turn;
 mod service_worker;
 mod skip;
 mod stage;

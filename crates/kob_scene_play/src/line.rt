@@ -5,9 +5,9 @@ ghost use Rattle.kob_inbox.specs.Tick as consumer_ticks;
 ghost use Rattle.kob_lines.specs.Calls.{Journals, PassesCallsOn};
 ghost use Rattle.kob_router.specs.Run.{dispatch_of};
 ghost use Rattle.kob_router.specs.Tick.{IsFirst, IsOneTick, Ticks, hand_of, point_of};
-ghost use Rattle.kob_scene_play.specs.Services.{sent_bare};
+ghost use Rattle.kob_scene_play.specs.Services.{sent_as};
 
-use crate::bare_line::BareLine;
+use crate::sent_line::SentLine;
 use kob_inbox::{Consumer, Inbox, Tick as ConsumerTick};
 use kob_lines::{Lossy, RecordedLine};
 use kob_outbox::Outbox;
@@ -19,30 +19,7 @@ pub(crate) fn send_over(
     router: &mut Router,
     alloc: Global,
     outbox: &mut Outbox,
-    line: &mut Lossy<RecordedLine<'_>>,
-) -> ServiceTick
-    requires { IsFirst (option_map hand_of router.old.hand) outbox.old }
-    ensures same_broker { line.new.line.recorded.ghost_name ≡ line.old.line.recorded.ghost_name }
-    ensures same { router.new.target ≡ router.old.target }
-    ensures done { Ticks IsOneTick (dispatch_of router.old.target)
-        (point_of router.old outbox.old line.old.calls.made.items line.old.calls.unmade)
-        (point_of router.new outbox.new line.new.calls.made.items line.new.calls.unmade) result }
-    ensures first { IsFirst (option_map hand_of router.new.hand) outbox.new }
-    ensures passed { PassesCallsOn line.old.calls.made.items line.new.calls.made.items
-        line.old.line.calls.made.items line.new.line.calls.made.items }
-    ensures journaled { Journals line.old.line.worker line.old.line.principal line.old.line.host
-        line.old.line.calls.made.items line.new.line.calls.made.items
-        line.old.line.recorded.now line.new.line.recorded.now }
-{
-    router.tick(alloc, outbox, line)
-}
-
-/// One step of a router over a line without producer ids.
-pub(crate) fn send_bare_over(
-    router: &mut Router,
-    alloc: Global,
-    outbox: &mut Outbox,
-    line: &mut Lossy<BareLine<'_>>,
+    line: &mut Lossy<SentLine<'_>>,
 ) -> ServiceTick
     requires { IsFirst (option_map hand_of router.old.hand) outbox.old }
     ensures same_broker { line.new.line.line.recorded.ghost_name
@@ -55,8 +32,8 @@ pub(crate) fn send_bare_over(
     ensures passed { PassesCallsOn line.old.calls.made.items line.new.calls.made.items
         line.old.line.calls.made.items line.new.line.calls.made.items }
     ensures journaled { Journals line.old.line.line.worker line.old.line.line.principal
-        line.old.line.line.host (sent_bare line.old.line.calls.made.items)
-        (sent_bare line.new.line.calls.made.items)
+        line.old.line.line.host (sent_as line.old.line.is_bare line.old.line.calls.made.items)
+        (sent_as line.old.line.is_bare line.new.line.calls.made.items)
         line.old.line.line.recorded.now line.new.line.line.recorded.now }
 {
     router.tick(alloc, outbox, line)

@@ -75,7 +75,6 @@ fn record_as<'s>(
 }
 
 /// Records an event with its change.
-#[tactic(auto, using(crate::proofs::Kept::records))]
 fn record<'s>(
     service: &mut ServiceWorker<'s>,
     change: &Change,
@@ -87,17 +86,7 @@ fn record<'s>(
         out.old.told out.new.told) out.old.text.items out.new.text.items) }
 {
     let recorded = service.record(change, event);
-    match recorded {
-        Ok(_) => {}
-        Err(RecordFault::Memory(refused)) => return Err(PlayFault::Memory(refused)),
-        Err(RecordFault::Store) => return Err(PlayFault::Store),
-        Err(RecordFault::BadField(_)) => {}
-        Err(RecordFault::DuplicateId) => {}
-    }
-    let number = out.number();
-    print_recorded(&mut out.text, number, recorded)?;
-    out.tell();
-    Ok(())
+    print_record(recorded, out)
 }
 
 /// Records an event with its change. Its row is hidden.

@@ -5,17 +5,13 @@ ghost use Rattle.std.specs.Prelude.{length, map, option_map, string_bytes};
 ghost use Rattle.kob_outbox.specs.Contents.{empty, id_text, stored_row, first_bad};
 ghost use Rattle.kob_outbox.specs.Contents.{first_after, state_at, up_to, is_recorded, next_seq};
 ghost use Rattle.kob_router.specs.Run.Move.{Recorded as RecordedMove, Restarted, Swept};
-ghost use Rattle.kob_scene_play.specs.Services.{Does, GivesUp, GoesOn, IsRouterTick, IsSeenTick};
-ghost use Rattle.kob_scene_play.specs.Services.{IsServiceTick, IsTickOfService, Skips, StartsAgain};
-ghost use Rattle.kob_scene_play.specs.Services.{is_repeat, sent_bare, sent_by, sent_whole};
+ghost use Rattle.kob_scene_play.specs.Services.{Does, IsSeenTick, IsServiceTick};
+ghost use Rattle.kob_scene_play.specs.Services.{IsTickOfService, is_repeat};
 
-use crate::bare_line::BareLine;
-use crate::fault::{PlayFault, has_loss, line_fault, loses_first, stop_of_service, unless};
-use crate::line::{send_bare_over, send_over};
+use crate::fault::{PlayFault, has_loss};
 use crate::poll::Poll;
-use crate::skip::skip_first;
-use kob_lines::{Calls, Loss, Lossy, RecordedLine};
-use kob_names::{Host, PlainValue, Principal};
+use kob_lines::Loss;
+use kob_names::{Host, Principal};
 use kob_outbox::{Change, Outbox, OutboxEvent, OutboxFault, RecordFault, Row};
 use kob_router::{Router, Target, Tick};
 use kob_scene_text::Sending;
@@ -28,9 +24,9 @@ use std::marker::Model;
 /// numbers of its hidden rows.
 #[derive(Drop)]
 pub struct ServiceWorker<'s> {
-    worker: usize,
-    principal: Principal,
-    host: Host,
+    pub(crate) worker: usize,
+    pub(crate) principal: Principal,
+    pub(crate) host: Host,
     pub(crate) sending: Sending,
     pub(crate) router: Router,
     pub(crate) outbox: Outbox,
@@ -206,160 +202,6 @@ impl<'s> ServiceWorker<'s> {
                 Err(fault)
             }
         }
-    }
-
-    /// One step of the router.
-    fn send(
-        &mut self,
-        alloc: Global,
-        recorded: &mut Recorded,
-        sending: Sending,
-        loss: Loss,
-    ) -> Result<Tick, PlayFault>
-        ensures { IfOk result (IsRouterTick (sent_by sending) loss self.old self.new recorded.old
-            recorded.new) }
-    {
-        match sending {
-            Sending::Proved => self.send_whole(alloc, recorded, loss),
-            Sending::RetriesNew => self.send_whole(alloc, recorded, loss),
-            Sending::DeletesFirst => self.send_whole(alloc, recorded, loss),
-            Sending::NotIdempotent => self.send_bare(alloc, recorded, loss),
-            Sending::Separate => self.send_whole(alloc, recorded, loss),
-            Sending::VisibleLate => self.send_whole(alloc, recorded, loss),
-        }
-    }
-
-    /// One step of the router, whose calls are served as they are.
-    fn send_whole(
-        &mut self,
-        alloc: Global,
-        recorded: &mut Recorded,
-        loss: Loss,
-    ) -> Result<Tick, PlayFault>
-        ensures { IfOk result (IsRouterTick sent_whole loss self.old self.new recorded.old
-            recorded.new) }
-    {
-        let principal = self.principal.copy(alloc)?;
-        let host = self.host.copy(alloc)?;
-        let line = RecordedLine::open(alloc, recorded, self.worker, principal, host);
-        let calls = Calls::new(alloc);
-        let mut line = Lossy { line, loss, calls };
-        let tick = send_over(&mut self.router, alloc, &mut self.outbox, &mut line);
-        let fault = stop_of_service(&tick).or(line_fault(line.calls.fault, line.line.calls.fault));
-        let is_lost = loses_first(loss, &line.calls.made);
-        let Lossy {
-            line,
-            loss: _,
-            calls,
-        } = line;
-        let RecordedLine {
-            recorded,
-            worker: _,
-            principal,
-            host,
-            calls: below,
-        } = line;
-        drop((calls, below));
-        drop((principal, host));
-        let _ = *recorded;
-        let tick = unless(fault, is_lost, tick)?;
-        Ok(tick)
-    }
-
-    /// One step of the router, whose calls are served without producer ids.
-    fn send_bare(
-        &mut self,
-        alloc: Global,
-        recorded: &mut Recorded,
-        loss: Loss,
-    ) -> Result<Tick, PlayFault>
-        ensures { IfOk result (IsRouterTick sent_bare loss self.old self.new recorded.old
-            recorded.new) }
-    {
-        let principal = self.principal.copy(alloc)?;
-        let host = self.host.copy(alloc)?;
-        let line = RecordedLine::open(alloc, recorded, self.worker, principal, host);
-        let between = Calls::new(alloc);
-        let line = BareLine {
-            line,
-            calls: between,
-        };
-        let calls = Calls::new(alloc);
-        let mut line = Lossy { line, loss, calls };
-        let tick = send_bare_over(&mut self.router, alloc, &mut self.outbox, &mut line);
-        let fault = stop_of_service(&tick).or(line_fault(line.calls.fault, line.line.calls.fault));
-        let is_lost = loses_first(loss, &line.calls.made);
-        let Lossy {
-            line,
-            loss: _,
-            calls,
-        } = line;
-        let BareLine {
-            line,
-            calls: between,
-        } = line;
-        let RecordedLine {
-            recorded,
-            worker: _,
-            principal,
-            host,
-            calls: below,
-        } = line;
-        drop((calls, between, below));
-        drop((principal, host));
-        let _ = *recorded;
-        let tick = unless(fault, is_lost, tick)?;
-        Ok(tick)
-    }
-
-    /// What is done after a step of the router.
-    fn go_on(&mut self, sending: Sending, tick: &Tick) -> Result<(), PlayFault>
-        ensures { OnOk result (GoesOn sending tick.now self.old self.new) }
-    {
-        match sending {
-            Sending::Proved => Ok(()),
-            Sending::RetriesNew => self.start_again(tick),
-            Sending::DeletesFirst => self.give_up(tick),
-            Sending::NotIdempotent => Ok(()),
-            Sending::Separate => Ok(()),
-            Sending::VisibleLate => Ok(()),
-        }
-    }
-
-    /// Restarts the router after a call that was lost.
-    fn start_again(&mut self, tick: &Tick) -> Result<(), PlayFault>
-        ensures { OnOk result (StartsAgain tick.now self.old self.new) }
-    {
-        match tick {
-            Tick::Moved(_) => Ok(()),
-            Tick::Idle => Ok(()),
-            Tick::Repeat => {
-                self.restart();
-                Ok(())
-            }
-            Tick::Stopped(_) => Ok(()),
-        }
-    }
-
-    /// Gives a row up that was not acknowledged.
-    fn give_up(&mut self, tick: &Tick) -> Result<(), PlayFault>
-        ensures { OnOk result (GivesUp tick.now self.old self.new) }
-    {
-        match tick {
-            Tick::Moved(_) => Ok(()),
-            Tick::Idle => Ok(()),
-            Tick::Repeat => self.skip(),
-            Tick::Stopped(_) => self.skip(),
-        }
-    }
-
-    /// Restarts the router, and moves the mark past the first row after it.
-    fn skip(&mut self) -> Result<(), PlayFault>
-        ensures { OnOk result (Skips self.old self.new) }
-    {
-        self.router.restart();
-        skip_first(&mut self.outbox)?;
-        Ok(())
     }
 
     /// Restarts the router. The outbox is unchanged. Does not allocate.

@@ -3,8 +3,8 @@ use Rattle.kob_lines.specs.Calls.{reply_of}
 use Rattle.kob_lines.specs.Joined.{no_call_is_journaled}
 use Rattle.kob_rights.specs.declared.request.Request.{Request}
 use Rattle.kob_scene_play.proofs.Services.{one_call_is_journaled}
-use Rattle.kob_scene_play.specs.Services.{sent_bare}
-use Rattle.kob_scene_play.proofs.bare_line.BareLineLine.send.Goals as goal
+use Rattle.kob_scene_play.specs.Services.{sent_as}
+use Rattle.kob_scene_play.proofs.sent_line.SentLineLine.send.Goals as goal
 
 pub returns-in_default-clause-line : goal.returns-in_default-clause-line
 returns-in_default-clause-line c =
@@ -13,9 +13,10 @@ returns-in_default-clause-line c =
       refl,
       refl,
       refl,
-      subst (λ calls. Journals was.line.worker was.line.principal was.line.host (sent_bare was.calls.made.items)
-          (sent_bare calls) was.line.recorded.now was.line.recorded.now) (sym c.room_for.ensures.made)
-          (no_call_is_journaled was.line.worker was.line.principal was.line.host (sent_bare was.calls.made.items)
+      refl,
+      subst (λ calls. Journals was.line.worker was.line.principal was.line.host (sent_as was.is_bare was.calls.made.items)
+          (sent_as was.is_bare calls) was.line.recorded.now was.line.recorded.now) (sym c.room_for.ensures.made)
+          (no_call_is_journaled was.line.worker was.line.principal was.line.host (sent_as was.is_bare was.calls.made.items)
           was.line.recorded.now),
     )
 
@@ -29,11 +30,12 @@ returns-clause-line c =
     ∙ ap (λ (calls : List Call). calls ++ record { request = c.in-Some.noted; heard = told } ∷ [])
     (ap (λ made. made.items) heard.made ∙ c.room_for.ensures.made)
     ∙ ap (λ (r : Request). was.calls.made.items ++ record { request = r; heard = told } ∷ []) c.in-Some.ensures.same in (
+      heard.bare,
       heard.same_broker,
       heard.worker,
       heard.principal,
       heard.host,
-      one_call_is_journaled was.line.worker was.line.principal was.line.host was.calls.made.items
+      one_call_is_journaled was.is_bare was.line.worker was.line.principal was.line.host was.calls.made.items
           c.note.new.self.made.items was.line.recorded.now c.hear-heard.new.self.line.recorded.now c.args.request
           c.hear-heard.result c.note.result heard.served c.note.ensures.heard noted,
     )

@@ -1,0 +1,178 @@
+//! One step of a consumer, by how it takes in.
+
+ghost use Rattle.std.specs.Prelude.{◌≡◌, IfOk, OnOk};
+ghost use Rattle.kob_scene_play.specs.Faults.{stop_of_consumer};
+ghost use Rattle.kob_scene_play.specs.Steps.{IsAheadTick, IsCalled, IsOwnTick, IsTakingTick};
+ghost use Rattle.kob_scene_play.specs.Takings.{asked_event, inbox_by, inbox_with};
+ghost use Rattle.kob_scene_text.specs.declared.scene.Taking.TheVariants.{CommitsBefore};
+
+use crate::ask::{ask, event_of};
+use crate::commits_before::{handle_reply, take_held};
+use crate::consumer_worker::ConsumerWorker;
+use crate::fault::{PlayFault, line_fault, loses_first, unless};
+use crate::holding::asked_next;
+use crate::line::take_over;
+use kob_inbox::{StopReason, Tick};
+use kob_lines::{Calls, Loss, Lossy, RecordedLine};
+use kob_names::PlainValue;
+use kob_rights::Event;
+use kob_router::Call;
+use kob_scene_text::Taking;
+use kob_shared::Recorded;
+use std::alloc::{AllocError, Global};
+
+impl ConsumerWorker {
+    /// One step by how it takes in.
+    pub(crate) fn take_turn(
+        &mut self,
+        alloc: Global,
+        recorded: &mut Recorded,
+        taking: Taking,
+        loss: Loss,
+    ) -> Result<Tick, PlayFault>
+        requires { self.old.taking ≡ taking }
+        ensures { IfOk result
+            (IsTakingTick taking loss self.old self.new recorded.old recorded.new) }
+    {
+        match taking {
+            Taking::Proved => self.go_on(alloc, recorded, loss),
+            Taking::CommitsBefore => self.go_ahead(alloc, recorded, loss),
+            Taking::NoDedup => self.go_on(alloc, recorded, loss),
+        }
+    }
+
+    /// One step of the consumer itself. What its calls brought is noted if it is without dedup.
+    #[tactic(auto, using(crate::proofs::Ticking::calls_noted))]
+    fn go_on(
+        &mut self,
+        alloc: Global,
+        recorded: &mut Recorded,
+        loss: Loss,
+    ) -> Result<Tick, PlayFault>
+        ensures { IfOk result (IsOwnTick loss self.old self.new recorded.old recorded.new) }
+    {
+        let (tick, calls) = self.tick_over(alloc, recorded, loss)?;
+        match self.note(alloc, &calls) {
+            Ok(()) => Ok(tick),
+            Err(refused) => {
+                drop(tick);
+                Err(PlayFault::Memory(refused))
+            }
+        }
+    }
+
+    /// Takes in each record that calls brought, if it is without dedup.
+    fn note(&mut self, alloc: Global, calls: &[Call]) -> Result<(), AllocError>
+        ensures { OnOk result (self.new ≡ record self.old {
+          inbox = inbox_with self.old.taking self.old.inbox calls.now;
+        }) }
+    {
+        match self.taking {
+            Taking::Proved => Ok(()),
+            Taking::CommitsBefore => Ok(()),
+            Taking::NoDedup => self.every.take_in(alloc, calls),
+        }
+    }
+
+    /// One step of the consumer itself, with its calls.
+    fn tick_over(
+        &mut self,
+        alloc: Global,
+        recorded: &mut Recorded,
+        loss: Loss,
+    ) -> Result<(Tick, Vec<Call>), PlayFault>
+        ensures called { IfOk result (λ told. IsCalled loss self.old self.new recorded.old
+            recorded.new told.1.items told.0) }
+        ensures inbox { self.new.inbox ≡ inbox_by self.old.taking self.new.own self.old.inbox }
+    {
+        let principal = self.principal.copy(alloc)?;
+        let host = self.host.copy(alloc)?;
+        let line = RecordedLine::open(alloc, recorded, self.worker, principal, host);
+        let calls = Calls::new(alloc);
+        let mut line = Lossy { line, loss, calls };
+        let tick = take_over(&mut self.consumer, alloc, &mut self.inbox, &mut line);
+        let fault = stopped_by(&tick).or(line_fault(line.calls.fault, line.line.calls.fault));
+        let is_lost = loses_first(loss, &line.calls.made);
+        let Lossy {
+            line,
+            loss: _,
+            calls,
+        } = line;
+        let RecordedLine {
+            recorded,
+            worker: _,
+            principal,
+            host,
+            calls: below,
+        } = line;
+        drop(below);
+        drop((principal, host));
+        let _ = *recorded;
+        let Calls {
+            made,
+            unmade: _,
+            fault: _,
+        } = calls;
+        let told = unless(fault, is_lost, (tick, made))?;
+        Ok(told)
+    }
+
+    /// One step of a consumer that commits before it takes in.
+    fn go_ahead(
+        &mut self,
+        alloc: Global,
+        recorded: &mut Recorded,
+        loss: Loss,
+    ) -> Result<Tick, PlayFault>
+        requires { self.old.taking ≡ CommitsBefore }
+        ensures { IfOk result (IsAheadTick loss self.old self.new recorded.old recorded.new) }
+    {
+        let Some(event) = self.asked_next(alloc)? else {
+            return take_held(
+                alloc,
+                &mut self.consumer,
+                &mut self.inbox,
+                &mut self.holding,
+            );
+        };
+        match ask(alloc, recorded, self.worker, loss, &event) {
+            Ok(heard) => {
+                handle_reply(
+                    alloc,
+                    &mut self.consumer,
+                    &mut self.inbox,
+                    &mut self.holding,
+                    event,
+                    heard,
+                )
+            }
+            Err(fault) => {
+                drop(event);
+                Err(PlayFault::from(fault))
+            }
+        }
+    }
+
+    /// The next request, as it is asked.
+    fn asked_next(&self, alloc: Global) -> Result<Option<Event>, AllocError>
+        ensures { IfOk result (λ event. event ≡ asked_event self.now.principal self.now.host
+            self.now.fetcher self.now.holding) }
+    {
+        let Some(request) = asked_next(alloc, &self.consumer, &self.holding)? else {
+            return Ok(None);
+        };
+        let event = event_of(alloc, &self.principal, &self.host, request)?;
+        Ok(Some(event))
+    }
+}
+
+/// Why a tick stopped that ran out of memory or whose database failed.
+fn stopped_by(tick: &Tick) -> Option<PlayFault>
+    ensures { result ≡ stop_of_consumer tick.now }
+{
+    match tick {
+        Tick::Stopped(StopReason::Memory(refused)) => Some(PlayFault::Memory(*refused)),
+        Tick::Stopped(StopReason::Store) => Some(PlayFault::Store),
+        _ => None,
+    }
+}
