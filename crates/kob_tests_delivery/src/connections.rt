@@ -1,42 +1,16 @@
-//! A line of one's own: its requests go over a channel to the thread that has the broker.
+//! Calls over a line of one's own, to a broker in another thread.
 
 use crate::making::{asker, recorded};
-use crossbeam_channel::{Receiver, Sender, bounded};
+use crate::remote::{Local, Remote};
+use crossbeam_channel::{Sender, bounded};
 use kob_embedding::{Part, is_served};
-use kob_lines::{Connection, IntoCalls, Serve};
+use kob_lines::{Connection, IntoCalls};
 use kob_rights::{Event, Reply, Request};
 use kob_router::{Call, Line};
 use kob_shared::Recorded;
 use std::alloc::Global;
 use std::sync::Wait;
 use std::thread::{Threads, join};
-
-/// The way to the thread that has the broker, and the way back.
-#[derive(Drop)]
-struct Remote<'a, R: Wait> {
-    rt: &'a R,
-    requests: Sender<Request>,
-    replies: Receiver<Reply>,
-}
-
-impl<'a, R: Wait> Serve for Remote<'a, R> {
-    fn serve(&mut self, _alloc: Global, request: Request) -> Option<Reply> {
-        match self.requests.send(self.rt, request) {
-            Ok(()) => self.replies.recv(self.rt).ok(),
-            Err(unsent) => {
-                drop(unsent);
-                None
-            }
-        }
-    }
-}
-
-/// The other ends.
-#[derive(Drop)]
-struct Local {
-    requests: Receiver<Request>,
-    replies: Sender<Reply>,
-}
 
 /// Serves one request as a call of worker 7, and sends the reply.
 fn serve<R: Wait>(

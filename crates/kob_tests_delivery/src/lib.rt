@@ -40,6 +40,8 @@ mod refused_sessions;
 #[cfg(test)]
 mod relays;
 #[cfg(test)]
+mod remote;
+#[cfg(test)]
 mod replays;
 #[cfg(test)]
 mod revoked;

@@ -1,0 +1,34 @@
+//! A server of one's own: requests go over a channel to the thread that has the broker.
+
+use crossbeam_channel::{Receiver, Sender};
+use kob_lines::Serve;
+use kob_rights::{Reply, Request};
+use std::alloc::Global;
+use std::sync::Wait;
+
+/// The way to the thread that has the broker, and the way back.
+#[derive(Drop)]
+pub(crate) struct Remote<'a, R: Wait> {
+    pub(crate) rt: &'a R,
+    pub(crate) requests: Sender<Request>,
+    pub(crate) replies: Receiver<Reply>,
+}
+
+impl<'a, R: Wait> Serve for Remote<'a, R> {
+    fn serve(&mut self, _alloc: Global, request: Request) -> Option<Reply> {
+        match self.requests.send(self.rt, request) {
+            Ok(()) => self.replies.recv(self.rt).ok(),
+            Err(unsent) => {
+                drop(unsent);
+                None
+            }
+        }
+    }
+}
+
+/// The other ends.
+#[derive(Drop)]
+pub(crate) struct Local {
+    pub(crate) requests: Receiver<Request>,
+    pub(crate) replies: Sender<Reply>,
+}
