@@ -14,3 +14,5 @@ pub mod BrokerSteps
 pub mod Rows
 pub mod Laws
 pub mod Reserving
+pub mod OnNames
+pub mod Following

@@ -2,3 +2,4 @@ pub mod Types
 pub mod View
 pub mod Served
 pub mod Delivered
+pub mod Reserved

@@ -1,0 +1,17 @@
+use Rattle.kob_delivery.proofs.Words.{Commits, arith, ◌+◌}
+use Rattle.kob_delivery.specs.Reserved.{IsNoSuperUsers}
+use Rattle.kob_delivery.proofs.Reserving.{kept_more}
+use Rattle.kob_delivery.proofs.actors.first_super_committer.Goals.{else-commits-via-then-commits+else-is_super_users, else-commits-via-else-commits}
+use Rattle.kob_delivery.proofs.actors.first_super_committer.Goals as goal
+
+pub loop-place-preserved : goal.loop-place-preserved
+loop-place-preserved c =
+    let place = c.loop-place.place in
+    kept_more (IsNoSuperUsers c.args.supers.now (Commits c.args.group.now c.args.topic.now)) c.args.journal.now place (place + 1)
+    c.entry_at-entry.result.now (omega arith) c.entry_at-entry.ensures c.loop-place.invariant
+    (elim c.else-commits.branch [
+      | else-commits-via-then-commits+else-is_super_users w ↦ λ is. let is_theirs = w.is_super_users.ensures in
+          let none = w.if-is_super_users.false in cc
+      | else-commits-via-else-commits w ↦ λ is.
+          let yes = c.commits.ensures.1 is in let other = w.if-commits in absurd (cc)
+    ])

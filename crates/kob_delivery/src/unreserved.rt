@@ -1,0 +1,156 @@
+//! The first place of a journal at which the bindings in force let others do an operation on a name.
+
+ghost use Rattle.std.specs.Prelude.{◌≡◌, ◌↔◌, ◌∷◌, [], List, ℕ, false, true, IfOk, IsTrue, MatchOption};
+ghost use Rattle.kob_authorizer.specs.Decide.{Contents};
+ghost use Rattle.kob_names.specs.declared.kinds.Operation.{Operation};
+ghost use Rattle.kob_names.specs.declared.kinds.ResourceKind.{ResourceKind};
+ghost use Rattle.kob_shared.specs.Journals.{bindings_after};
+ghost use Rattle.kob_delivery.specs.Reserved.{IsFirstUnreserved, bindings_on};
+ghost use Rattle.kob_delivery.specs.Reserved.{is_open_to_others};
+ghost use Rattle.kob_delivery.specs.View.{IsReserved, IsReservedFor};
+
+use crate::bindings_on::{create_opening, follow, is_open_to_others};
+use crate::premises::entry_at;
+use kob_names::{Draft, Operation, Principal, ResourceKind, Settings, Text};
+use kob_shared::Journal;
+use std::alloc::{AllocError, Global};
+
+/// Bindings let only one principal do an operation on a name exactly if none of those on the name
+/// allows it to everyone or to another principal, and the name is not everyone's for want of a
+/// binding on it. So a finite test decides what is asked of all principals and hosts.
+#[tactic(auto, using(crate::proofs::OnNames::decided))]
+pub fn the_bindings_on_a_name_decide()
+    ensures { (principal : List ℕ) (operation : Operation) (resource : ResourceKind)
+        (name : List ℕ) (access : Contents)
+        → IsReservedFor principal operation resource name access
+        ↔ (is_open_to_others principal operation access.everyone
+        (bindings_on resource name access) ≡ false) }
+{
+    // The contract is the law.
+}
+
+/// Whether the opening bindings of these settings let only the principal do the operation on the
+/// name. `Broker::opening` gives the settings with the bindings that are in force now. The error is
+/// out of memory.
+#[tactic(auto, using(crate::proofs::Following::opening_decides))]
+pub fn is_reserved(
+    alloc: Global,
+    opening: &Settings,
+    principal: &Principal,
+    operation: Operation,
+    resource: ResourceKind,
+    name: &Text,
+) -> Result<bool, AllocError>
+    ensures { IfOk result (λ reserved. IsTrue reserved ↔ IsReservedFor
+        principal.now operation resource name.now (bindings_after opening.now [])) }
+{
+    let mut bindings = Vec::new(alloc);
+    opening_on(alloc, &mut bindings, opening, resource, name)?;
+    let others = is_open_to_others(bindings.as_slice(), opening.everyone, principal, operation);
+    Ok(!others)
+}
+
+/// The first place of the journal at which the bindings in force let others than the principal do
+/// the operation on the name. None means that the name is reserved throughout the journal, as
+/// `bindings_leave_one_producer` requires. The journal begins with these settings.
+///
+/// One pass over the journal. The bindings on the name are copied, and examined again after each
+/// CREATE_ACLS or DELETE_ACLS that was done. The error is out of memory.
+pub fn first_unreserved(
+    alloc: Global,
+    opening: &Settings,
+    journal: &Journal,
+    principal: &Principal,
+    operation: Operation,
+    resource: ResourceKind,
+    name: &Text,
+) -> Result<Option<usize>, AllocError>
+    ensures { IfOk result (λ found. MatchOption found
+        (IsReserved opening.now journal.now principal.now operation resource name.now)
+        (IsFirstUnreserved opening.now journal.now principal.now operation resource name.now)) }
+{
+    let mut bindings = Vec::new(alloc);
+    opening_on(alloc, &mut bindings, opening, resource, name)?;
+    first_open(
+        alloc,
+        &mut bindings,
+        opening,
+        journal,
+        principal,
+        operation,
+        resource,
+        name,
+    )
+}
+
+/// Puts the bindings on the name that are in force at first into an empty list.
+#[tactic(auto, using(crate::proofs::Following::on_opening))]
+fn opening_on(
+    alloc: Global,
+    bindings: &mut Vec<Draft>,
+    opening: &Settings,
+    resource: ResourceKind,
+    name: &Text,
+) -> Result<(), AllocError>
+    requires { bindings.old.items ≡ [] }
+    ensures { IfOk result (λ done. bindings.new.items
+        ≡ bindings_on resource name.now (bindings_after opening.now [])) }
+{
+    create_opening(alloc, bindings, opening.opening.as_slice(), resource, name)
+}
+
+/// Follows the journal, with the bindings on the name that are in force at first.
+fn first_open(
+    alloc: Global,
+    bindings: &mut Vec<Draft>,
+    opening: &Settings,
+    journal: &Journal,
+    principal: &Principal,
+    operation: Operation,
+    resource: ResourceKind,
+    name: &Text,
+) -> Result<Option<usize>, AllocError>
+    requires { bindings.old.items ≡ bindings_on resource name.now (bindings_after opening.now []) }
+    ensures { IfOk result (λ found. MatchOption found
+        (IsReserved opening.now journal.now principal.now operation resource name.now)
+        (IsFirstUnreserved opening.now journal.now principal.now operation resource name.now)) }
+{
+    let everyone = opening.everyone;
+    let mut others = is_open_to_others(bindings.as_slice(), everyone, principal, operation);
+    for place in 0..journal.len() {
+        if others {
+            return Ok(Some(place));
+        }
+        let entry = entry_at(journal, place);
+        let changed = follow(
+            alloc,
+            bindings,
+            &entry.event.request,
+            &entry.reply,
+            resource,
+            name,
+        )?;
+        others = others_after(changed, bindings.as_slice(), everyone, principal, operation);
+    }
+    Ok(None)
+}
+
+/// Whether bindings that left the name to the principal leave it to others after an entry. They are
+/// examined only if the entry may have changed them.
+fn others_after(
+    changed: bool,
+    bindings: &[Draft],
+    everyone: bool,
+    principal: &Principal,
+    operation: Operation,
+) -> bool
+    requires { changed ≡ false
+        → is_open_to_others principal.now operation everyone bindings.now ≡ false }
+    ensures { result ≡ is_open_to_others principal.now operation everyone bindings.now }
+{
+    if changed {
+        is_open_to_others(bindings, everyone, principal, operation)
+    } else {
+        false
+    }
+}
