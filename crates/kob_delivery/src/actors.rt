@@ -7,7 +7,7 @@ ghost use Rattle.kob_delivery.specs.View.{ActsAlone, Commits, IsFirstBreach};
 ghost use Rattle.kob_delivery.specs.View.{NoSuperUser, Produces};
 
 use crate::premises::{commits, entry_at, produces};
-use kob_names::{PlainValue, Principal, Text};
+use kob_names::{Items, PlainValue, Principal, Text};
 use kob_shared::{Entry, Journal};
 
 /// The place of the first entry of another worker that acts as the principal. None means that the
@@ -27,7 +27,11 @@ pub fn first_other_actor(journal: &Journal, worker: usize, principal: &Principal
 
 /// The place of the first PRODUCE to the topic that was done and is a super user's. None means that
 /// no super user writes to the topic, as `bindings_leave_one_producer` requires. Does not allocate.
-pub fn first_super_producer(journal: &Journal, supers: &[Principal], topic: &Text) -> Option<usize>
+pub fn first_super_producer(
+    journal: &Journal,
+    supers: &Items<Principal>,
+    topic: &Text,
+) -> Option<usize>
     ensures { MatchOption result (NoSuperUser supers.now (Produces topic.now) journal.now)
         (IsFirstBreach (IsNoSuperUsers supers.now (Produces topic.now)) journal.now) }
 {
@@ -45,7 +49,7 @@ pub fn first_super_producer(journal: &Journal, supers: &[Principal], topic: &Tex
 /// `bindings_leave_one_committer` requires. Does not allocate.
 pub fn first_super_committer(
     journal: &Journal,
-    supers: &[Principal],
+    supers: &Items<Principal>,
     group: &Text,
     topic: &Text,
 ) -> Option<usize>
@@ -70,8 +74,15 @@ fn acts_as(entry: &Entry, principal: &Principal) -> bool
 }
 
 /// Whether an entry's principal is a super user.
-fn is_super_users(entry: &Entry, supers: &[Principal]) -> bool
+fn is_super_users(entry: &Entry, supers: &Items<Principal>) -> bool
     ensures { result ≡ is_super supers.now entry.now.event.principal }
 {
-    supers.iter().any(|user| entry.event.principal == *user)
+    is_listed(supers.as_slice(), &entry.event.principal)
+}
+
+/// Whether the principal is equal to one of these users.
+fn is_listed(users: &[Principal], who: &Principal) -> bool
+    ensures { result ≡ is_super users.now who.now }
+{
+    users.iter().any(|user| who == user)
 }

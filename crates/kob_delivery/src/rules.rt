@@ -57,7 +57,7 @@ pub fn only_producer_by_rules(
     if let Some(place) = first_other_actor(journal, worker, principal) {
         return Err(RuleFault::OtherActor(place));
     }
-    if let Some(place) = first_super_producer(journal, opening.supers.as_slice(), topic) {
+    if let Some(place) = first_super_producer(journal, &opening.supers, topic) {
         return Err(RuleFault::SuperUser(place));
     }
     match first_unreserved(
@@ -102,8 +102,7 @@ pub fn only_committer_by_rules(
     if let Some(place) = first_other_actor(journal, worker, principal) {
         return Err(RuleFault::OtherActor(place));
     }
-    let supers = opening.supers.as_slice();
-    if let Some(place) = first_super_committer(journal, supers, group, topic) {
+    if let Some(place) = first_super_committer(journal, &opening.supers, group, topic) {
         return Err(RuleFault::SuperUser(place));
     }
     match first_unreserved(
