@@ -20,7 +20,7 @@ const SERVICE_WRITE: &str = "User:svc h produce t 0 - v";
 const REVOKE: &str = "User:root h delete-acls - - any User:svc - Write -";
 
 /// The binding that allows `User:svc` to write.
-fn write_allowed(alloc: Global) -> Option<Vec<Binding>> {
+pub(crate) fn write_allowed(alloc: Global) -> Option<Vec<Binding>> {
     let event = event_of(alloc, ALLOW)?;
     let binding = match &event.request {
         Request::CreateAcls(asked) => match asked.drafts.as_slice() {

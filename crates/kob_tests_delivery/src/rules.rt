@@ -1,0 +1,108 @@
+//! The premises of the access laws, decided for a journal whose entries are written out.
+
+use crate::making::{event_of, recorded};
+use crate::revoked::write_allowed;
+use kob_broker::Settings;
+use kob_delivery::{
+    RuleFault, first_other_actor, first_super_producer, first_unreserved, only_producer_by_rules,
+};
+use kob_names::{Items, Operation, Principal, ResourceKind, Text};
+use kob_script::read_script;
+use kob_shared::{Journal, Recorded};
+use std::alloc::Global;
+
+/// The entries, each with its worker. No binding is in force from entry 4 on, and from entry 5 on
+/// `User:other` may do all on names that begin with `t`.
+const ENTRIES: [(usize, &str); 7] = [
+    (0, "User:root h create-topic t 1"),
+    (
+        0,
+        "User:root h create-acl allow User:svc * Write Topic literal t",
+    ),
+    (1, "User:svc h produce t 0 - v"),
+    (0, "User:root h delete-acls - - any - - - -"),
+    (
+        0,
+        "User:root h create-acl allow User:other * All Topic prefixed t",
+    ),
+    (2, "User:svc h metadata"),
+    (0, "User:root h produce t 0 - v"),
+];
+
+fn serve_all(alloc: Global, recorded: &mut Recorded) -> Option<()> {
+    for (worker, line) in ENTRIES {
+        let event = event_of(alloc, line)?;
+        let receipt = recorded.serve_as(alloc, worker, &event).ok();
+        drop(event);
+        drop(receipt?);
+    }
+    Some(())
+}
+
+/// Settings with `everyone` on, and one opening binding: `User:svc` may write to the topic `t`.
+fn open_settings(alloc: Global) -> Option<Settings> {
+    let script = read_script(alloc, b"super User:root\neveryone on").ok()?;
+    drop(script.events);
+    let mut settings = script.settings;
+    settings.opening = Items::from_vec(write_allowed(alloc)?);
+    Some(settings)
+}
+
+/// The first place at which another than `User:svc` may write to the topic `t`.
+fn unreserved(
+    alloc: Global,
+    settings: &Settings,
+    journal: &Journal,
+    service: &Principal,
+    topic: &Text,
+) -> Option<usize> {
+    let found = first_unreserved(
+        alloc,
+        settings,
+        journal,
+        service,
+        Operation::Write,
+        ResourceKind::Topic,
+        topic,
+    );
+    found.ok()?
+}
+
+/// Where the journal breaks each premise: `User:other` may write from entry 5 on. If a name without
+/// bindings is everyone's, all may from entry 4 on.
+fn premises_hold(alloc: Global, journal: &Journal, settings: &Settings) -> Option<bool> {
+    let service = Principal::parse(alloc, "User:svc").ok()?;
+    let topic = Text::copied(alloc, "t").ok()?;
+    let closed = unreserved(alloc, settings, journal, &service, &topic);
+    let open = open_settings(alloc)?;
+    let opened = unreserved(alloc, &open, journal, &service, &topic);
+    drop(open);
+    let other = first_other_actor(journal, 1, &service);
+    let of_root = first_super_producer(journal, &settings.supers, &topic);
+    Some((closed, opened, other, of_root) == (Some(5), Some(4), Some(5), Some(6)))
+}
+
+/// The rules for a principal that no entry acts as, on a topic to which no super user writes.
+fn rules_hold(alloc: Global, journal: &Journal, settings: &Settings) -> Option<bool> {
+    let topic = Text::copied(alloc, "tx").ok()?;
+    let other = Principal::parse(alloc, "User:other").ok()?;
+    let owned = only_producer_by_rules(alloc, settings, journal, 9, &other, &topic);
+    let nobody = Principal::parse(alloc, "User:nobody").ok()?;
+    let left = only_producer_by_rules(alloc, settings, journal, 9, &nobody, &topic);
+    Some(owned.is_ok() && matches!(left, Err(RuleFault::NotReserved(5))))
+}
+
+fn holds(alloc: Global) -> Option<bool> {
+    let mut recorded = recorded(alloc, 7)?;
+    let served = serve_all(alloc, &mut recorded);
+    let premises = premises_hold(alloc, recorded.journal(), recorded.opening());
+    let rules = rules_hold(alloc, recorded.journal(), recorded.opening());
+    drop(recorded);
+    served?;
+    Some(premises? && rules?)
+}
+
+#[test]
+fn premises_are_decided(rt: HostRuntime) {
+    assert!(rt; holds(rt.alloc()) == Some(true));
+}
