@@ -1,4 +1,6 @@
 mod Words
+pub mod OnNames
+pub mod Following
 pub mod Lists
 mod Logged
 mod ServedRuns
@@ -14,5 +16,3 @@ pub mod BrokerSteps
 pub mod Rows
 pub mod Laws
 pub mod Reserving
-pub mod OnNames
-pub mod Following

@@ -1,5 +1,5 @@
+pub mod Reserved
 pub mod Types
 pub mod View
 pub mod Served
 pub mod Delivered
-pub mod Reserved

@@ -16,8 +16,8 @@ use Rattle.kob_rights.specs.declared.request.Request.TheVariants.{CreateAcls, De
 use Rattle.kob_shared.specs.Journals.{bindings_after}
 use Rattle.kob_delivery.specs.Types.{Denied, Done, Entry, Refused, Reply, Request, Settings}
 use Rattle.kob_delivery.specs.View.{ActsAlone, IsFirstBreach, IsReservedFor, NoSuperUser}
-use Rattle.kob_delivery.specs.declared.rules.RuleFault.{RuleFault}
-use Rattle.kob_delivery.specs.declared.rules.RuleFault.TheVariants.{Memory, NotReserved, OtherActor, SuperUser}
+use Rattle.kob_delivery.specs.declared.access_rules.RuleFault.{RuleFault}
+use Rattle.kob_delivery.specs.declared.access_rules.RuleFault.TheVariants.{Memory, NotReserved, OtherActor, SuperUser}
 
 -- the binding is on the kind of resource, and its pattern matches the name
 abbrev pub is_on : ResourceKind → List ℕ → Binding → Bool

@@ -2,7 +2,7 @@ use Rattle.kob_delivery.proofs.Words.{take, ℕ, ◌<◌, ◌≡◌}
 use Rattle.kob_shared.specs.Journals.{bindings_after}
 use Rattle.kob_delivery.specs.Reserved.{bindings_on, is_open_to_others}
 use Rattle.kob_delivery.proofs.Following.{ReservedAt}
-use Rattle.kob_delivery.proofs.unreserved.first_open.Given as goal
+use Rattle.kob_delivery.proofs.open_places.first_open.Given as goal
 
 abbrev pub invariant-loop-place : goal.invariant-loop-place
 invariant-loop-place l = record {

@@ -11,7 +11,7 @@ ghost use Rattle.kob_delivery.specs.View.{ActsAlone, Commits, IsReserved};
 ghost use Rattle.kob_delivery.specs.View.{IsSoleCommitter, IsSoleProducer, NoSuperUser, Produces};
 
 use crate::actors::{first_other_actor, first_super_committer, first_super_producer};
-use crate::unreserved::first_unreserved;
+use crate::open_places::first_unreserved;
 use kob_names::{Operation, Principal, ResourceKind, Settings, Text};
 use kob_shared::Journal;
 use std::alloc::{AllocError, Global};

@@ -1,7 +1,7 @@
 use Rattle.kob_delivery.proofs.Words.{ap, arith, ◌+◌, ◌∙◌}
 use Rattle.kob_delivery.proofs.Following.{on_next, reserved_at, reserved_more, unreserved_at}
 use Rattle.kob_delivery.specs.Reserved.{is_open_to_others}
-use Rattle.kob_delivery.proofs.unreserved.first_open.Goals as goal
+use Rattle.kob_delivery.proofs.open_places.first_open.Goals as goal
 
 pub returns-then-others : goal.returns-then-others
 returns-then-others c =
