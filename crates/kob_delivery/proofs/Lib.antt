@@ -1,6 +1,7 @@
 mod Words
 pub mod OnNames
 pub mod Following
+pub mod Lasting
 pub mod Lists
 mod Logged
 mod ServedRuns

@@ -101,10 +101,10 @@ or_left a b is = grind (arith, nat_tests)
 or_right : (a b : Bool) → b ≡ true → (a || b) ≡ true
 or_right a b is = grind (arith, nat_tests)
 
-neither : (a b : Bool) → (a || b) ≡ false → (a ≡ false) × (b ≡ false)
+pub neither : (a b : Bool) → (a || b) ≡ false → (a ≡ false) × (b ≡ false)
 neither a b is = grind (arith, nat_tests)
 
-both_false : (a b : Bool) → a ≡ false → b ≡ false → (a || b) ≡ false
+pub both_false : (a b : Bool) → a ≡ false → b ≡ false → (a || b) ≡ false
 both_false a b first second = grind (arith, nat_tests)
 
 -- over entries

@@ -1,6 +1,6 @@
 -- When bindings leave a name to one principal, and what breaks the premises of the access laws.
 use Rattle.std.specs.Prelude.{◌≡◌, ◌==◌, ◌<◌, ◌&&◌, ◌||◌, not, Bool, ℕ, List, [], ◌∷◌, ◌++◌, if◌then◌else◌, length, take, codes, false, filter}
-use Rattle.std.specs.List.{fold, list_any}
+use Rattle.std.specs.List.{AllByRecursion, fold, list_any}
 use Rattle.kob_authorizer.specs.Creation.{bindings_of, is_among}
 use Rattle.kob_authorizer.specs.Decide.{Contents, is_super}
 use Rattle.kob_names.specs.Binding.{Binding, matches, reaches}
@@ -67,6 +67,17 @@ after_reply resource name (Done body) request bindings =
     after_done resource name request bindings
 after_reply resource name (Denied code verdicts) request bindings = bindings
 after_reply resource name (Refused code reason) request bindings = bindings
+
+-- done, it creates no binding on the name that allows others; and where a name without bindings is
+-- everyone's, it deletes none
+abbrev pub LeavesReserved : List ℕ → Operation → ResourceKind → List ℕ → Bool → Request → Reply
+    → Type 0
+LeavesReserved principal operation resource name everyone (CreateAcls asked) (Done body) =
+    AllByRecursion (λ draft. (is_on resource name draft && allows_others principal operation draft)
+    ≡ false) asked.drafts
+LeavesReserved principal operation resource name everyone (DeleteAcls asked) (Done body) =
+    everyone ≡ false
+LeavesReserved principal operation resource name everyone _ _ = Unit {0}
 
 -- What breaks a premise.
 

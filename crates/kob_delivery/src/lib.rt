@@ -22,7 +22,9 @@ pub use delivery_laws::{
     a_row_waits_or_was_sent, an_inbox_holds_a_prefix_of_each_aggregate,
 };
 pub use history_laws::a_legal_journal_is_a_history;
-pub use open_places::{first_unreserved, is_reserved, the_bindings_on_a_name_decide};
+pub use open_places::{
+    a_reservation_lasts, first_unreserved, is_reserved, the_bindings_on_a_name_decide,
+};
 pub use premises::{Breach, Premise, deletion, first_breach, other_committer, other_producer};
 pub use repeat_laws::a_row_is_appended_once_a_start;
 pub use several_laws::an_inbox_among_services_holds_a_prefix;

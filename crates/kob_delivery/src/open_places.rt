@@ -1,11 +1,14 @@
 //! The first place of a journal at which the bindings in force let others do an operation on a name.
 
 ghost use Rattle.std.specs.Prelude.{◌≡◌, ◌↔◌, ◌∷◌, [], List, ℕ, false, true, IfOk, IsTrue, MatchOption};
+ghost use Rattle.std.specs.List.{AllByRecursion};
 ghost use Rattle.kob_authorizer.specs.Decide.{Contents};
 ghost use Rattle.kob_names.specs.declared.kinds.Operation.{Operation};
 ghost use Rattle.kob_names.specs.declared.kinds.ResourceKind.{ResourceKind};
+ghost use Rattle.kob_names.specs.declared.settings.Settings.{Settings};
 ghost use Rattle.kob_shared.specs.Journals.{bindings_after};
-ghost use Rattle.kob_delivery.specs.Reserved.{IsFirstUnreserved, bindings_on};
+ghost use Rattle.kob_shared.specs.declared.journal.Entry.{Entry};
+ghost use Rattle.kob_delivery.specs.Reserved.{IsFirstUnreserved, LeavesReserved, bindings_on};
 ghost use Rattle.kob_delivery.specs.Reserved.{is_open_to_others};
 ghost use Rattle.kob_delivery.specs.View.{IsReserved, IsReservedFor};
 
@@ -25,6 +28,21 @@ pub fn the_bindings_on_a_name_decide()
         → IsReservedFor principal operation resource name access
         ↔ (is_open_to_others principal operation access.everyone
         (bindings_on resource name access) ≡ false) }
+{
+    // The contract is the law.
+}
+
+/// A name that the opening bindings reserve for a principal stays reserved until a CREATE_ACLS that
+/// was done has a binding on the name that allows others. If a name without bindings is everyone's,
+/// it stays so until a DELETE_ACLS was done, too.
+#[tactic(auto, using(crate::proofs::Lasting::stays_reserved))]
+pub fn a_reservation_lasts()
+    ensures { (opening : Settings) (journal : List Entry) (principal : List ℕ)
+        (operation : Operation) (resource : ResourceKind) (name : List ℕ)
+        → IsReservedFor principal operation resource name (bindings_after opening [])
+        → AllByRecursion (λ e. LeavesReserved principal operation resource name opening.everyone
+        e.event.request e.reply) journal
+        → IsReserved opening journal principal operation resource name }
 {
     // The contract is the law.
 }
