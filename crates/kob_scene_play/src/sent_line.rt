@@ -78,8 +78,8 @@ fn bare(request: Request) -> Request
 }
 
 impl<'a> Line for SentLine<'a> {
-    ghost use Rattle.std.specs.Prelude.{refl, subst};
-    ghost use Rattle.std.proofs.Common.{◌∙◌};
+    ghost use Rattle.std.specs.Prelude.{refl};
+    ghost use Rattle.std.proofs.Common.{subst, ◌∙◌};
     ghost use Rattle.kob_lines.specs.Calls.{Journals};
     ghost use Rattle.kob_lines.specs.Joined.{calls_are_journaled, no_call_is_journaled};
     ghost use Rattle.kob_scene_play.specs.Services.{sent_as};
