@@ -1,6 +1,7 @@
 pub mod Endings
-mod Entries
+pub mod Entries
 mod Idling
+pub mod InTurn
 pub mod Reachings
 pub mod Runs
 pub mod Servings

@@ -1,21 +1,21 @@
 -- What a journal and the calls of two lines say of an inbox.
 use Rattle.kob_embedding.proofs.Words.{ArePrivate, AreServed, Call, Entry, Event, HasRun, ReachesReader, IsLegal, IsReaderRun, IsSenderRun, List, Place, ReachesInOrder, ReaderLeft, Retained, ServiceLeft, Settings, State, Subscription, arith, holds_a_prefix, legal_is_history, nat_tests, opened_by, served_to, state_of, subst, sym, view_after, ℕ, ◌≡◌}
 use Rattle.kob_embedding.specs.Running.{HasPremises}
-use Rattle.kob_delivery.specs.View.{IsBreach}
+use Rattle.kob_delivery.specs.View.{IsBreach, IsHistory, View, opening_view}
 use Rattle.std.proofs.Common.{Bool, IsTrue, true}
 use Rattle.kob_delivery.specs.declared.premises.Breach.{Breach}
 use Rattle.kob_router.specs.Tick as router
 
-pub delivered : (opening : Settings) (journal : List Entry) (now : State Retained) (s : ServiceLeft) (r : ReaderLeft)
-    → IsLegal (opened_by opening) journal now
+pub delivered : (journal : List Entry) (view : View) (s : ServiceLeft) (r : ReaderLeft)
+    → IsHistory opening_view journal view
     → HasPremises s r journal → HasRun s.relayed s.calls → IsReaderRun r.fetcher r.inbox r.calls → ReachesReader s r
-delivered opening journal now s r legal premises ran read = record {
+delivered journal view s r history premises ran read = record {
   recorded = ran;
   reaches = λ (rows : List Event) (kind id : List ℕ) (one : IsSenderRun s.relayed s.calls rows).
       subst (λ (all : List Event). ReachesInOrder all r.inbox kind id) (sym one.recorded)
-      (holds_a_prefix s.relayed.router.target r.fetcher.subscription s.worker r.worker journal (view_after opening journal)
+      (holds_a_prefix s.relayed.router.target r.fetcher.subscription s.worker r.worker journal view
       one.moves (router.state_of s.relayed.router s.relayed.outbox) read.moves (state_of r.fetcher r.inbox) kind id
-      (legal_is_history opening journal now legal)
+      history
       (record {
         run = one.run;
         served = subst (λ (calls : List Call). AreServed calls (served_to s.worker journal)) one.made premises.sent;

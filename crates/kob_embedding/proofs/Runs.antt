@@ -1,6 +1,8 @@
 -- What becomes of the runs of a service and of a consumer.
-use Rattle.kob_embedding.proofs.Words.{Call, Change, Err, Event, Fetcher, HasConsumerRun, HasRun, HasServiceRun, IsReaderRun, IsSenderRun, IsTick, List, None, Ok, OnErr, OnOk, OutboxEvent, RecordFault, RecordsNoRow, Relayed, Restarted, Result, Subscription, Target, Tick, [], after_record, arith, dispatch_of, empty, false, first_bad, id_text, is_recorded, nat_tests, next_seq, records, point_of, stored_event, subst, sym, ticks, ℕ, ◌++◌, ◌<◌, ◌^◌, ◌∷◌, ◌≡◌}
+use Rattle.kob_embedding.proofs.Words.{Call, Change, Err, Event, Fetcher, HasConsumerRun, HasRun, HasServiceRun, IsReaderRun, IsSenderRun, IsTick, List, None, Ok, OnErr, OnOk, OutboxEvent, RecordFault, RecordsNoRow, Relayed, Restarted, Result, Subscription, Target, Tick, [], after_record, ap, arith, dispatch_of, empty, false, first_bad, id_text, is_recorded, nat_tests, next_seq, records, point_of, stored_event, subst, sym, ticks, ℕ, ◌++◌, ◌<◌, ◌^◌, ◌∙◌, ◌∷◌, ◌≡◌}
+use Rattle.kob_router.specs.Run.{calls_of}
 use Rattle.kob_router.specs.Tick.{state_of}
+use Rattle.std.proofs.Common.{append-nil, append_assoc}
 use Rattle.kob_inbox.specs.Contents.{Contents as Inbox}
 use Rattle.kob_inbox.specs.Run as consumer
 use Rattle.kob_inbox.specs.Tick as taken
@@ -65,6 +67,34 @@ ticked old new calls then_calls unmade then_unmade tick is rows was =
     (ticks (dispatch_of old.router.target) (point_of old.router old.outbox calls unmade)
     (point_of new.router new.outbox then_calls then_unmade) tick rows was is.1)
 
+-- the same after the calls of earlier lines
+pub ticked_after : (earlier : List Call) (old new : Relayed) (calls then_calls : List Call)
+    (unmade then_unmade : ℕ) (tick : Tick) → IsTick old new calls then_calls unmade then_unmade tick
+    → RecordsNoRow old (earlier ++ calls) new (earlier ++ then_calls)
+ticked_after earlier old new calls then_calls unmade then_unmade tick is =
+    let done = is.1 in
+    ticked old new (earlier ++ calls) (earlier ++ then_calls) unmade then_unmade tick (
+      is.0,
+      record {
+        moves = done.moves;
+        own = done.own;
+        run = done.run;
+        calls = ap (λ (made : List Call). earlier ++ made) done.calls
+            ∙ sym (append_assoc earlier calls (calls_of done.moves));
+        few = done.few;
+        answer = done.answer;
+        held = done.held;
+      },
+    )
+
+-- the line is changed for one that made no call
+pub no_call_more : (was made now next : List Call) → now ≡ was ++ made → next ≡ [] → now ++ next ≡ was ++ made
+no_call_more was made now next is none = ap (λ (calls : List Call). now ++ calls) none ∙ append-nil now ∙ is
+
+-- no line was handed out, and the line made no call
+pub no_call : (was made : List Call) → was ≡ [] → made ≡ [] → was ++ made ≡ []
+no_call was made one two = ap (λ (calls : List Call). calls ++ made) one ∙ two
+
 -- a consumer begins, ticks, and starts again
 
 abbrev pub begun : Inbox → consumer.State
@@ -74,15 +104,22 @@ pub consumer_begins : (f : Fetcher) (inbox : Inbox) (calls : List Call) → take
     → inbox ≡ [] → calls ≡ [] → IsReaderRun f inbox calls
 consumer_begins f inbox calls is empty none = grind (arith, nat_tests)
 
-pub consumer_ticked : (old new : Fetcher) (inbox then_inbox : Inbox) (calls then_calls : List Call)
+pub consumer_ticked : (earlier : List Call) (old new : Fetcher) (inbox then_inbox : Inbox) (calls then_calls : List Call)
     (unmade then_unmade : ℕ) (tick : taken_tick.Tick) → new.subscription ≡ old.subscription
     → taken.Ticks old.subscription (taken.point_of old inbox calls unmade)
     (taken.point_of new then_inbox then_calls then_unmade) tick
-    → IsReaderRun old inbox calls → IsReaderRun new then_inbox then_calls
-consumer_ticked old new inbox then_inbox calls then_calls unmade then_unmade tick same done was =
-    subst (λ (t : Subscription). HasConsumerRun t (taken.state_of new then_inbox) then_calls) (sym same)
-    (consumer_courses.ticks old.subscription (taken.point_of old inbox calls unmade)
-    (taken.point_of new then_inbox then_calls then_unmade) tick was done)
+    → IsReaderRun old inbox (earlier ++ calls) → IsReaderRun new then_inbox (earlier ++ then_calls)
+consumer_ticked earlier old new inbox then_inbox calls then_calls unmade then_unmade tick same done was =
+    subst (λ (t : Subscription). HasConsumerRun t (taken.state_of new then_inbox) (earlier ++ then_calls)) (sym same)
+    (consumer_courses.ticks old.subscription (taken.point_of old inbox (earlier ++ calls) unmade)
+    (taken.point_of new then_inbox (earlier ++ then_calls) then_unmade) tick was (record {
+      moves = done.moves;
+      run = done.run;
+      calls = ap (λ (made : List Call). earlier ++ made) done.calls
+          ∙ sym (append_assoc earlier calls (consumer.calls_of done.moves));
+      answer = done.answer;
+      counted = done.counted;
+    }))
 
 pub consumer_restarted : (old new : Fetcher) (inbox : Inbox) (calls : List Call)
     → new.subscription ≡ old.subscription

@@ -31,7 +31,7 @@ pub use Rattle.kob_router.specs.declared.sender.Sender.{Sender}
 pub use Rattle.kob_router.specs.declared.tick.Tick.{Tick}
 pub use Rattle.kob_shared.specs.Journals.{IsLegal, events_of, opened_by}
 pub use Rattle.kob_shared.specs.declared.journal.Entry.{Entry}
-pub use Rattle.std.proofs.Common.{List, [], ap, arith, drop, false, get_or, length, refl, rules, subst, suc, sym, take, true, zero, ℕ, ◌++◌, ◌+◌, ◌<◌, ◌==◌, ◌^◌, ◌∙◌, ◌∷◌, ◌≡◌, ◌≤◌}
+pub use Rattle.std.proofs.Common.{List, [], ap, append-nil, arith, drop, false, get_or, length, map, refl, rules, subst, suc, sym, take, true, zero, ℕ, ◌++◌, ◌+◌, ◌-◌, ◌<◌, ◌==◌, ◌^◌, ◌∙◌, ◌∷◌, ◌≡◌, ◌≤◌}
 pub use Rattle.std.proofs.lemmas.Bool.{eq-eqb, ne_eqb}
 pub use Rattle.std.proofs.lemmas.Bool.Decides.{nat_tests}
 pub use Rattle.std.proofs.lemmas.List.{drop_more, length-map}

@@ -1,2 +1,3 @@
+pub mod InTurn
 pub mod Pairing
 pub mod Running

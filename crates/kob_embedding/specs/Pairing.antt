@@ -1,21 +1,18 @@
--- Which entries of a journal served which calls of a worker. Cited by private functions alone.
-use Rattle.std.specs.Prelude.{ℕ, List, ◌≡◌, ◌+◌, ◌<◌, ◌∷◌, ◌⊎◌, ◌↔◌, drop, length, None, Some, Option, slice_get, Contains, MatchOption}
+-- Which entries served which calls of a worker. Cited by private functions alone.
+use Rattle.std.specs.Borrow.{Bor}
+use Rattle.std.specs.Prelude.{ℕ, List, ◌≡◌, ◌∷◌, ◌⊎◌, ◌↔◌, drop, map, None, Some, Option, Contains, MatchOption}
 use Rattle.kob_shared.specs.declared.journal.Entry.{Entry}
 use Rattle.kob_router.specs.declared.line.Call.{Call}
 use Rattle.kob_router.specs.Line.{AreServed, Served}
 use Rattle.kob_lines.specs.Calls.{served_in}
-use Rattle.kob_delivery.specs.Served.{served_to}
 
--- what the worker was served from a place on
-abbrev pub left : ℕ → List Entry → ℕ → List Served
-left worker journal place = served_to worker (drop place journal)
+-- what the entries say that was served
+abbrev pub told_by : List (Bor Entry) → List Served
+told_by own = map (λ entry. served_in entry.now) own
 
--- the worker's first entry from a place on is at this place
-pub record IsNext (worker : ℕ) (journal : List Entry) (from place : ℕ) : Type 0 where
-  pub entry : Entry
-  pub there : slice_get journal place ≡ Some entry
-  pub within : place < length journal
-  pub first : left worker journal from ≡ served_in entry ∷ left worker journal (place + 1)
+-- what they say from a place on
+abbrev pub left : List (Bor Entry) → ℕ → List Served
+left own place = drop place (told_by own)
 
 -- the entry is of the call's request, and has the reply that was received, if one was
 abbrev pub IsReplyTo : Entry → Call → Type 0

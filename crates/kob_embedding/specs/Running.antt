@@ -1,11 +1,11 @@
 -- A service and a consumer since they began.
-use Rattle.std.specs.Prelude.{ℕ, List, ◌≡◌, Option, Some, None, Result, Ok, Err, ◌⊎◌, suc, zero}
+use Rattle.std.specs.Prelude.{ℕ, List, ◌≡◌, length, Option, Some, None, Result, Ok, Err, ◌⊎◌, suc, zero}
 use Rattle.kob_inbox.specs.Contents.{Contents}
 use Rattle.kob_inbox.specs.declared.fetcher.Fetcher.{Fetcher}
 use Rattle.kob_lines.specs.Relayed.{HasConsumerRun, IsTick, Relayed, HasServiceRun}
 use Rattle.kob_lines.specs.declared.program_fault.ProgramFault.{ProgramFault}
 use Rattle.kob_lines.specs.declared.program_fault.ProgramFault.TheVariants as program
-use Rattle.kob_outbox.specs.Contents.{Event}
+use Rattle.kob_outbox.specs.Contents.{Event, up_to}
 use Rattle.kob_delivery.specs.Delivered.{ReachesInOrder}
 use Rattle.kob_router.specs.Run.{dispatch_of}
 use Rattle.kob_router.specs.declared.line.Call.{Call}
@@ -30,15 +30,17 @@ use Rattle.kob_router.specs.declared.tick.Tick as router_tick
 use Rattle.kob_router.specs.declared.tick.Tick.TheVariants as sent
 use Rattle.kob_router.specs.declared.tick.StopReason.TheVariants as unsent
 
--- a service: its outbox with its router, and its line
+-- a service: its outbox with its router, the calls of the lines that it handed out, and its line
 pub record Service (L : Type 0) : Type 0 where
   pub relayed : Relayed
+  pub earlier : List Call
   pub line : L
 
--- a consumer with its inbox, and its line
+-- a consumer with its inbox, the calls of the lines that it handed out, and its line
 pub record Reader (L : Type 0) : Type 0 where
   pub fetcher : Fetcher
   pub inbox : Contents
+  pub earlier : List Call
   pub line : L
 
 -- a service that began with an empty outbox made these calls and recorded these rows
@@ -76,6 +78,24 @@ pub record SendsAs (now : Relayed) (calls : List Call) (unmade : ℕ)
   pub tick : router_tick.Tick
   pub made : IsTick before now calls_before calls unmade_before unmade tick
   pub tells : stands ≡ sending_after tick
+
+-- some service that has run so far made this step
+pub record IsSomeStep (tick : router_tick.Tick) : Type 0 where
+  pub before : Relayed
+  pub now : Relayed
+  pub calls : List Call
+  pub then_calls : List Call
+  pub unmade : ℕ
+  pub then_unmade : ℕ
+  pub ran : HasRun before calls
+  pub made : IsTick before now calls then_calls unmade then_unmade tick
+
+-- some service that has run so far had sent so many of the events that it kept
+pub record IsSomeSweep (count : ℕ) : Type 0 where
+  pub relayed : Relayed
+  pub calls : List Call
+  pub ran : HasRun relayed calls
+  pub swept : count ≡ length (up_to relayed.outbox.mark relayed.outbox.events)
 
 -- a consumer that began with an empty inbox made these calls
 abbrev pub IsReaderRun : Fetcher → Contents → List Call → Type 0

@@ -6,17 +6,20 @@
 mod consumer_end;
 mod opening;
 mod part;
+mod past_calls;
 mod reaching;
 mod running_consumer;
 mod running_service;
 mod service_end;
 mod sessions;
+mod shared_service;
 
 pub use consumer_end::ConsumerEnd;
 pub use opening::opened;
-pub use part::{Part, is_served};
-pub use reaching::{DeliveryFault, reaches_in_order};
+pub use part::{Part, is_served, is_served_in_turn};
+pub use reaching::{DeliveryFault, reaches_in_order, reaches_in_turn};
 pub use running_consumer::RunningConsumer;
 pub use running_service::RunningService;
 pub use service_end::ServiceEnd;
 pub use sessions::session_of;
+pub use shared_service::SharedService;

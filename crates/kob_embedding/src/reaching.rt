@@ -1,16 +1,24 @@
 //! The law of delivery of a service and a consumer without a plan.
 
-ghost use Rattle.std.specs.Prelude.{◌≡◌, IfErr, OnOk};
+ghost use Rattle.std.specs.Prelude.{◌≡◌, ◌+◌, IfErr, IfOk, MatchOption, OnOk};
+ghost use Rattle.kob_broker.specs.State.{State};
+ghost use Rattle.kob_delivery.specs.View.{ArePrivate, IsBreach, IsHistory, View, opening_view};
 ghost use Rattle.kob_embedding.specs.declared.reaching.DeliveryFault.TheVariants.{Memory};
+ghost use Rattle.kob_embedding.specs.InTurn.{AreInTurn, entries_of};
 ghost use Rattle.kob_embedding.specs.Running.{HasPremises, IsLacking, ReachesReader};
+ghost use Rattle.kob_names.specs.declared.settings.Settings.{Settings};
+ghost use Rattle.kob_partition.specs.Retained.{Retained};
+ghost use Rattle.kob_shared.specs.Journals.{opened_by};
 
 use crate::consumer_end::ConsumerEnd;
-use crate::part::is_served;
+use crate::part::is_served_in_turn;
 use crate::service_end::ServiceEnd;
 use kob_delivery::{
     Breach, a_legal_journal_is_a_history, an_inbox_holds_a_prefix_of_each_aggregate, first_breach,
 };
-use kob_shared::Recorded;
+use kob_names::Text;
+use kob_router::Place;
+use kob_shared::{Journal, Recorded, journals_in_turn_are_legal};
 use std::alloc::{AllocError, Global};
 use thiserror::Error;
 
@@ -52,22 +60,80 @@ pub fn reaches_in_order(
     ensures reaches { OnOk result (ReachesReader sent.now taken.now) }
     ensures lacking { IfErr result (IsLacking sent.now taken.now recorded.now.journal) }
 {
-    let journal = recorded.journal();
+    reaches_in_turn(alloc, &[recorded.journal()], sent, taken)
+}
+
+/// The same of journals that follow one another, as a broker hands them out, the oldest first. They
+/// are of this crate's broker, or were recorded over another one that keeps what the laws of
+/// delivery see (`IsHistory`). The place of an entry that breaks a premise counts the entries of all
+/// journals.
+pub fn reaches_in_turn(
+    alloc: Global,
+    journals: &[&Journal],
+    sent: &ServiceEnd,
+    taken: &ConsumerEnd,
+) -> Result<(), DeliveryFault>
+    ensures premises { OnOk result
+        (HasPremises sent.now taken.now (entries_of journals.now)) }
+    ensures history { OnOk result ((view : View)
+        → IsHistory opening_view (entries_of journals.now) view
+        → ReachesReader sent.now taken.now) }
+    ensures in_turn { OnOk result ((opening : Settings) (now : State Retained)
+        → AreInTurn (opened_by opening) journals.now now
+        → ReachesReader sent.now taken.now) }
+    ensures lacking { IfErr result
+        (IsLacking sent.now taken.now (entries_of journals.now)) }
+{
     let sender = sent.part();
-    if !is_served(alloc, journal, sender)? {
+    if !is_served_in_turn(alloc, journals, sender)? {
         return Err(DeliveryFault::Service);
     }
     let taker = taken.part();
-    if !is_served(alloc, journal, taker)? {
+    if !is_served_in_turn(alloc, journals, taker)? {
         return Err(DeliveryFault::Consumer);
     }
     let subscription = taken.consumer().subscription();
     let group = &subscription.group;
-    let assignment = subscription.assignment.as_slice();
-    if let Some(breach) = first_breach(journal, sender.worker, taker.worker, group, assignment) {
+    let places = subscription.assignment.as_slice();
+    if let Some(breach) = breach_in_turn(journals, sender.worker, taker.worker, group, places)? {
         return Err(DeliveryFault::Premise(breach));
     }
+    journals_in_turn_are_legal();
     a_legal_journal_is_a_history();
     an_inbox_holds_a_prefix_of_each_aggregate();
     Ok(())
+}
+
+/// The first entry of journals that follow one another which breaks a premise, as [`first_breach`]
+/// finds it. The error says that a number does not count the entries: memory holds fewer.
+fn breach_in_turn(
+    journals: &[&Journal],
+    sender: usize,
+    taker: usize,
+    group: &Text,
+    assignment: &[Place],
+) -> Result<Option<Breach>, AllocError>
+    ensures { IfOk result (λ found. MatchOption found
+        (ArePrivate sender taker group.now assignment.now (entries_of journals.now))
+        (IsBreach sender taker group.now assignment.now (entries_of journals.now))) }
+{
+    let mut before: usize = 0;
+    for journal in journals {
+        if let Some(breach) = first_breach(*journal, sender, taker, group, assignment) {
+            return Ok(Some(Breach {
+                assigned: breach.assigned,
+                premise: breach.premise,
+                entry: sum(before, breach.entry)?,
+            }));
+        }
+        before = sum(before, journal.len())?;
+    }
+    Ok(None)
+}
+
+/// The sum of two numbers of entries.
+fn sum(one: usize, other: usize) -> Result<usize, AllocError>
+    ensures { IfOk result (λ both. both ≡ one + other) }
+{
+    one.checked_add(other).ok_or(AllocError)
 }

@@ -2,7 +2,7 @@
 
 ghost use Rattle.std.specs.Prelude.{◌≡◌, ◌≤◌, ◌↔◌, [], IfErr, IfOk, IsErrOf, IsTrue, OnErr, OnOk};
 ghost use Rattle.std.specs.Prelude.{alloc_error, None, Some, ◌⊎◌};
-ghost use Rattle.std.specs.Prelude.{length, map, max};
+ghost use Rattle.std.specs.Prelude.{◌++◌, length, map, max};
 ghost use Rattle.kob_embedding.specs.Running.{AreIdle, EndsTaking, TakesAs, fault_of_code};
 ghost use Rattle.kob_embedding.specs.Running.{taking_after};
 ghost use Rattle.std.specs.List.{enumerate_from};
@@ -12,25 +12,29 @@ ghost use Rattle.kob_inbox.specs.Run.{after};
 ghost use Rattle.kob_inbox.specs.Tick.{Point, Ticks, point_of, state_of};
 
 use crate::consumer_end::ConsumerEnd;
-use crate::part::Part;
+use crate::part::{Part, joined};
+use crate::past_calls::PastCalls;
 use kob_inbox::{Consumer, Inbox, InboxFault, InboxRow, StopReason, Subscription, Tick};
 use kob_lines::{IntoCalls, ProgramFault, a_consumer_run_goes_on};
 use kob_rights::Code;
-use kob_router::Line;
-use std::alloc::Global;
+use kob_router::{Call, Line};
+use std::alloc::{AllocError, Global};
 use std::marker::Model;
-use std::thread;
+use std::{mem, thread};
 
-/// A consumer with its inbox, and the line of its calls. Its invariant: all it did since it began
-/// is a run of the consumer, so that the law of delivery applies to it.
+/// A consumer with its inbox, and the line of its calls. It may change its line: the calls of the
+/// earlier ones come first. Its invariant: all it did since it began is a run of the consumer, so
+/// that the law of delivery applies to it.
 #[derive(Drop)]
 pub struct RunningConsumer<L: Line> {
     consumer: Consumer,
     inbox: Inbox,
+    past: PastCalls,
     line: L,
 }
 
 impl<L: Line> Model for RunningConsumer<L> {
+    ghost use Rattle.std.specs.Prelude.{◌++◌};
     ghost use Rattle.std.specs.Coded.{codes};
     ghost use Rattle.kob_embedding.specs.Running.{IsReaderRun, Reader};
 
@@ -41,10 +45,12 @@ impl<L: Line> Model for RunningConsumer<L> {
     ghost view = { λ r. record {
       fetcher = r.consumer;
       inbox = r.inbox;
+      earlier = r.past.calls;
       line = r.line;
     } };
 
-    ghost invariant = { λ r. IsReaderRun r.consumer r.inbox (L.calls r.line) };
+    ghost invariant = { λ r.
+        IsReaderRun r.consumer r.inbox (r.past.calls ++ L.calls r.line) };
 }
 
 impl<L: Line> RunningConsumer<L> {
@@ -59,6 +65,7 @@ impl<L: Line> RunningConsumer<L> {
         requires unused { L.calls line ≡ [] }
         ensures inbox { result.inbox ≡ inbox }
         ensures subscription { result.fetcher.subscription ≡ subscription }
+        ensures earlier { result.earlier ≡ [] }
         ensures line { result.line ≡ line }
     {
         let Subscription {
@@ -66,10 +73,12 @@ impl<L: Line> RunningConsumer<L> {
             assignment,
             max,
         } = subscription;
+        let past = PastCalls::none();
         a_consumer_run_goes_on();
         RunningConsumer {
             consumer: Consumer::new(alloc, group, assignment, max),
             inbox,
+            past,
             line,
         }
     }
@@ -83,6 +92,7 @@ impl<L: Line> RunningConsumer<L> {
             (point_of self.new.fetcher self.new.inbox
             (L.calls self.new.line) (L.unmade self.new.line))
             result }
+        ensures earlier { self.new.earlier ≡ self.old.earlier }
         ensures line { L.becomes self.old.line self.new.line }
     {
         let tick = self.consumer.tick(alloc, &mut self.inbox, &mut self.line);
@@ -107,6 +117,7 @@ impl<L: Line> RunningConsumer<L> {
             (max 1 (length self.old.fetcher.subscription.assignment)) before
             (point_of self.new.fetcher self.new.inbox
             (L.calls self.new.line) (L.unmade self.new.line))) }
+        ensures earlier { self.new.earlier ≡ self.old.earlier }
         ensures line { L.becomes self.old.line self.new.line }
     {
         let round = self.consumer.subscription().assignment.len().max(1);
@@ -138,6 +149,7 @@ impl<L: Line> RunningConsumer<L> {
         ensures ends { IfErr result (λ fault. TakesAs self.new.fetcher.subscription
             (point_of self.new.fetcher self.new.inbox
             (L.calls self.new.line) (L.unmade self.new.line)) (Some fault)) }
+        ensures earlier { self.new.earlier ≡ self.old.earlier }
         ensures line { L.becomes self.old.line self.new.line }
     {
         let tick = self.tick(alloc);
@@ -160,6 +172,7 @@ impl<L: Line> RunningConsumer<L> {
             ⊎ (fault ≡ ProgramFault.Memory alloc_error)
             ⊎ EndsTaking self.new.fetcher.subscription (point_of self.new.fetcher self.new.inbox
             (L.calls self.new.line) (L.unmade self.new.line)) fault) }
+        ensures earlier { self.new.earlier ≡ self.old.earlier }
         ensures line { L.becomes self.old.line self.new.line }
     {
         if self.has_enough(count)? {
@@ -196,6 +209,20 @@ impl<L: Line> RunningConsumer<L> {
         Ok(self.taken()?.len() >= count)
     }
 
+    /// Hands out the line that was used, with its calls, and goes on with one that made no call. All
+    /// else stays. Does not allocate.
+    pub fn change_line(&mut self, line: L) -> L
+        requires { L.calls line ≡ [] }
+        ensures used { result ≡ self.old.line }
+        ensures next { self.new ≡ record self.old {
+          earlier = self.old.earlier ++ L.calls self.old.line;
+          line = line;
+        } }
+    {
+        self.past = self.past.and(self.line.made_calls());
+        mem::replace(&mut self.line, line)
+    }
+
     /// The line, with the calls that were made. Does not allocate.
     pub fn line(&self) -> &L
         ensures { result.now ≡ self.now.line }
@@ -210,6 +237,7 @@ impl<L: Line> RunningConsumer<L> {
             ≡ after self.old.fetcher.subscription
             (state_of self.old.fetcher self.old.inbox) Restarted }
         ensures inbox { self.new.inbox ≡ self.old.inbox }
+        ensures earlier { self.new.earlier ≡ self.old.earlier }
         ensures line { self.new.line ≡ self.old.line }
     {
         self.consumer.restart();
@@ -256,8 +284,10 @@ fn fault_of_code(code: Code) -> Option<ProgramFault>
 }
 
 impl<L: IntoCalls> RunningConsumer<L> {
-    /// Ends the line, whose calls are those of this worker. Does not allocate.
+    /// Ends the line, whose calls are those of this worker. The consumer changed no line. Does not
+    /// allocate.
     pub fn close(self, worker: usize) -> ConsumerEnd
+        requires { self.earlier ≡ [] }
         ensures worker { result.worker ≡ worker }
         ensures calls { result.calls ≡ L.calls self.line }
         ensures fetcher { result.fetcher ≡ self.fetcher }
@@ -266,20 +296,50 @@ impl<L: IntoCalls> RunningConsumer<L> {
         let RunningConsumer {
             consumer,
             inbox,
+            past,
             line,
         } = self;
+        drop(past);
         let calls = line.into_calls();
         ConsumerEnd::new(Part { worker, calls }, consumer, inbox)
+    }
+
+    /// Ends the line. The calls of this worker are those of the lines that were handed out, in turn,
+    /// and then those of this line. The error is out of memory.
+    pub fn close_after(self, worker: usize, earlier: Vec<Call>) -> Result<ConsumerEnd, AllocError>
+        requires { earlier.items ≡ self.earlier }
+        ensures worker { IfOk result (λ e. e.worker ≡ worker) }
+        ensures calls { IfOk result (λ e. e.calls ≡ earlier.items ++ L.calls self.line) }
+        ensures fetcher { IfOk result (λ e. e.fetcher ≡ self.fetcher) }
+        ensures inbox { IfOk result (λ e. e.inbox ≡ self.inbox) }
+    {
+        let RunningConsumer {
+            consumer,
+            inbox,
+            past,
+            line,
+        } = self;
+        drop(past);
+        match joined(earlier, line.into_calls()) {
+            Ok(calls) => Ok(ConsumerEnd::new(Part { worker, calls }, consumer, inbox)),
+            Err(refused) => {
+                drop(consumer);
+                drop(inbox);
+                Err(refused)
+            }
+        }
     }
 }
 
 impl<L: IntoCalls + Drop> RunningConsumer<L> {
-    /// Ends the line, if the work before went well. Otherwise the fault is that of the work.
+    /// Ends the line, if the work before went well. Otherwise the fault is that of the work. The
+    /// consumer changed no line.
     pub fn end(
         self,
         worker: usize,
         done: Result<(), ProgramFault>,
     ) -> Result<ConsumerEnd, ProgramFault>
+        requires { self.earlier ≡ [] }
         ensures left { IfOk result (λ e. (e.worker ≡ worker)
             × (e.calls ≡ L.calls self.line)
             × (e.fetcher ≡ self.fetcher)

@@ -2,6 +2,8 @@
 //! once in threads, where the service's right to write is revoked and granted again.
 #![tactic(auto)]
 
+ghost use Rattle.std.specs.Prelude.{◌≡◌};
+
 mod direct;
 mod threads;
 mod workers;
@@ -74,7 +76,9 @@ fn broker(alloc: Global) -> Worked<Recorded> {
 }
 
 /// Records two orders with their events, and sends these.
-fn send<L: Line>(alloc: Global, service: &mut RunningService<L>) -> Worked<()> {
+fn send<L: Line>(alloc: Global, service: &mut RunningService<L>) -> Worked<()>
+    ensures { service.new.earlier ≡ service.old.earlier }
+{
     for (id, order) in [(1, "41"), (2, "42")] {
         let change = Change::of(alloc, "order", order, "placed")?;
         let event = OutboxEvent::of(alloc, Uuid::from_u128(id), &change, order)?;

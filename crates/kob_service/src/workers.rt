@@ -1,6 +1,6 @@
 //! What the service and the consumer do, each over a line.
 
-ghost use Rattle.std.specs.Prelude.{◌≡◌, []};
+ghost use Rattle.std.specs.Prelude.{◌≡◌, [], IfOk};
 
 use crate::{Worked, send};
 use kob_embedding::{ConsumerEnd, RunningConsumer, RunningService, ServiceEnd};
@@ -22,6 +22,7 @@ pub(crate) fn serve<L: IntoCalls + Drop>(alloc: Global, line: L) -> Worked<Servi
 /// A service with an empty outbox, whose events go to topics of one partition by the default route.
 fn service<L: Line + Drop>(alloc: Global, line: L) -> Worked<RunningService<L>>
     requires { L.calls line ≡ [] }
+    ensures { IfOk result (λ service. service.earlier ≡ []) }
 {
     let route = Route::new(alloc, &RouteSettings::by_default(alloc)?)?;
     let outbox = Outbox::open_in_memory(alloc)?;
@@ -49,6 +50,7 @@ pub(crate) fn take_both<L: IntoCalls + Drop>(alloc: Global, line: L) -> Worked<C
 /// A consumer with an empty inbox, which takes in the events of all orders.
 fn consumer<L: Line + Drop>(alloc: Global, line: L) -> Worked<RunningConsumer<L>>
     requires { L.calls line ≡ [] }
+    ensures { IfOk result (λ consumer. consumer.earlier ≡ []) }
 {
     let subscription = Subscription::of(alloc, "mail", "outbox.event.order", 1, 10)?;
     let inbox = Inbox::open_in_memory(alloc)?;

@@ -1,11 +1,12 @@
-//! A router with its outbox, which threads share.
+//! A service, which threads share.
 
 use crate::left::are_records;
 use crate::making::{CREATE_ORDERS, default_route, shared};
 use crate::sessions::{place_of, session};
-use kob_lines::{Relay, SessionLine, SharedRelay};
-use kob_outbox::{Change, Outbox, OutboxEvent, OutboxFault};
-use kob_router::{Router, Tick};
+use kob_embedding::{RunningService, ServiceEnd, SharedService, is_served};
+use kob_lines::SessionLine;
+use kob_outbox::{Change, Outbox, OutboxEvent};
+use kob_router::Tick;
 use kob_shared::SharedBroker;
 use std::alloc::Global;
 use std::sync::Wait;
@@ -17,19 +18,27 @@ use uuid::Uuid;
 /// The ids of the events, in the order in which they are recorded.
 const IDS: [u128; 12] = [7, 3, 12, 1, 9, 5, 11, 2, 8, 4, 10, 6];
 
+/// A service over a session.
+type Service<'a, R> = SharedService<SessionLine<'a, R>>;
+
 /// Records the event with this id, and returns its number.
-fn record<R: Wait>(rt: &R, alloc: Global, relay: &SharedRelay, id: u128) -> Option<u64> {
+fn record<R: Wait>(rt: &R, alloc: Global, service: &Service<'_, R>, id: u128) -> Option<u64> {
     let change = Change::of(alloc, "orders", "42", "paid").ok()?;
     let event = OutboxEvent::of(alloc, Uuid::from_u128(id), &change, "{}").ok()?;
-    relay.record(rt, &change, &event).ok()
+    service.record(rt, &change, &event).ok()
 }
 
 /// Whether the events are recorded, with the numbers 1, 2 and so on. Notes at the end that no more
 /// follow.
-fn record_all<R: Wait>(rt: &R, alloc: Global, relay: &SharedRelay, is_over: &AtomicBool) -> bool {
+fn record_all<R: Wait>(
+    rt: &R,
+    alloc: Global,
+    service: &Service<'_, R>,
+    is_over: &AtomicBool,
+) -> bool {
     let mut are_numbered = true;
     for (place, id) in IDS.iter().enumerate() {
-        let is_next = record(rt, alloc, relay, *id) == Some(place as u64 + 1);
+        let is_next = record(rt, alloc, service, *id) == Some(place as u64 + 1);
         are_numbered = are_numbered && is_next;
     }
     is_over.store(true, Ordering::SeqCst);
@@ -37,13 +46,8 @@ fn record_all<R: Wait>(rt: &R, alloc: Global, relay: &SharedRelay, is_over: &Ato
 }
 
 /// Whether a tick found no row, or none if it did not send the one that it found.
-fn is_idle<R: Wait>(
-    rt: &R,
-    alloc: Global,
-    relay: &SharedRelay,
-    line: &mut SessionLine<'_, R>,
-) -> Option<bool> {
-    let tick = relay.tick(rt, alloc, line);
+fn is_idle<R: Wait>(rt: &R, alloc: Global, service: &Service<'_, R>) -> Option<bool> {
+    let tick = service.tick(rt, alloc);
     let is_idle = match &tick {
         Tick::Moved(_) => Some(false),
         Tick::Idle => Some(true),
@@ -57,13 +61,12 @@ fn is_idle<R: Wait>(
 fn send_all<R: Wait>(
     rt: &R,
     alloc: Global,
-    relay: &SharedRelay,
-    line: &mut SessionLine<'_, R>,
+    service: &Service<'_, R>,
     is_over: &AtomicBool,
 ) -> bool {
     for _ in rt.forever() {
         let is_last = is_over.load(Ordering::SeqCst);
-        let Some(is_idle) = is_idle(rt, alloc, relay, line) else {
+        let Some(is_idle) = is_idle(rt, alloc, service) else {
             return false;
         };
         if is_idle && is_last {
@@ -74,70 +77,62 @@ fn send_all<R: Wait>(
     unreachable!()
 }
 
-/// The same over a session that creates the topic.
-fn create_and_send<R: Wait>(
-    rt: &R,
-    alloc: Global,
-    relay: &SharedRelay,
-    shared: &SharedBroker,
-    is_over: &AtomicBool,
-) -> Option<bool> {
-    let mut session = session(alloc, shared, 1)?;
-    let created = place_of(rt, alloc, &mut session, CREATE_ORDERS);
-    let mut line = SessionLine::open(rt, alloc, session);
-    let sent = send_all(rt, alloc, relay, &mut line, is_over);
-    drop(line);
-    Some(created == Some(0) && sent)
-}
-
 /// Whether one thread records what another sends at the same time.
 fn record_and_send<R: Threads + Wait + Sync>(
     rt: &R,
     alloc: Global,
-    relay: &SharedRelay,
-    shared: &SharedBroker,
+    service: &Service<'_, R>,
 ) -> bool {
     let is_over = AtomicBool::new(false);
     let (recorded, sent) = thread::join(
         rt,
-        || record_all(rt, alloc, relay, &is_over),
-        || create_and_send(rt, alloc, relay, shared, &is_over),
+        || record_all(rt, alloc, service, &is_over),
+        || send_all(rt, alloc, service, &is_over),
     );
-    recorded && sent == Some(true)
+    recorded && sent
 }
 
-/// Whether a relay's events arrive at a broker whose journal has room for each call: the topic has
-/// them in the order of their numbers, each once.
-fn arrive<R: Threads + Wait + Sync>(rt: &R, alloc: Global, relay: &SharedRelay) -> Option<bool> {
+/// What the service leaves after its events were sent and its line was changed.
+fn run<R: Threads + Wait + Sync>(
+    rt: &R,
+    alloc: Global,
+    shared: &SharedBroker,
+) -> Option<ServiceEnd> {
+    let outbox = Outbox::open_in_memory(alloc).ok()?;
+    let route = default_route(alloc).ok()?;
+    let line = SessionLine::open(rt, alloc, session(alloc, shared, 1)?);
+    let service = RunningService::new(alloc, outbox, route, 1, line);
+    let service = SharedService::open(service, Vec::new(alloc));
+    let sent = record_and_send(rt, alloc, &service);
+    let swept = service.sweep(rt);
+    let next = SessionLine::open(rt, alloc, session(alloc, shared, 1)?);
+    let changed = service.change_line(rt, next);
+    let (service, earlier) = service.finish();
+    let end = service.close_after(1, earlier).ok()?;
+    if sent && swept == Ok(IDS.len() as u64) && changed.is_ok() {
+        return Some(end);
+    }
+    drop(end);
+    None
+}
+
+/// Whether the service's calls, over both lines, are its entries, and the topic has the events in
+/// the order of their numbers, each once.
+fn arrive<R: Threads + Wait + Sync>(rt: &R, alloc: Global) -> Option<bool> {
     let shared = shared(alloc, IDS.len() + 2)?;
-    let sent = record_and_send(rt, alloc, relay, &shared);
+    let mut admin = session(alloc, &shared, 2)?;
+    let created = place_of(rt, alloc, &mut admin, CREATE_ORDERS);
+    drop(admin);
+    let end = run(rt, alloc, &shared);
     let (mut broker, journal) = shared.finish().into_parts();
-    drop(journal);
     let are_sent = are_records(alloc, &mut broker, &IDS);
     drop(broker);
-    Some(are_sent && sent)
-}
-
-/// How many rows are left once those that were sent are swept.
-fn left(relay: SharedRelay) -> Result<usize, OutboxFault> {
-    let (mut outbox, router) = relay.finish().into_parts();
-    drop(router);
-    let rows = outbox.after(0, 1);
-    drop(outbox);
-    Ok(rows?.len())
-}
-
-fn sends_while_recording<R: Threads + Wait + Sync>(rt: &R, alloc: Global) -> Option<bool> {
-    let route = default_route(alloc).ok()?;
-    let outbox = Outbox::open_in_memory(alloc).ok()?;
-    let relay = SharedRelay::open(Relay::new(outbox, Router::new(alloc, route, 1)));
-    let arrived = arrive(rt, alloc, &relay);
-    let swept = relay.sweep(rt);
-    let left = left(relay);
-    Some(arrived? && swept == Ok(IDS.len() as u64) && left == Ok(0))
+    let served = end.map(|end| is_served(alloc, &journal, end.part()));
+    drop(journal);
+    Some(created == Some(0) && are_sent && served == Some(Ok(true)))
 }
 
 #[test]
 fn events_are_recorded_while_others_are_sent(rt: HostRuntime) {
-    assert!(rt; sends_while_recording(&rt, rt.alloc()) == Some(true));
+    assert!(rt; arrive(&rt, rt.alloc()) == Some(true));
 }

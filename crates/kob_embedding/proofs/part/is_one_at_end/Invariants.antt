@@ -3,4 +3,4 @@ use Rattle.kob_embedding.specs.Pairing.{Reaches, left}
 use Rattle.kob_embedding.proofs.part.is_one_at_end.Given as goal
 
 abbrev pub invariant-loop-from : goal.invariant-loop-from
-invariant-loop-from l = Reaches (left l.worker l.journal) (take l.from-index l.places) [] → ⊥
+invariant-loop-from l = Reaches (left l.own) (take l.from-index l.places) [] → ⊥

@@ -7,7 +7,7 @@ use Rattle.kob_embedding.proofs.part.places_after.Goals as goal
 pub loop-from-preserved : goal.loop-from-preserved
 loop-from-preserved c calls =
     let within : c.loop-from.from-index < length c.args.places.now = omega arith in
-    further (left c.args.worker c.args.journal.now) c.args.places.now c.loop-from.then.items c.add_after.new.then.items
+    further (left c.args.own.now) c.args.places.now c.loop-from.then.items c.add_after.new.then.items
     c.loop-from.from-index c.args.call.now calls within (c.loop-from.invariant calls) (c.in_ok-add_after.ensures calls)
 
 pub returns : goal.returns

@@ -4,5 +4,5 @@ use Rattle.kob_embedding.proofs.part.places_after.Given as goal
 
 abbrev pub invariant-loop-from : goal.invariant-loop-from
 invariant-loop-from l = (calls : List Call)
-    → Reaches (left l.worker l.journal) l.then.items calls
-    ↔ Reaches (left l.worker l.journal) (take l.from-index l.places) (l.call ∷ calls)
+    → Reaches (left l.own) l.then.items calls
+    ↔ Reaches (left l.own) (take l.from-index l.places) (l.call ∷ calls)

@@ -21,8 +21,8 @@ returns-then-idle-round-clause-idle g c =
       | then-is_idle w ↦
           one_more_idle t was.fetcher.subscription c.loop.idle _ before point c.loop.invariant.0
           (round_is c.len.result (length t.assignment) c.loop.idle c.if-is_idle.idle c.max-round.result
-          c.max-round.ensures partitions c.loop.invariant.2 w.idle-is c.if-idle-round.true)
-          c.loop.invariant.4
+          c.max-round.ensures partitions c.loop.invariant.3 w.idle-is c.if-idle-round.true)
+          c.loop.invariant.5
           (subst (λ k. Ticks was.fetcher.subscription before point k) (c.is_idle.ensures w.if-is_idle.true)
           c.in_ok-tick.ensures.done)
       | else-is_idle w ↦
@@ -38,20 +38,23 @@ loop-preserved g c =
     let now = c.step.new.self in
     let done = c.in_ok-tick.ensures in
     let line : g.L.Line.becomes c.args.self.now.line now.line = search rules in
+    let earlier = done.earlier ∙ c.loop.invariant.1 in
     let before = point_of was.fetcher was.inbox (g.L.Line.calls was.line) (g.L.Line.unmade was.line) in
     let point = point_of now.fetcher now.inbox (g.L.Line.calls now.line) (g.L.Line.unmade now.line) in
     elim c.if-is_idle.branch [
       | then-is_idle w ↦ (
         done.same ∙ c.loop.invariant.0,
+        earlier,
         line,
         c.if-idle-round.false,
         inr done.goes_on,
         one_more_idle t was.fetcher.subscription c.loop.idle c.if-is_idle.idle before point c.loop.invariant.0 w.idle-is
-            c.loop.invariant.4
+            c.loop.invariant.5
             (subst (λ k. Ticks was.fetcher.subscription before point k) (c.is_idle.ensures w.if-is_idle.true) done.done),
       )
       | else-is_idle w ↦ (
         done.same ∙ c.loop.invariant.0,
+        earlier,
         line,
         c.if-idle-round.false,
         inr done.goes_on,

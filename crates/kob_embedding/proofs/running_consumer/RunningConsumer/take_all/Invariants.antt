@@ -6,6 +6,7 @@ use Rattle.kob_embedding.proofs.running_consumer.RunningConsumer.take_all.Given 
 abbrev pub invariant-loop : goal.invariant-loop
 invariant-loop g l =
     (l.self.fetcher.subscription ≡ l.fn.self.fetcher.subscription)
+    × (l.self.earlier ≡ l.fn.self.earlier)
     × g.L.Line.becomes l.fn.self.line l.self.line
     × (l.idle < l.round)
     × ((l.self ≡ l.fn.self)

@@ -1,10 +1,12 @@
-use Rattle.kob_embedding.proofs.Words.{RecordsNoRow, ◌≡◌}
+use Rattle.kob_embedding.proofs.Words.{RecordsNoRow, ◌++◌, ◌≡◌}
 use Rattle.kob_embedding.specs.Running.{SendsAs}
 use Rattle.kob_embedding.proofs.running_service.RunningService.send_all.Given as goal
 
 abbrev pub invariant-loop : goal.invariant-loop
 invariant-loop g l =
     (l.self.relayed.router.target ≡ l.fn.self.relayed.router.target)
-    × RecordsNoRow l.fn.self.relayed (g.L.Line.calls l.fn.self.line) l.self.relayed (g.L.Line.calls l.self.line)
+    × (l.self.earlier ≡ l.fn.self.earlier)
+    × RecordsNoRow l.fn.self.relayed (l.fn.self.earlier ++ g.L.Line.calls l.fn.self.line) l.self.relayed
+    (l.self.earlier ++ g.L.Line.calls l.self.line)
     × g.L.Line.becomes l.fn.self.line l.self.line
     × SendsAs l.self.relayed (g.L.Line.calls l.self.line) (g.L.Line.unmade l.self.line) l.stands
