@@ -95,13 +95,14 @@ pub fn reaches_in_turn(
     let subscription = taken.consumer().subscription();
     let group = &subscription.group;
     let places = subscription.assignment.as_slice();
-    if let Some(breach) = breach_in_turn(journals, sender.worker, taker.worker, group, places)? {
-        return Err(DeliveryFault::Premise(breach));
-    }
+    let found = breach_in_turn(journals, sender.worker, taker.worker, group, places)?;
     journals_in_turn_are_legal();
     a_legal_journal_is_a_history();
     an_inbox_holds_a_prefix_of_each_aggregate();
-    Ok(())
+    match found {
+        Some(breach) => Err(DeliveryFault::Premise(breach)),
+        None => Ok(()),
+    }
 }
 
 /// The first entry of journals that follow one another which breaks a premise, as [`first_breach`]
