@@ -1,5 +1,10 @@
 -- What becomes of the runs of a service and of a consumer.
 use Rattle.kob_embedding.proofs.Words.{Call, Change, Err, Event, Fetcher, HasConsumerRun, HasRun, HasServiceRun, IsReaderRun, IsSenderRun, IsTick, List, None, Ok, OnErr, OnOk, OutboxEvent, RecordFault, RecordsNoRow, Relayed, Restarted, Result, Subscription, Target, Tick, [], after_record, ap, arith, dispatch_of, empty, false, first_bad, id_text, is_recorded, nat_tests, next_seq, records, point_of, stored_event, subst, sym, ticks, ℕ, ◌++◌, ◌<◌, ◌^◌, ◌∙◌, ◌∷◌, ◌≡◌}
+use Rattle.kob_embedding.specs.Running.{IsSomeStep, IsSomeSweep}
+use Rattle.kob_outbox.specs.Contents.{up_to}
+use Rattle.kob_outbox.specs.declared.fault.OutboxFault.{OutboxFault}
+use Rattle.std.proofs.Common.{length}
+use Rattle.std.specs.Prelude.{IfOk}
 use Rattle.kob_router.specs.Run.{calls_of}
 use Rattle.kob_router.specs.Tick.{state_of}
 use Rattle.std.proofs.Common.{append-nil, append_assoc}
@@ -67,29 +72,51 @@ ticked old new calls then_calls unmade then_unmade tick is rows was =
     (ticks (dispatch_of old.router.target) (point_of old.router old.outbox calls unmade)
     (point_of new.router new.outbox then_calls then_unmade) tick rows was is.1)
 
--- the same after the calls of earlier lines
+-- the same step, after the calls of earlier lines
+tick_after : (earlier : List Call) (old new : Relayed) (calls then_calls : List Call)
+    (unmade then_unmade : ℕ) (tick : Tick) → IsTick old new calls then_calls unmade then_unmade tick
+    → IsTick old new (earlier ++ calls) (earlier ++ then_calls) unmade then_unmade tick
+tick_after earlier old new calls then_calls unmade then_unmade tick is = let done = is.1 in (
+  is.0,
+  record {
+    moves = done.moves;
+    own = done.own;
+    run = done.run;
+    calls = ap (λ (made : List Call). earlier ++ made) done.calls
+        ∙ sym (append_assoc earlier calls (calls_of done.moves));
+    few = done.few;
+    answer = done.answer;
+    held = done.held;
+  },
+)
+
 pub ticked_after : (earlier : List Call) (old new : Relayed) (calls then_calls : List Call)
     (unmade then_unmade : ℕ) (tick : Tick) → IsTick old new calls then_calls unmade then_unmade tick
     → RecordsNoRow old (earlier ++ calls) new (earlier ++ then_calls)
 ticked_after earlier old new calls then_calls unmade then_unmade tick is =
-    let done = is.1 in
-    ticked old new (earlier ++ calls) (earlier ++ then_calls) unmade then_unmade tick (
-      is.0,
-      record {
-        moves = done.moves;
-        own = done.own;
-        run = done.run;
-        calls = ap (λ (made : List Call). earlier ++ made) done.calls
-            ∙ sym (append_assoc earlier calls (calls_of done.moves));
-        few = done.few;
-        answer = done.answer;
-        held = done.held;
-      },
-    )
+    ticked old new (earlier ++ calls) (earlier ++ then_calls) unmade then_unmade tick
+    (tick_after earlier old new calls then_calls unmade then_unmade tick is)
 
--- the line is changed for one that made no call
-pub no_call_more : (was made now next : List Call) → now ≡ was ++ made → next ≡ [] → now ++ next ≡ was ++ made
-no_call_more was made now next is none = ap (λ (calls : List Call). now ++ calls) none ∙ append-nil now ∙ is
+-- some service made the step
+pub some_step : (earlier : List Call) (before now : Relayed) (calls then_calls : List Call)
+    (unmade then_unmade : ℕ) (tick : Tick) → HasRun before (earlier ++ calls)
+    → IsTick before now calls then_calls unmade then_unmade tick → IsSomeStep tick
+some_step earlier before now calls then_calls unmade then_unmade tick ran made = record {
+  before = before;
+  now = now;
+  calls = earlier ++ calls;
+  then_calls = earlier ++ then_calls;
+  unmade = unmade;
+  then_unmade = then_unmade;
+  ran = ran;
+  made = tick_after earlier before now calls then_calls unmade then_unmade tick made;
+}
+
+-- some service was swept
+pub some_sweep : (r : Relayed) (calls : List Call) (result : Result ℕ OutboxFault) → HasRun r calls
+    → IfOk result (λ count. count ≡ length (up_to r.outbox.mark r.outbox.events)) → IfOk result IsSomeSweep
+some_sweep r calls (Ok count) ran is = record { relayed = r; calls = calls; ran = ran; swept = is }
+some_sweep r calls (Err fault) ran is = tt
 
 -- no line was handed out, and the line made no call
 pub no_call : (was made : List Call) → was ≡ [] → made ≡ [] → was ++ made ≡ []

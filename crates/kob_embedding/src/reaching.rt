@@ -16,7 +16,7 @@ use crate::service_end::ServiceEnd;
 use kob_delivery::{
     Breach, a_legal_journal_is_a_history, an_inbox_holds_a_prefix_of_each_aggregate, first_breach,
 };
-use kob_names::Text;
+use kob_names::{Text, sum_of};
 use kob_router::Place;
 use kob_shared::{Journal, Recorded, journals_in_turn_are_legal};
 use std::alloc::{AllocError, Global};
@@ -95,13 +95,14 @@ pub fn reaches_in_turn(
     let subscription = taken.consumer().subscription();
     let group = &subscription.group;
     let places = subscription.assignment.as_slice();
-    if let Some(breach) = breach_in_turn(journals, sender.worker, taker.worker, group, places)? {
-        return Err(DeliveryFault::Premise(breach));
-    }
+    let found = breach_in_turn(journals, sender.worker, taker.worker, group, places)?;
     journals_in_turn_are_legal();
     a_legal_journal_is_a_history();
     an_inbox_holds_a_prefix_of_each_aggregate();
-    Ok(())
+    match found {
+        Some(breach) => Err(DeliveryFault::Premise(breach)),
+        None => Ok(()),
+    }
 }
 
 /// The first entry of journals that follow one another which breaks a premise, as [`first_breach`]
@@ -135,5 +136,5 @@ fn breach_in_turn(
 fn sum(one: usize, other: usize) -> Result<usize, AllocError>
     ensures { IfOk result (λ both. both ≡ one + other) }
 {
-    one.checked_add(other).ok_or(AllocError)
+    sum_of(one, other)
 }

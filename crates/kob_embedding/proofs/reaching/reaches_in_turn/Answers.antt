@@ -1,7 +1,9 @@
-use Rattle.kob_embedding.proofs.Words.{Fetcher, ap, refl, true, ◌∙◌, ◌≡◌}
+use Rattle.kob_embedding.proofs.Words.{ArePrivate, Fetcher, ap, refl, subst, true, ◌∙◌, ◌≡◌}
 use Rattle.kob_embedding.proofs.InTurn.{are_a_history}
 use Rattle.kob_embedding.proofs.Reachings.{delivered, is_true, private_in_it, served_in_it}
+use Rattle.kob_delivery.specs.View.{IsBreach}
 use Rattle.kob_embedding.specs.InTurn.{entries_of}
+use Rattle.std.specs.Prelude.{MatchOption}
 use Rattle.kob_embedding.proofs.reaching.reaches_in_turn.Goals as goal
 
 pub returns-clause-premises : goal.returns-clause-premises
@@ -24,7 +26,10 @@ returns-clause-premises c =
           (c.in_ok-is_served_in_turn-2.ensures.0 (is_true c.in_ok-is_served_in_turn-2.field-0 second));
       private = private_in_it sender.worker s.worker taker.worker t.worker own t.fetcher.subscription
           c.as_slice-places.result.now all all one.worker two.worker subscribed c.as_slice-places.ensures
-          refl c.in_default.ensures;
+          refl
+          (subst (λ o. MatchOption o (ArePrivate sender.worker taker.worker own.group c.as_slice-places.result.now all)
+          (IsBreach sender.worker taker.worker own.group c.as_slice-places.result.now all)) c.in-None.is
+          c.in_ok-found.ensures);
     }
 
 pub returns-clause-history : goal.returns-clause-history
