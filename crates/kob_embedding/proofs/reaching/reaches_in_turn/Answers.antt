@@ -6,8 +6,8 @@ use Rattle.kob_embedding.specs.InTurn.{entries_of}
 use Rattle.std.specs.Prelude.{MatchOption}
 use Rattle.kob_embedding.proofs.reaching.reaches_in_turn.Goals as goal
 
-pub returns-clause-premises : goal.returns-clause-premises
-returns-clause-premises c =
+pub returns-in-None-clause-premises : goal.returns-in-None-clause-premises
+returns-in-None-clause-premises c =
     let s = c.args.sent.now in
     let t = c.args.taken.now in
     let sender = c.part-sender.result.now in
@@ -32,11 +32,11 @@ returns-clause-premises c =
           c.in_ok-found.ensures);
     }
 
-pub returns-clause-history : goal.returns-clause-history
-returns-clause-history c view history =
-    delivered (entries_of c.args.journals.now) view c.args.sent.now c.args.taken.now history (returns-clause-premises c)
+pub returns-in-None-clause-history : goal.returns-in-None-clause-history
+returns-in-None-clause-history c view history =
+    delivered (entries_of c.args.journals.now) view c.args.sent.now c.args.taken.now history (returns-in-None-clause-premises c)
     c.part-sender.ensures.run c.part-taker.ensures.run
 
-pub returns-clause-in_turn : goal.returns-clause-in_turn
-returns-clause-in_turn c opening now in_turn =
-    returns-clause-history c _ (are_a_history opening c.args.journals.now now in_turn)
+pub returns-in-None-clause-in_turn : goal.returns-in-None-clause-in_turn
+returns-in-None-clause-in_turn c opening now in_turn =
+    returns-in-None-clause-history c _ (are_a_history opening c.args.journals.now now in_turn)
