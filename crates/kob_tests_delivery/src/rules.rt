@@ -4,7 +4,8 @@ use crate::making::{event_of, recorded};
 use crate::revoked::write_allowed;
 use kob_broker::Settings;
 use kob_delivery::{
-    RuleFault, first_other_actor, first_super_producer, first_unreserved, only_producer_by_rules,
+    RuleFault, first_other_actor, first_super_producer, first_unreserved, is_reserved,
+    only_committer_by_rules, only_producer_by_rules,
 };
 use kob_names::{Items, Operation, Principal, ResourceKind, Text};
 use kob_script::read_script;
@@ -13,7 +14,7 @@ use std::alloc::Global;
 
 /// The entries, each with its worker. No binding is in force from entry 4 on, and from entry 5 on
 /// `User:other` may do all on names that begin with `t`.
-const ENTRIES: [(usize, &str); 7] = [
+const ENTRIES: [(usize, &str); 8] = [
     (0, "User:root h create-topic t 1"),
     (
         0,
@@ -27,6 +28,7 @@ const ENTRIES: [(usize, &str); 7] = [
     ),
     (2, "User:svc h metadata"),
     (0, "User:root h produce t 0 - v"),
+    (0, "User:root h commit g t 0 1"),
 ];
 
 fn serve_all(alloc: Global, recorded: &mut Recorded) -> Option<()> {
@@ -76,24 +78,41 @@ fn premises_hold(alloc: Global, journal: &Journal, settings: &Settings) -> Optio
     let closed = unreserved(alloc, settings, journal, &service, &topic);
     let open = open_settings(alloc)?;
     let opened = unreserved(alloc, &open, journal, &service, &topic);
+    let at_first = is_reserved(
+        alloc,
+        &open,
+        &service,
+        Operation::Write,
+        ResourceKind::Topic,
+        &topic,
+    );
     drop(open);
     let other = first_other_actor(journal, 1, &service);
     let of_root = first_super_producer(journal, &settings.supers, &topic);
-    Some((closed, opened, other, of_root) == (Some(5), Some(4), Some(5), Some(6)))
+    let found = (closed, opened, other, of_root) == (Some(5), Some(4), Some(5), Some(6));
+    Some(found && at_first.ok()?)
 }
 
-/// The rules for a principal that no entry acts as, on a topic to which no super user writes.
+/// The rules for principals that no entry acts as: on a topic to which no super user writes, and on
+/// one on which a super user commits.
 fn rules_hold(alloc: Global, journal: &Journal, settings: &Settings) -> Option<bool> {
     let topic = Text::copied(alloc, "tx").ok()?;
     let other = Principal::parse(alloc, "User:other").ok()?;
     let owned = only_producer_by_rules(alloc, settings, journal, 9, &other, &topic);
     let nobody = Principal::parse(alloc, "User:nobody").ok()?;
     let left = only_producer_by_rules(alloc, settings, journal, 9, &nobody, &topic);
-    Some(owned.is_ok() && matches!(left, Err(RuleFault::NotReserved(5))))
+    let group = Text::copied(alloc, "g").ok()?;
+    let t = Text::copied(alloc, "t").ok()?;
+    let commits = only_committer_by_rules(alloc, settings, journal, 9, &nobody, &group, &t);
+    Some(
+        owned.is_ok()
+            && matches!(left, Err(RuleFault::NotReserved(5)))
+            && matches!(commits, Err(RuleFault::SuperUser(7))),
+    )
 }
 
 fn holds(alloc: Global) -> Option<bool> {
-    let mut recorded = recorded(alloc, 7)?;
+    let mut recorded = recorded(alloc, 8)?;
     let served = serve_all(alloc, &mut recorded);
     let premises = premises_hold(alloc, recorded.journal(), recorded.opening());
     let rules = rules_hold(alloc, recorded.journal(), recorded.opening());
