@@ -11,8 +11,8 @@ SUBJECTS = {
     "names, lists and trees": "names words ordered chunks prefix_tree",
     "access and broker": "authorizer rights producers partition catalog groups broker",
     "journal and threads": "shared",
-    "outbox, router, inbox, delivery": "outbox router inbox lines pipeline embedding delivery_check "
-    "topic_check",
+    "outbox, router, inbox, delivery": "outbox router inbox lines delivery pipeline embedding "
+    "delivery_check topic_check",
     "questions about rules": "policy_review policy_text policy_rows",
     "texts, scenes and programs": "acl_cli script text run scene_text scene_play scene_export mistakes "
     "service kob",
