@@ -46,7 +46,7 @@ class Release(unittest.TestCase):
             self.assertEqual(release.moved(text), wanted)
 
     def test_scenes_and_lists_that_pages_name_are_found(self) -> None:
-        for text, wanted in (
+        cases: list[tuple[str, list[str]]] = [
             ("`first_scene.txt`", ["data/first_scene.txt", "data/first_scene.txt.stdout"]),
             ("play crates/kob/data/first_scene.txt.", ["data/first_scene.txt", "data/first_scene.txt.stdout"]),
             (
@@ -54,7 +54,8 @@ class Release(unittest.TestCase):
                 ["cases/scenes/json/scene.txt", "cases/scenes/json/stdout"],
             ),
             ("your.txt, examples/kafka_acls_line.txt and kafka_acls_line.txt", []),
-        ):
+        ]
+        for text, wanted in cases:
             self.assertEqual(release.shown([text]), [f"crates/kob/{it}" for it in wanted])
 
     def test_options_are_those_of_the_program(self) -> None:
