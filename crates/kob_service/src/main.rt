@@ -1,6 +1,6 @@
-//! Two orders are placed and paid, and their events reach an inbox: once without threads, where a
-//! reply is lost, and once in threads, where journals are handed out, the service changes its line
-//! and restarts, and its right to write is revoked and granted again.
+//! Two orders are placed and paid, and their events reach an inbox: once without threads, where
+//! replies are lost and the broker hands its journal out, and once in threads, where the service's
+//! right to write is revoked and granted again. Both times the service changes its line and restarts.
 #![tactic(auto)]
 
 ghost use Rattle.std.specs.Prelude.{◌≡◌};
@@ -40,7 +40,7 @@ struct Delivered {
 
 fn main(rt: HostRuntime) -> Worked<()> {
     let alloc = rt.alloc();
-    let delivered = direct::deliver(alloc)?;
+    let delivered = direct::deliver(&rt, alloc)?;
     let printed = print(&mut rt.stdout(), "without threads", &delivered);
     drop(delivered);
     printed?;

@@ -3,7 +3,7 @@
 ghost use Rattle.std.specs.Prelude.{◌≡◌, [], IfOk};
 
 use crate::{Worked, order_event};
-use kob_embedding::{ConsumerEnd, RunningConsumer, RunningService, ServiceEnd};
+use kob_embedding::{ConsumerEnd, RunningConsumer, RunningService};
 use kob_inbox::{Inbox, Subscription};
 use kob_lines::IntoCalls;
 use kob_outbox::Outbox;
@@ -12,15 +12,6 @@ use std::alloc::Global;
 
 /// How many events both orders have.
 const EVENTS: usize = 4;
-
-/// Worker 1 places two orders, which are then paid, and sends the events.
-pub(crate) fn serve<L: IntoCalls + Drop>(alloc: Global, line: L) -> Worked<ServiceEnd>
-    requires { L.calls line ≡ [] }
-{
-    let mut service = service(alloc, line)?;
-    let sent = send(alloc, &mut service);
-    service.end(1, sent)
-}
 
 /// A service with an empty outbox, whose events go to topics of one partition by the default route.
 pub(crate) fn service<L: Line + Drop>(alloc: Global, line: L) -> Worked<RunningService<L>>
@@ -32,13 +23,17 @@ pub(crate) fn service<L: Line + Drop>(alloc: Global, line: L) -> Worked<RunningS
     Ok(RunningService::new(alloc, outbox, route, 1, line))
 }
 
-fn send<L: Line>(alloc: Global, service: &mut RunningService<L>) -> Worked<()>
+/// Records the state of both orders, and sends the events.
+pub(crate) fn send<L: Line>(
+    alloc: Global,
+    service: &mut RunningService<L>,
+    ids: [u128; 2],
+    state: &str,
+) -> Worked<()>
     ensures { service.new.earlier ≡ service.old.earlier }
 {
-    record(alloc, service, 1, "41", "placed")?;
-    record(alloc, service, 3, "42", "placed")?;
-    record(alloc, service, 2, "41", "paid")?;
-    record(alloc, service, 4, "42", "paid")?;
+    record(alloc, service, ids[0], "41", state)?;
+    record(alloc, service, ids[1], "42", state)?;
     service.send_all(alloc, u32::MAX)
 }
 
