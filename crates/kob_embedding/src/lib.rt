@@ -4,17 +4,22 @@
 #![tactic(auto)]
 
 mod consumer_end;
+mod history;
 mod opening;
 mod part;
 mod past_calls;
 mod reaching;
 mod running_consumer;
 mod running_service;
+mod seen;
+mod seen_commits;
+mod seen_log;
 mod service_end;
 mod sessions;
 mod shared_service;
 
 pub use consumer_end::ConsumerEnd;
+pub use history::{JudgeFault, first_stranger, judged_in_turn};
 pub use opening::opened;
 pub use part::{Part, is_served, is_served_in_turn};
 pub use reaching::{DeliveryFault, reaches_in_order, reaches_in_turn};

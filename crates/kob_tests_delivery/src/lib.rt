@@ -18,6 +18,8 @@ mod fleets;
 #[cfg(test)]
 mod gates;
 #[cfg(test)]
+mod histories;
+#[cfg(test)]
 mod inbox;
 #[cfg(test)]
 mod left;
