@@ -5,7 +5,7 @@ from collections.abc import Callable, Iterable
 
 from sochullwa.repository import CRATES, TOP, listed
 
-BLOCK = re.compile(r"```(script|output|contract|files|layers|edits|sizes|lines) ([^\n]+)\n(.*?)```\n", re.S)
+BLOCK = re.compile(r"```(script|output|contract|function|files|layers|edits|sizes|lines) ([^\n]+)\n(.*?)```\n", re.S)
 # The crates by subject, for the table of sizes; the tests and all other crates have rows of their own.
 SUBJECTS = {
     "names, lists and trees": "names words ordered chunks prefix_tree",
@@ -32,8 +32,21 @@ def contract(words: str) -> str:
         found = re.search(rf"^( *)pub fn {name}\b.*?(?=^\1\{{)", text, re.M | re.S)
     else:
         found = re.search(rf"^ *(?:abbrev )?(?:pub )?(?:record )?{name} .*?(?=\n\n|\Z)", text, re.M | re.S)
+    return unindented(found, words)
+
+
+def function(words: str) -> str:
+    """A function of a file, with its comment and its body."""
+    name_file, name = words.split()
+    text = (TOP / name_file).read_text()
+    comment = r"(?:^ *(?://|#\[)[^\n]*\n)*"
+    return unindented(re.search(rf"{comment}^( *)(?:pub(?:\(crate\))? )?fn {name}\b.*?^\1\}}", text, re.M | re.S), words)
+
+
+def unindented(found: re.Match[str] | None, words: str) -> str:
+    """What was found, from the first column on."""
     if not found:
-        raise LookupError(f"{name_file} has no {name}")
+        raise LookupError("{} has no {}".format(*words.split()))
     lines = found[0].rstrip().splitlines()
     indent = len(lines[0]) - len(lines[0].lstrip())
     return "".join(line[min(indent, len(line) - len(line.lstrip())) :] + "\n" for line in lines)
@@ -136,6 +149,7 @@ KINDS: dict[str, Callable[[str], str]] = {
     "script": file,
     "output": file,
     "contract": contract,
+    "function": function,
     "files": files_with,
     "layers": layers,
     "edits": edits,

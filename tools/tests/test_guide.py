@@ -83,6 +83,10 @@ class Guide(unittest.TestCase):
             "contract crates/kob_low/src/lib.rt next": (
                 "pub fn next(&self) -> Mark\n    ensures { result.0 ≡ self.0 + 1 }\n"
             ),
+            "function crates/kob_low/src/lib.rt next": (
+                "/// The next.\npub fn next(&self) -> Mark\n"
+                "    ensures { result.0 ≡ self.0 + 1 }\n{\n    Mark(self.0 + 1)\n}\n"
+            ),
             "contract crates/kob_low/specs/Marks.antt first": "pub first : Nat\nfirst = 0\n",
             "contract crates/kob_low/specs/Marks.antt Row": "pub record Row : Type where\n  at : Nat\n",
             "files Mark": "kob_low: specs/Marks.antt, src/lib.rt\n",
@@ -108,6 +112,7 @@ class Guide(unittest.TestCase):
         for head, lacking in {
             "files nowhere at all in kob": "no file has nowhere at all",
             "contract crates/kob/src/main.rt gone": "crates/kob/src/main.rt has no gone",
+            "function crates/kob/src/main.rt gone": "crates/kob/src/main.rt has no gone",
         }.items():
             self.refused(f"```{head}\n```\n", f"quotes what is not there: {lacking}")
         put(self.room, {"docs/PAGE.md": "```script gone.txt\n```\n"})

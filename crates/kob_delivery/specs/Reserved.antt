@@ -12,7 +12,7 @@ use Rattle.kob_names.specs.declared.kinds.Operation.TheVariants.{Read, Write}
 use Rattle.kob_names.specs.declared.kinds.Permission.TheVariants.{Allow}
 use Rattle.kob_names.specs.declared.kinds.ResourceKind.{ResourceKind}
 use Rattle.kob_names.specs.declared.kinds.ResourceKind.TheVariants.{Group, Topic}
-use Rattle.kob_rights.specs.declared.request.Request.TheVariants.{CreateAcls, DeleteAcls}
+use Rattle.kob_rights.specs.declared.request.Request.TheVariants.{CreateAcls, CreateTopics, DeleteAcls, DeleteGroups, DeleteRecords, DeleteTopics, DescribeAcls, Fetch, InitProducerId, ListGroups, ListOffsets, Metadata, OffsetCommit, OffsetFetch, Produce}
 use Rattle.kob_shared.specs.Journals.{bindings_after}
 use Rattle.kob_delivery.specs.Types.{Denied, Done, Entry, Refused, Reply, Request, Settings}
 use Rattle.kob_delivery.specs.View.{ActsAlone, IsFirstBreach, IsReservedFor, NoSuperUser}
@@ -59,7 +59,19 @@ abbrev pub after_done : ResourceKind → List ℕ → Request → List Binding �
 after_done resource name (CreateAcls asked) bindings =
     fold (with_created resource name) bindings asked.drafts
 after_done resource name (DeleteAcls asked) bindings = without_deleted asked.filter bindings
-after_done resource name _ bindings = bindings
+after_done resource name (Produce asked) bindings = bindings
+after_done resource name (Fetch asked) bindings = bindings
+after_done resource name (ListOffsets asked) bindings = bindings
+after_done resource name (Metadata asked) bindings = bindings
+after_done resource name (OffsetCommit asked) bindings = bindings
+after_done resource name (OffsetFetch asked) bindings = bindings
+after_done resource name ListGroups bindings = bindings
+after_done resource name (DeleteGroups asked) bindings = bindings
+after_done resource name (CreateTopics asked) bindings = bindings
+after_done resource name (DeleteTopics asked) bindings = bindings
+after_done resource name (DeleteRecords asked) bindings = bindings
+after_done resource name InitProducerId bindings = bindings
+after_done resource name (DescribeAcls asked) bindings = bindings
 
 -- what a request with this reply makes of them
 abbrev pub after_reply : ResourceKind → List ℕ → Reply → Request → List Binding → List Binding

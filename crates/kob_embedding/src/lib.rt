@@ -26,5 +26,5 @@ pub use reaching::{DeliveryFault, reaches_in_order, reaches_in_turn};
 pub use running_consumer::RunningConsumer;
 pub use running_service::RunningService;
 pub use service_end::ServiceEnd;
-pub use sessions::session_of;
+pub use sessions::{rotating_session_of, session_of};
 pub use shared_service::SharedService;

@@ -1,123 +1,264 @@
-//! Two orders are placed and paid, and their events reach an inbox: once without threads, where
-//! replies are lost and the broker hands its journal out, and once in threads, where the service's
-//! right to write is revoked and granted again. Both times the service changes its line and restarts.
+//! Two orders are placed and paid, and their events reach an inbox. Two threads record the changes
+//! with their events, a third sends the events, and a fourth takes them in. An administrator revokes
+//! the service's right to write, and grants it again. The reply to the first call of each line is
+//! lost. Between the two states the service changes its line and restarts its router. The broker
+//! hands its journal out after each event that is sent. In the end all journals are judged.
 #![tactic(auto)]
 
-ghost use Rattle.std.specs.Prelude.{◌≡◌};
+ghost use Rattle.std.specs.Prelude.{◌≡◌, [], IfOk};
 
-mod direct;
-mod threads;
-mod workers;
+mod journals;
+mod orders;
 
-use kob_embedding::{ConsumerEnd, DeliveryFault, ServiceEnd, opened, reaches_in_turn};
-use kob_inbox::InboxRow;
-use kob_lines::ProgramFault;
-use kob_outbox::{Change, OutboxEvent};
-use kob_script::{Script, read_script};
-use kob_shared::{ENTRY_LIMIT, Journal, Recorded};
+use crate::journals::HandedOut;
+use crate::orders::{Delivered, Worked, broker, order_event, print, script};
+use kob_embedding::{ConsumerEnd, RunningConsumer, RunningService, ServiceEnd, SharedService};
+use kob_embedding::{judged_in_turn, rotating_session_of};
+use kob_inbox::{Inbox, Subscription};
+use kob_lines::{IntoCalls, Loss, Lossy, ProgramFault, SessionLine};
+use kob_names::PlainValue;
+use kob_outbox::Outbox;
+use kob_rights::Event;
+use kob_router::{Line, Route, RouteSettings, Tick};
+use kob_script::Script;
+use kob_shared::{RotatingBroker, Session};
 use std::alloc::Global;
-use std::io::Write;
-use uuid::Uuid;
+use std::sync::Wait;
+use std::thread;
+use std::thread::{Threads, join};
 
-/// A topic, and what the service and the consumer may do.
-const OPENING: &str = "super User:root
-User:root h create-topic outbox.event.order 1
+/// How many events both orders have.
+const EVENTS: usize = 4;
+
+/// The service's right to write is revoked, and granted again.
+const CHANGES: &str = "User:root h delete-acls - - any User:orders - Write -
 User:root h create-acl allow User:orders * Write Topic literal outbox.event.order
-User:root h create-acl allow User:orders * IdempotentWrite Cluster literal kafka-cluster
-User:root h create-acl allow User:mail * Read Topic literal outbox.event.order
-User:root h create-acl allow User:mail * Read Group literal mail
 ";
-
-/// What a worker leaves, or why it stopped.
-type Worked<T> = Result<T, ProgramFault>;
-
-/// The rows of an inbox, and whether the law of delivery holds of it, or what it lacks.
-#[derive(Drop)]
-struct Delivered {
-    reached: Result<(), DeliveryFault>,
-    rows: Vec<InboxRow>,
-}
 
 fn main(rt: HostRuntime) -> Worked<()> {
     let alloc = rt.alloc();
-    let delivered = direct::deliver(&rt, alloc)?;
-    let printed = print(&mut rt.stdout(), "without threads", &delivered);
-    drop(delivered);
-    printed?;
-    let delivered = threads::deliver(&rt, alloc)?;
-    let printed = print(&mut rt.stdout(), "in threads", &delivered);
+    let delivered = deliver(&rt, alloc)?;
+    let printed = print(&mut rt.stdout(), &delivered);
     drop(delivered);
     printed
 }
 
-fn print<W: Write>(out: &mut W, heading: &str, delivered: &Delivered) -> Worked<()> {
-    writeln!(out, "{heading}")?;
-    for order in ["41", "42"] {
-        print_order(out, order, &delivered.rows)?;
-    }
-    match delivered.reached {
-        Ok(()) => writeln!(out, "delivered in order: true")?,
-        Err(fault) => writeln!(out, "delivered in order: false, {fault}")?,
-    }
-    Ok(())
+/// Delivers the orders over one broker: worker 1 sends, worker 2 takes in, and worker 3 administers.
+fn deliver<R: Threads + Wait + Sync>(rt: &R, alloc: Global) -> Worked<Delivered> {
+    let (opening, continued) = broker(alloc)?.next(alloc);
+    let shared = RotatingBroker::open(continued);
+    let mut handed = HandedOut::none(alloc);
+    let begun = handed.keep(opening);
+    let (sent, (taken, changed)) = join(
+        rt,
+        || serve(rt, alloc, &shared, &mut handed),
+        || join(
+            rt,
+            || consume(rt, alloc, &shared),
+            || administer(rt, alloc, &shared),
+        ),
+    );
+    let (broker, last) = shared.finish().into_parts();
+    drop(broker);
+    let ended = handed.keep(last);
+    let mut taken = taken;
+    let delivered = delivered(alloc, &handed, &sent, &mut taken);
+    drop(handed);
+    drop(sent);
+    drop(taken);
+    begun.and(ended).and(changed).and(delivered)
 }
 
-/// Prints an order's states in the order in which they were taken in.
-fn print_order<W: Write>(out: &mut W, order: &str, rows: &[InboxRow]) -> Worked<()> {
-    write!(out, "{order}:")?;
-    for row in rows {
-        if is_of(order, row) {
-            let state = std::str::from_utf8(row.value.as_slice()).unwrap_or("?");
-            write!(out, " {state}")?;
-        }
-    }
-    Ok(writeln!(out)?)
-}
-
-fn is_of(order: &str, row: &InboxRow) -> bool {
-    match &row.key {
-        Some(key) => key.as_slice() == order.as_bytes(),
-        None => false,
-    }
-}
-
-fn script(alloc: Global, text: &str) -> Worked<Script> {
-    read_script(alloc, text.as_bytes()).map_err(|_| ProgramFault::BadText)
-}
-
-/// A broker with a journal that has served the opening.
-fn broker(alloc: Global) -> Worked<Recorded> {
-    let Script { settings, events } = script(alloc, OPENING)?;
-    Ok(opened(alloc, settings, events.as_slice(), ENTRY_LIMIT)?)
-}
-
-/// An order's new state, and its event.
-fn order_event(alloc: Global, id: u128, order: &str, state: &str) -> Worked<(Change, OutboxEvent)> {
-    let change = Change::of(alloc, "order", order, state)?;
-    match OutboxEvent::of(alloc, Uuid::from_u128(id), &change, state) {
-        Ok(event) => Ok((change, event)),
-        Err(fault) => {
-            drop(change);
-            Err(ProgramFault::from(fault))
-        }
-    }
-}
-
-/// What has reached the inbox. The ends are borrowed, since a value that is dropped at `?` makes a
-/// proof long.
-fn reached(
+/// What has reached the inbox, judged by all journals in turn.
+fn delivered(
     alloc: Global,
-    journals: &[&Journal],
+    handed: &HandedOut,
     sent: &Worked<ServiceEnd>,
     taken: &mut Worked<ConsumerEnd>,
 ) -> Worked<Delivered> {
     match (taken, sent) {
         (Ok(taken), Ok(sent)) => {
-            let reached = reaches_in_turn(alloc, journals, sent, taken);
+            let journals = handed.in_turn(alloc)?;
+            let judged = judged_in_turn(alloc, &journals, sent, taken);
+            drop(journals);
             let rows = taken.taken()?;
-            Ok(Delivered { reached, rows })
+            Ok(Delivered { judged, rows })
         }
         (Err(fault), _) => Err(*fault),
         (_, Err(fault)) => Err(*fault),
     }
+}
+
+/// Worker 1 sends the events over two lines, also while its right is revoked.
+fn serve<R: Threads + Wait + Sync>(
+    rt: &R,
+    alloc: Global,
+    shared: &RotatingBroker,
+    handed: &mut HandedOut,
+) -> Worked<ServiceEnd> {
+    let service = service(alloc, line(rt, alloc, shared)?)?;
+    let service = SharedService::open(service, Vec::new(alloc));
+    let next = line(rt, alloc, shared);
+    serve_over(rt, alloc, shared, handed, service, next)
+}
+
+/// The orders are placed, and then paid. Between the two the service changes its line and restarts
+/// its router.
+fn serve_over<R: Threads + Wait + Sync, L: IntoCalls + Send + Drop>(
+    rt: &R,
+    alloc: Global,
+    shared: &RotatingBroker,
+    handed: &mut HandedOut,
+    service: SharedService<L>,
+    next: Worked<L>,
+) -> Worked<ServiceEnd>
+    requires { IfOk next (λ line. L.calls line ≡ []) }
+{
+    let placed = record_and_send(rt, alloc, shared, handed, &service, [1, 3], "placed");
+    let changed = match next {
+        Ok(line) => service.change_line(rt, line).map_err(|refused| ProgramFault::from(refused)),
+        Err(fault) => Err(fault),
+    };
+    service.restart(rt);
+    let paid = record_and_send(rt, alloc, shared, handed, &service, [2, 4], "paid");
+    let (service, earlier) = service.finish();
+    let end = service.close_after(1, earlier);
+    placed.and(changed).and(paid)?;
+    Ok(end?)
+}
+
+/// Two threads record the state of an order each, and a third sends the events.
+fn record_and_send<R: Threads + Wait + Sync, L: Line + Send>(
+    rt: &R,
+    alloc: Global,
+    shared: &RotatingBroker,
+    handed: &mut HandedOut,
+    service: &SharedService<L>,
+    ids: [u128; 2],
+    state: &str,
+) -> Worked<()> {
+    let (sent, (one, other)) = join(
+        rt,
+        || send_two(rt, alloc, shared, handed, service),
+        || join(
+            rt,
+            || record(rt, alloc, service, ids[0], "41", state),
+            || record(rt, alloc, service, ids[1], "42", state),
+        ),
+    );
+    one.and(other).and(sent)
+}
+
+fn record<R: Wait, L: Line>(
+    rt: &R,
+    alloc: Global,
+    service: &SharedService<L>,
+    id: u128,
+    order: &str,
+    state: &str,
+) -> Worked<()> {
+    let (change, event) = order_event(alloc, id, order, state)?;
+    let recorded = service.record(rt, &change, &event);
+    drop(change);
+    drop(event);
+    recorded?;
+    Ok(())
+}
+
+/// Ticks until two events are acknowledged. After each the broker hands its journal out.
+fn send_two<R: Wait, L: Line>(
+    rt: &R,
+    alloc: Global,
+    shared: &RotatingBroker,
+    handed: &mut HandedOut,
+    service: &SharedService<L>,
+) -> Worked<()> {
+    for _ in 0..2 {
+        send_one(rt, alloc, service)?;
+        handed.hand_out(rt, alloc, shared)?;
+    }
+    Ok(())
+}
+
+/// Ticks until an event is acknowledged.
+fn send_one<R: Wait, L: Line>(rt: &R, alloc: Global, service: &SharedService<L>) -> Worked<()> {
+    for _ in 0..u32::MAX {
+        if is_acknowledged(service.tick(rt, alloc)) {
+            return Ok(());
+        }
+        thread::yield_now();
+    }
+    Err(ProgramFault::Stopped)
+}
+
+fn is_acknowledged(tick: Tick) -> bool {
+    let is_acknowledged = matches!(&tick, Tick::Moved(_));
+    drop(tick);
+    is_acknowledged
+}
+
+/// A service with an empty outbox, whose events go to topics of one partition by the default route.
+fn service<L: Line + Drop>(alloc: Global, line: L) -> Worked<RunningService<L>>
+    requires { L.calls line ≡ [] }
+    ensures { IfOk result (λ service. service.earlier ≡ []) }
+{
+    let route = Route::new(alloc, &RouteSettings::by_default(alloc)?)?;
+    let outbox = Outbox::open_in_memory(alloc)?;
+    Ok(RunningService::new(alloc, outbox, route, 1, line))
+}
+
+/// A line that loses the reply to its first call. The router makes the call again.
+fn line<'a, R: Wait>(
+    rt: &'a R,
+    alloc: Global,
+    shared: &'a RotatingBroker,
+) -> Worked<Lossy<SessionLine<'a, R>>>
+    ensures { IfOk result (λ line. line.calls.made.items ≡ []) }
+{
+    let session = rotating_session_of(alloc, shared, 1, "User:orders", "10.0.0.1")?;
+    let mut line = Lossy::over(alloc, SessionLine::open(rt, alloc, session));
+    line.lose(Loss::AfterServe);
+    Ok(line)
+}
+
+/// Worker 2 takes the events in until all are there.
+fn consume<R: Wait>(rt: &R, alloc: Global, shared: &RotatingBroker) -> Worked<ConsumerEnd> {
+    let session = rotating_session_of(alloc, shared, 2, "User:mail", "10.0.0.2")?;
+    let mut consumer = consumer(alloc, SessionLine::open(rt, alloc, session))?;
+    let taken = consumer.take_rows(alloc, EVENTS, u32::MAX);
+    consumer.end(2, taken)
+}
+
+/// A consumer with an empty inbox, which takes in the events of all orders.
+fn consumer<L: Line + Drop>(alloc: Global, line: L) -> Worked<RunningConsumer<L>>
+    requires { L.calls line ≡ [] }
+    ensures begun { IfOk result (λ consumer. consumer.earlier ≡ []) }
+    ensures line { IfOk result (λ consumer. consumer.line ≡ line) }
+{
+    let subscription = Subscription::of(alloc, "mail", "outbox.event.order", 1, 10)?;
+    let inbox = Inbox::open_in_memory(alloc)?;
+    Ok(RunningConsumer::new(alloc, inbox, subscription, line))
+}
+
+/// Worker 3 revokes the service's right to write, and grants it again.
+fn administer<R: Wait>(rt: &R, alloc: Global, shared: &RotatingBroker) -> Worked<()> {
+    let mut session = rotating_session_of(alloc, shared, 3, "User:root", "10.0.0.3")?;
+    let Script { settings, events } = script(alloc, CHANGES)?;
+    drop(settings);
+    let changed = call_all(rt, alloc, &mut session, events.as_slice());
+    drop(events);
+    changed
+}
+
+fn call_all<R: Wait>(
+    rt: &R,
+    alloc: Global,
+    session: &mut Session<'_>,
+    events: &[Event],
+) -> Worked<()> {
+    for event in events {
+        let request = event.request.copy(alloc)?;
+        drop(session.call(rt, alloc, request)?);
+    }
+    Ok(())
 }

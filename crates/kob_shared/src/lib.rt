@@ -1,6 +1,7 @@
 //! A broker that threads share: the broker and the journal of its events are under one lock.
 #![tactic(auto)]
 
+mod beginning;
 mod compare;
 mod continued;
 mod desk;

@@ -4,9 +4,8 @@ use crate::left::are_records;
 use crate::making::{CREATE_ORDERS, default_route, shared};
 use crate::sessions::{place_of, session};
 use kob_embedding::{RunningService, ServiceEnd, SharedService, is_served};
-use kob_lines::{Connection, Serve};
+use kob_lines::SessionLine;
 use kob_outbox::{Change, Outbox, OutboxEvent};
-use kob_rights::{Reply, Request};
 use kob_router::Tick;
 use kob_shared::SharedBroker;
 use std::alloc::Global;
@@ -19,27 +18,8 @@ use uuid::Uuid;
 /// The ids of the events, in the order in which they are recorded.
 const IDS: [u128; 12] = [7, 3, 12, 1, 9, 5, 11, 2, 8, 4, 10, 6];
 
-/// A broker that threads share, and the handle by which a call waits for its lock.
-#[derive(Drop)]
-struct Caller<'a, R: Wait> {
-    rt: R,
-    shared: &'a SharedBroker,
-}
-
-impl<'a, R: Wait> Serve for Caller<'a, R> {
-    fn serve(&mut self, alloc: Global, request: Request) -> Option<Reply> {
-        let Some(mut session) = session(alloc, self.shared, 1) else {
-            drop(request);
-            return None;
-        };
-        let served = session.call(&self.rt, alloc, request);
-        drop(session);
-        Some(served.ok()?.reply)
-    }
-}
-
-/// A service whose calls go there.
-type Service<'a, R> = SharedService<Connection<Caller<'a, R>>>;
+/// A service whose calls go to a session.
+type Service<'a, R> = SharedService<SessionLine<'a, R>>;
 
 /// Records the event with this id, and returns its number.
 fn record<R: Wait>(rt: &R, alloc: Global, service: &Service<'_, R>, id: u128) -> Option<u64> {
@@ -98,7 +78,7 @@ fn send_all<R: Wait>(
 }
 
 /// Whether one thread records what another sends at the same time.
-fn record_and_send<R: Threads + Wait + Copy + Send + Sync>(
+fn record_and_send<R: Threads + Wait + Sync>(
     rt: &R,
     alloc: Global,
     service: &Service<'_, R>,
@@ -113,19 +93,19 @@ fn record_and_send<R: Threads + Wait + Copy + Send + Sync>(
 }
 
 /// What the service leaves after its events were sent and its line was changed.
-fn run<R: Threads + Wait + Copy + Send + Sync>(
+fn run<R: Threads + Wait + Sync>(
     rt: &R,
     alloc: Global,
     shared: &SharedBroker,
 ) -> Option<ServiceEnd> {
+    let line = SessionLine::open(rt, alloc, session(alloc, shared, 1)?);
+    let next = SessionLine::open(rt, alloc, session(alloc, shared, 1)?);
     let outbox = Outbox::open_in_memory(alloc).ok()?;
     let route = default_route(alloc).ok()?;
-    let line = Connection::over(alloc, Caller { rt: *rt, shared });
     let service = RunningService::new(alloc, outbox, route, 1, line);
     let service = SharedService::open(service, Vec::new(alloc));
     let sent = record_and_send(rt, alloc, &service);
     let swept = service.sweep(rt);
-    let next = Connection::over(alloc, Caller { rt: *rt, shared });
     let changed = service.change_line(rt, next);
     let (service, earlier) = service.finish();
     let end = service.close_after(1, earlier).ok()?;
@@ -138,7 +118,7 @@ fn run<R: Threads + Wait + Copy + Send + Sync>(
 
 /// Whether the service's calls, over both lines, are its entries, and the topic has the events in
 /// the order of their numbers, each once.
-fn arrive<R: Threads + Wait + Copy + Send + Sync>(rt: &R, alloc: Global) -> Option<bool> {
+fn arrive<R: Threads + Wait + Sync>(rt: &R, alloc: Global) -> Option<bool> {
     let shared = shared(alloc, IDS.len() + 2)?;
     let mut admin = session(alloc, &shared, 2)?;
     let created = place_of(rt, alloc, &mut admin, CREATE_ORDERS);
