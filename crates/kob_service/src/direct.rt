@@ -89,7 +89,7 @@ fn serve<'a, R: Wait>(
     let mut service = workers::service(alloc, line(rt, alloc, shared)?)?;
     let next = line(rt, alloc, shared)?;
     match send_over(rt, alloc, shared, handed, &mut service, next) {
-        Ok(earlier) => Ok(service.close_after(1, earlier)?),
+        Ok(earlier) => Ok(service.finish_after(earlier)?),
         Err(fault) => {
             drop(service);
             Err(fault)

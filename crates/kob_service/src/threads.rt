@@ -10,7 +10,7 @@ use kob_names::PlainValue;
 use kob_rights::{Event, Reply, Request};
 use kob_router::{Line, Tick};
 use kob_script::Script;
-use kob_shared::{Session, SharedBroker};
+use kob_shared::{CallFault, Session, SharedBroker};
 use std::alloc::Global;
 use std::sync::Wait;
 use std::thread;
@@ -30,17 +30,17 @@ struct Caller<'a, R: Wait> {
 }
 
 impl<'a, R: Wait> Serve for Caller<'a, R> {
-    fn serve(&mut self, alloc: Global, request: Request) -> Option<Reply> {
+    fn serve(&mut self, alloc: Global, request: Request) -> Result<Option<Reply>, CallFault> {
         let mut session = match session_of(alloc, self.shared, 1, "User:orders", "h") {
             Ok(session) => session,
             Err(_) => {
                 drop(request);
-                return None;
+                return Ok(None);
             }
         };
         let served = session.call(&self.rt, alloc, request);
         drop(session);
-        Some(served.ok()?.reply)
+        Ok(Some(served?.reply))
     }
 }
 
@@ -80,8 +80,8 @@ fn serve<R: Threads + Wait + Copy + Send + Sync>(
     alloc: Global,
     shared: &SharedBroker,
 ) -> Worked<ServiceEnd> {
-    let line = Connection::over(alloc, Caller { rt: *rt, shared });
-    let next = Connection::over(alloc, Caller { rt: *rt, shared });
+    let line = Connection::new(alloc, Caller { rt: *rt, shared });
+    let next = Connection::new(alloc, Caller { rt: *rt, shared });
     serve_over(rt, alloc, line, next)
 }
 

@@ -5,7 +5,7 @@ ghost use Rattle.std.specs.Prelude.{◌≡◌, [], IfOk};
 use crate::{Worked, order_event};
 use kob_embedding::{ConsumerEnd, RunningConsumer, RunningService};
 use kob_inbox::{Inbox, Subscription};
-use kob_lines::IntoCalls;
+use kob_lines::{AsWorker, IntoCalls};
 use kob_outbox::Outbox;
 use kob_router::{Line, Route, RouteSettings};
 use std::alloc::Global;
@@ -54,13 +54,13 @@ fn record<L: Line>(
     Ok(())
 }
 
-/// Worker 2 takes the events in until all are there.
-pub(crate) fn take<L: IntoCalls + Drop>(alloc: Global, line: L) -> Worked<ConsumerEnd>
+/// The line's worker takes the events in until all are there.
+pub(crate) fn take<L: IntoCalls + AsWorker + Drop>(alloc: Global, line: L) -> Worked<ConsumerEnd>
     requires { L.calls line ≡ [] }
 {
     let mut consumer = consumer(alloc, line)?;
     let taken = consumer.take_rows(alloc, EVENTS, u32::MAX);
-    consumer.end(2, taken)
+    consumer.finish_with(taken)
 }
 
 /// A consumer with an empty inbox, which takes in the events of all orders.

@@ -8,7 +8,7 @@ use kob_lines::{Connection, Serve};
 use kob_outbox::{Change, Outbox, OutboxEvent};
 use kob_rights::{Reply, Request};
 use kob_router::Tick;
-use kob_shared::SharedBroker;
+use kob_shared::{CallFault, SharedBroker};
 use std::alloc::Global;
 use std::sync::Wait;
 use std::sync::atomic::{AtomicBool, Ordering};
@@ -27,14 +27,14 @@ struct Caller<'a, R: Wait> {
 }
 
 impl<'a, R: Wait> Serve for Caller<'a, R> {
-    fn serve(&mut self, alloc: Global, request: Request) -> Option<Reply> {
+    fn serve(&mut self, alloc: Global, request: Request) -> Result<Option<Reply>, CallFault> {
         let Some(mut session) = session(alloc, self.shared, 1) else {
             drop(request);
-            return None;
+            return Ok(None);
         };
         let served = session.call(&self.rt, alloc, request);
         drop(session);
-        Some(served.ok()?.reply)
+        Ok(Some(served?.reply))
     }
 }
 
@@ -120,12 +120,12 @@ fn run<R: Threads + Wait + Copy + Send + Sync>(
 ) -> Option<ServiceEnd> {
     let outbox = Outbox::open_in_memory(alloc).ok()?;
     let route = default_route(alloc).ok()?;
-    let line = Connection::over(alloc, Caller { rt: *rt, shared });
+    let line = Connection::new(alloc, Caller { rt: *rt, shared });
     let service = RunningService::new(alloc, outbox, route, 1, line);
     let service = SharedService::open(service, Vec::new(alloc));
     let sent = record_and_send(rt, alloc, &service);
     let swept = service.sweep(rt);
-    let next = Connection::over(alloc, Caller { rt: *rt, shared });
+    let next = Connection::new(alloc, Caller { rt: *rt, shared });
     let changed = service.change_line(rt, next);
     let (service, earlier) = service.finish();
     let end = service.close_after(1, earlier).ok()?;
