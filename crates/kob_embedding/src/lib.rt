@@ -6,6 +6,7 @@
 mod consumer_end;
 mod history;
 mod opening;
+mod own_worker;
 mod part;
 mod past_calls;
 mod reaching;

@@ -5,8 +5,8 @@ pub use Rattle.kob_inbox.specs.Run.Move.{Called, Restarted}
 pub use Rattle.kob_inbox.specs.Tick.{Point, Ticks}
 pub use Rattle.kob_inbox.specs.declared.fetcher.Subscription.{Subscription}
 pub use Rattle.kob_inbox.specs.declared.tick.Tick.{Tick}
-pub use Rattle.kob_lines.specs.Calls.{GainsAtMost, IsEntryOf, IsHeardOf, IsServedAtMostOnce, IsServedIfHeard, IsServedInSession, Journals, KeepsSeat, PassesCallsOn, PassesOn, reply_of}
-pub use Rattle.kob_lines.specs.Joined.{no_call_is_journaled, no_call_is_passed_on}
+pub use Rattle.kob_lines.specs.Calls.{ArePassedOn, GainsAtMost, GoesOnBy, IsEntryOf, IsHeardOf, IsJournaled, IsMadeBelow, IsSent, IsServedIfHeard, IsServedInSession, Journals, KeepsSeat, MakesCalls, PassesCallsOn, PassesOn, ServesAs, ServesEach, reply_of, served_in}
+pub use Rattle.kob_lines.specs.Joined.{added_append, calls_are_made, each_gives, no_call_is_made}
 pub use Rattle.kob_lines.specs.Relayed.{HasConsumerRun, HasServiceRun, HoldsFirst, Relayed}
 pub use Rattle.kob_lines.specs.declared.lossy.Loss.{Loss}
 pub use Rattle.kob_names.specs.declared.settings.Settings.{Settings}
@@ -25,13 +25,15 @@ pub use Rattle.kob_router.proofs.Runs.{calls_append, run_append}
 pub use Rattle.kob_router.specs.Run.{Dispatching, Hand, IsRecordable, IsRouterRun, State, after_acknowledgement, events_of}
 pub use Rattle.kob_router.specs.Run.Move.{Recorded, Swept, Took}
 pub use Rattle.kob_router.specs.Tick.{IsFirst, IsOfTick, IsOneTick}
+pub use Rattle.kob_router.specs.Line.{AreServed, Served}
 pub use Rattle.kob_router.specs.declared.line.Call.{Call}
 pub use Rattle.kob_router.specs.declared.line.Delivery.{Delivery}
 pub use Rattle.kob_router.specs.declared.line.Delivery.TheVariants.{Delivered, Lost}
 pub use Rattle.kob_shared.proofs.Journals.{reply_fits}
 pub use Rattle.kob_shared.specs.Journals.{Record, after_event, entry, outcome_of, Seat, event_by}
-pub use Rattle.std.proofs.Common.{List, None, Option, Some, [], ap, append-nil, arith, false, inl, inr, length, refl, subst, sym, take, true, ℕ, ◌++◌, ◌+◌, ◌∙◌, ◌∷◌, ◌≡◌, ◌⊎◌}
+pub use Rattle.std.proofs.Common.{List, None, Option, Some, [], ap, append-nil, arith, false, inl, inr, length, map, refl, subst, sym, take, true, ℕ, ◌++◌, ◌+◌, ◌∙◌, ◌∷◌, ◌≡◌, ◌⊎◌}
 pub use Rattle.std.proofs.lemmas.Bool.Decides.{nat_tests}
-pub use Rattle.std.proofs.lemmas.List.Elements.{All-cons, All-nil, filter-append}
+pub use Rattle.std.proofs.lemmas.List.{map-append}
+pub use Rattle.std.proofs.lemmas.List.Elements.{All-append, All-cons, All-nil, filter-append}
 pub use Rattle.std.specs.List.{AllByRecursion}
 pub use Rattle.std.specs.Prelude.{Err, IfOk, Ok, OnErr, OnOk, Result, slice_get}

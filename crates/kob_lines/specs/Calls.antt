@@ -1,5 +1,6 @@
 -- What calls make of a line.
 use Rattle.std.specs.Prelude.{◌≡◌, ◌⊎◌, ◌≤◌, ℕ, List, [], ◌∷◌, ◌++◌, map, None, ◌+◌, Option, Some}
+use Rattle.std.specs.Prelude.{Err, IfSome, Ok, Result}
 use Rattle.std.specs.List.{All}
 use Rattle.kob_router.specs.Line.{Adds, AreServed, Served, one_more}
 use Rattle.kob_router.specs.declared.line.Call.{Call}
@@ -15,6 +16,46 @@ use Rattle.kob_router.specs.declared.line.Delivery.TheVariants.{Delivered, Lost}
 use Rattle.kob_shared.specs.declared.journal.Receipt.{Receipt}
 use Rattle.kob_lines.specs.declared.lossy.Loss.{Loss}
 use Rattle.kob_lines.specs.declared.lossy.Loss.TheVariants as losses
+
+-- ---- a connection
+
+-- the reply that a server returns, if it returns one
+abbrev pub reply_in : Result (Option Reply) CallFault → Option Reply
+reply_in (Ok there) = there
+reply_in (Err fault) = None
+
+-- a server served a request, and this is heard of it: nothing, or the reply that was there
+abbrev pub ServesAs : {S : Type 0} → (S → S → Request → Option Reply → Type 0) → S → S → Request
+    → Option Reply → Type 0
+ServesAs serves old new request heard =
+    (there : Option Reply) × serves old new request there
+    × IfSome heard (λ reply. there ≡ Some reply)
+
+-- it served these calls, one after another
+abbrev pub ServesEach : {S : Type 0} → (S → S → Request → Option Reply → Type 0) → S → S
+    → List Call → Type 0
+ServesEach serves old new [] = new ≡ old
+ServesEach {S} serves old new (c ∷ cs) =
+    (mid : S) × ServesAs serves old mid c.request c.heard × ServesEach serves mid new cs
+
+-- calls were added, and the server became what these calls make of it
+pub record MakesCalls {S : Type 0} (serves : S → S → Request → Option Reply → Type 0)
+    (old new : S) (calls then_calls : List Call) : Type 0 where
+  pub made : List Call
+  pub added : then_calls ≡ calls ++ made
+  pub served : ServesEach serves old new made
+
+-- what one call made of the server: a reply that is delivered is the server's. A call that was lost
+-- was made, or it was not, which is counted
+abbrev pub IsSent : {S : Type 0} → (S → S → Request → Option Reply → Type 0) → S → S → ℕ → ℕ
+    → Request → Delivery → Type 0
+IsSent serves old new unmade then_unmade request (Delivered reply) =
+    serves old new request (Some reply)
+IsSent serves old new unmade then_unmade request Lost =
+    ((then_unmade ≡ one_more unmade) × (new ≡ old))
+    ⊎ ((there : Option Reply) × serves old new request there)
+
+-- ---- a journal
 
 abbrev pub served_in : Entry → Served
 served_in e = record { request = e.event.request; reply = e.reply }
@@ -78,11 +119,6 @@ abbrev pub IsHeardOf : Option Reply → Delivery → Type 0
 IsHeardOf there (Delivered reply) = there ≡ Some reply
 IsHeardOf there Lost = Unit {0}
 
--- a call that was heard was served, with this reply; one that was not was served or not
-abbrev pub IsServedAtMostOnce : {S : Type 0} → S → S → S → Reply → Delivery → Type 0
-IsServedAtMostOnce before served now reply (Delivered heard) = (now ≡ served) × (heard ≡ reply)
-IsServedAtMostOnce before served now reply Lost = (now ≡ served) ⊎ (now ≡ before)
-
 -- a reply that is there is the broker's, which served the call; without one it did not
 abbrev pub IsServedIfHeard : {S : Type 0} → S → S → S → Reply → Option Reply → Type 0
 IsServedIfHeard before served now reply (Some heard) = (now ≡ served) × (heard ≡ reply)
@@ -110,11 +146,6 @@ GainsAtMost before now request =
 abbrev pub IsMadeBelow : List Call → List Call → ℕ → ℕ → Request → Type 0
 IsMadeBelow below then_below unmade then_unmade request =
     (delivery : Delivery) × Adds below then_below unmade then_unmade request delivery
-
--- the same, unless there was no memory to note the call above
-abbrev pub IsAsked : ℕ → ℕ → List Call → List Call → ℕ → ℕ → Request → Type 0
-IsAsked own then_own below then_below unmade then_unmade request =
-    (then_own ≡ one_more own) ⊎ IsMadeBelow below then_below unmade then_unmade request
 
 -- what becomes of a call, and whether the line below made it
 abbrev pub PassesOn : Loss → List Call → List Call → Request → Option Reply → Type 0

@@ -1,25 +1,34 @@
 //! A line over anything that serves requests.
 
-ghost use Rattle.std.specs.Prelude.{◌≡◌, [], IfSome, Some};
+ghost use Rattle.std.specs.Prelude.{◌≡◌, [], None, IfSome, Option, Some};
+ghost use Rattle.kob_lines.specs.Calls.{IsSent, MakesCalls, ServesAs, reply_in};
 ghost use Rattle.kob_rights.specs.Requests.{Fits, OffsetsWithin};
 ghost use Rattle.kob_router.specs.Line.{Adds, IsFaithful};
 
 use crate::calls::Calls;
 use kob_rights::{Reply, Request};
 use kob_router::{Call, Delivery, Line};
-use kob_shared::{fits, has_offsets_within};
+use kob_shared::{CallFault, fits, has_offsets_within};
 use std::alloc::Global;
 
-/// What serves requests: a client of a broker in another process, or a queue to another thread.
-/// Nothing is asked of it: what it returns is looked at.
+/// What serves requests: a broker, a session, a client of a broker in another process, or a queue to
+/// another thread.
 pub trait Serve {
-    /// Serves a request, and returns the reply. None is returned if no reply was received. Then the
-    /// request may have been served, or not.
-    fn serve(&mut self, alloc: Global, request: Request) -> Option<Reply>;
+    ghost use Rattle.kob_rights.specs.declared.reply.Reply.{Reply};
+    ghost use Rattle.kob_rights.specs.declared.request.Request.{Request};
+
+    /// What serving a request makes of the server, and of which reply. Nothing is known of a server
+    /// that does not say it.
+    ghost serves: { Self → Self → Request → Option Reply → Type 0 } = { λ _ _ _ _. Unit {0} };
+
+    /// Serves a request, and returns the reply. `Ok(None)` is returned if no reply was received. Then
+    /// the request may have been served, or not. The error is the fault that the connection keeps.
+    fn serve(&mut self, alloc: Global, request: Request) -> Result<Option<Reply>, CallFault>
+        ensures { serves self.old self.new request (reply_in result) };
 }
 
-/// A line of one's own: it notes each call that is made of a server. A reply that can't be one to the
-/// request counts as not received: one with the body of another kind of request, or with an offset past
+/// A line: it notes each call that is made of a server. A reply that can't be one to the request
+/// counts as not received: one with the body of another kind of request, or with an offset past
 /// 9,223,372,036,854,775,807.
 #[derive(Drop)]
 pub struct Connection<S> {
@@ -29,10 +38,11 @@ pub struct Connection<S> {
 
 impl<S: Serve> Connection<S> {
     /// A line that has made no call. Does not allocate.
-    pub fn over(alloc: Global, server: S) -> Connection<S>
+    pub fn new(alloc: Global, server: S) -> Connection<S>
         ensures server { result.server ≡ server }
         ensures made { result.calls.made.items ≡ [] }
         ensures unmade { result.calls.unmade ≡ 0 }
+        ensures fault { result.calls.fault ≡ None }
     {
         Connection {
             server,
@@ -48,28 +58,52 @@ impl<S: Serve> Connection<S> {
         let Connection { server, calls } = self;
         (server, calls.made)
     }
+
+    /// Lets the server serve a request, and keeps why there is no reply.
+    fn hear(&mut self, alloc: Global, noted: &Request, request: Request) -> Option<Reply>
+        ensures made { self.new.calls.made ≡ self.old.calls.made }
+        ensures unmade { self.new.calls.unmade ≡ self.old.calls.unmade }
+        ensures served { ServesAs S.serves self.old.server self.new.server request result }
+        ensures fits { IfSome result (λ reply. Fits noted.now reply) }
+        ensures within { IfSome result (λ reply. OffsetsWithin reply) }
+    {
+        match self.server.serve(alloc, request) {
+            Ok(there) => received(noted, there),
+            Err(fault) => {
+                self.calls.fault = Some(fault);
+                None
+            }
+        }
+    }
 }
 
 impl<S: Serve> Line for Connection<S> {
+    ghost use Rattle.kob_lines.specs.Joined.{calls_are_made, no_call_is_made};
+
     ghost calls = { λ line. line.calls.made.items };
 
     ghost unmade = { λ line. line.calls.unmade };
 
-    /// Nothing is known of a server.
-    ghost becomes = { λ old new. Unit {0} };
+    /// Calls were added, and the server became what these calls make of it.
+    ghost becomes = { λ old new. MakesCalls S.serves old.server new.server
+        old.calls.made.items new.calls.made.items };
 
     /// Makes a call of the server.
+    #[tactic(auto, using(crate::proofs::Adding::one_call_is_made, crate::proofs::Adding::sent))]
     fn send(&mut self, alloc: Global, request: Request) -> Delivery
         ensures added { Adds self.old.calls.made.items self.new.calls.made.items
             self.old.calls.unmade self.new.calls.unmade request result }
         ensures faithful { IsFaithful request result }
-        ensures line { Unit {0} }
+        ensures line { MakesCalls S.serves self.old.server self.new.server
+            self.old.calls.made.items self.new.calls.made.items }
+        ensures served { IsSent S.serves self.old.server self.new.server
+            self.old.calls.unmade self.new.calls.unmade request result }
     {
         let Some(noted) = self.calls.room_for(alloc, &request) else {
             drop(request);
             return Delivery::Lost;
         };
-        let heard = received(&noted, self.server.serve(alloc, request));
+        let heard = self.hear(alloc, &noted, request);
         self.calls.note(alloc, noted, heard)
     }
 
@@ -81,18 +115,19 @@ impl<S: Serve> Line for Connection<S> {
         self.calls.unmade
     }
 
-    ghost stays = { λ line. tt };
+    ghost stays = { λ line. no_call_is_made S.serves line.server line.calls.made.items };
 
-    ghost goes_on = { λ a b c one two. tt };
+    ghost goes_on = { λ a b c. calls_are_made S.serves a.server b.server c.server
+        a.calls.made.items b.calls.made.items c.calls.made.items };
 }
 
 /// The reply, if it may be one to the request.
-fn received(request: &Request, reply: Option<Reply>) -> Option<Reply>
-    ensures same { IfSome result (λ kept. reply ≡ Some kept) }
-    ensures fits { IfSome result (λ kept. Fits request.now kept) }
-    ensures within { IfSome result (λ kept. OffsetsWithin kept) }
+fn received(request: &Request, there: Option<Reply>) -> Option<Reply>
+    ensures same { IfSome result (λ reply. there ≡ Some reply) }
+    ensures fits { IfSome result (λ reply. Fits request.now reply) }
+    ensures within { IfSome result (λ reply. OffsetsWithin reply) }
 {
-    let reply = reply?;
+    let reply = there?;
     if fits(request, &reply) && has_offsets_within(&reply) {
         return Some(reply);
     }

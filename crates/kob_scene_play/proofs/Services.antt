@@ -1,19 +1,18 @@
 -- Services that send otherwise than the proved router.
-use Rattle.kob_scene_play.proofs.Words.{ArePassedOn, Bool, Call, Contents, Journals, List, Loss, None, Option, PassesCallsOn, Record, Service, Some, [], ap, false, inl, inr, map, map-append, refl, subst, true, ℕ, ◌++◌, ◌∙◌, ◌∷◌, ◌≡◌}
+use Rattle.kob_scene_play.proofs.Words.{ArePassedOn, Bool, Call, Contents, Journals, List, Loss, None, Option, PassesCallsOn, Record, Service, Some, [], ap, false, inl, inr, map, map-append, refl, subst, sym, true, ℕ, ◌++◌, ◌∙◌, ◌∷◌, ◌≡◌}
 use Rattle.kob_lines.proofs.Adding as adding
-use Rattle.kob_lines.specs.Calls.{IsHeardOf, IsServedIfHeard, reply_of}
+use Rattle.kob_lines.specs.Calls.{MakesCalls, ServesAs, ServesEach}
+use Rattle.kob_lines.specs.Joined.{each_append, each_gives}
+use Rattle.kob_lines.specs.Servers.{ServesRecorded}
+use Rattle.kob_lines.specs.declared.recorded_line.RecordedServer.{RecordedServer}
 use Rattle.kob_outbox.specs.Contents.{Event, stored_row}
 use Rattle.kob_outbox.specs.declared.event.Row.{Row}
-use Rattle.kob_rights.specs.Requests.{Fits}
 use Rattle.kob_rights.specs.declared.reply.Reply.{Reply}
 use Rattle.kob_rights.specs.declared.request.Request.{Request}
-use Rattle.kob_rights.specs.declared.request.Request.TheVariants.{Produce}
 use Rattle.kob_router.specs.Run.{next_row}
-use Rattle.kob_router.specs.declared.line.Delivery.{Delivery}
 use Rattle.kob_router.specs.declared.tick.Tick.{Tick}
 use Rattle.kob_scene_play.specs.Services.{GoesOn, IsRouterTick, IsSeenTick, asked_as, bare, bare_call, mark_past, past_first, sent_as, sent_bare, sent_by}
 use Rattle.kob_scene_text.specs.declared.scene.Sending.{Sending}
-use Rattle.kob_shared.specs.Journals.{after_event, event_by, outcome_of}
 
 -- ---- a row is skipped
 
@@ -31,41 +30,71 @@ past_some old mid new row some same moved =
 
 -- ---- without producer ids
 
--- a reply to a request without a producer id is one to the request
-fits_whole : (request : Request) (reply : Reply) → Fits (bare request) reply → Fits request reply
-fits_whole (Produce asked) reply fits = fits
-fits_whole request reply fits = fits
-
--- nor is one that is sent so
-pub fits_asked : (is_bare : Bool) (request : Request) (reply : Reply) → Fits (asked_as is_bare request) reply
-    → Fits request reply
-fits_asked true request reply fits = fits_whole request reply fits
-fits_asked false request reply fits = fits
-
 -- no call is none, however it is sent
 pub none_sent : (is_bare : Bool) → sent_as is_bare [] ≡ []
 none_sent true = refl
 none_sent false = refl
 
--- a call that was served as it was sent is in the journal so
-pub one_call_is_journaled : (is_bare : Bool) (worker : ℕ) (principal host : List ℕ) (calls then_calls : List Call) (r new : Record)
-    (request : Request) (there : Option Reply) (delivery : Delivery)
-    → IsServedIfHeard r (after_event r worker (event_by principal host (asked_as is_bare request))) new
-    (outcome_of r (event_by principal host (asked_as is_bare request))).reply there
-    → IsHeardOf there delivery
-    → then_calls ≡ calls ++ record { request = request; heard = reply_of delivery } ∷ []
-    → Journals worker principal host (sent_as is_bare calls) (sent_as is_bare then_calls) r new
-one_call_is_journaled false worker principal host calls then_calls r new request there delivery served told noted =
-    let event = event_by principal host request in
-    adding.one_call_is_journaled worker principal host calls then_calls r new request delivery
-    (adding.served_if_told r (after_event r worker event) new (outcome_of r event).reply there delivery served told) noted
-one_call_is_journaled true worker principal host calls then_calls r new request there delivery served told noted =
-    let event = event_by principal host (bare request) in
-    let last : List Call = record { request = request; heard = reply_of delivery } ∷ [] in
-    adding.one_call_is_journaled worker principal host (map bare_call calls) (map bare_call then_calls) r new
-    (bare request) delivery
-    (adding.served_if_told r (after_event r worker event) new (outcome_of r event).reply there delivery served told)
-    (ap (map bare_call) noted ∙ map-append bare_call calls last)
+-- calls after calls are sent after them
+sent_append : (is_bare : Bool) (xs ys : List Call)
+    → sent_as is_bare (xs ++ ys) ≡ sent_as is_bare xs ++ sent_as is_bare ys
+sent_append true xs ys = map-append bare_call xs ys
+sent_append false xs ys = refl
+
+-- a call that was served as it was sent
+one_sent : (is_bare : Bool) (old new : RecordedServer) (call : Call)
+    → ServesAs ServesRecorded old new (asked_as is_bare call.request) call.heard
+    → ServesEach ServesRecorded old new (sent_as is_bare (call ∷ []))
+one_sent true old new call served = (new, served, refl)
+one_sent false old new call served = (new, served, refl)
+
+module _ {S : Type 0} (below : S → RecordedServer) (is_bare : S → Bool) where
+  -- what a line without producer ids, or with them, makes of a broker with its journal
+  abbrev pub ServesSent : S → S → Request → Option Reply → Type 0
+  ServesSent old new request there =
+      (is_bare new ≡ is_bare old) × ServesRecorded (below old) (below new) (asked_as (is_bare old) request) there
+
+  abbrev pub SendsEach : S → S → List Call → Type 0
+  SendsEach old new cs =
+      (is_bare new ≡ is_bare old) × ServesEach ServesRecorded (below old) (below new) (sent_as (is_bare old) cs)
+
+  none_sends : (s : S) → SendsEach s s []
+  none_sends s =
+      (refl, subst (λ cs. ServesEach ServesRecorded (below s) (below s) cs) (sym (none_sent (is_bare s))) refl)
+
+  one_sends : (a b : S) (c : Call) → ServesAs ServesSent a b c.request c.heard → SendsEach a b (c ∷ [])
+  one_sends a b c (there, served, told) =
+      (served.0, one_sent (is_bare a) (below a) (below b) c (there, served.1, told))
+
+  more_sends : (a b c : S) (xs ys : List Call) → SendsEach a b xs → SendsEach b c ys → SendsEach a c (xs ++ ys)
+  more_sends a b c xs ys one two =
+      let then : ServesEach ServesRecorded (below b) (below c) (sent_as (is_bare a) ys) =
+      subst (λ is. ServesEach ServesRecorded (below b) (below c) (sent_as is ys)) one.0 two.1 in (
+        two.0 ∙ one.0,
+        subst (λ cs. ServesEach ServesRecorded (below a) (below c) cs) (sym (sent_append (is_bare a) xs ys))
+            (each_append ServesRecorded (below a) (below b) (below c) (sent_as (is_bare a) xs)
+            (sent_as (is_bare a) ys) one.1 then),
+      )
+
+  -- its calls are in the journal as they were sent
+  pub journals_sent : (old new : S) (calls then_calls : List Call) → MakesCalls ServesSent old new calls then_calls
+      → Journals (below old).worker (below old).principal (below old).host (sent_as (is_bare old) calls)
+      (sent_as (is_bare old) then_calls) (below old).recorded.now (below new).recorded.now
+  journals_sent old new calls then_calls makes =
+      let each = each_gives ServesSent SendsEach none_sends one_sends more_sends old new makes.made makes.served in
+      adding.journals (below old) (below new) (sent_as (is_bare old) calls) (sent_as (is_bare old) then_calls)
+      (record {
+        made = sent_as (is_bare old) makes.made;
+        added = ap (sent_as (is_bare old)) makes.added ∙ sent_append (is_bare old) calls makes.made;
+        served = each.1;
+      })
+
+  -- and the broker stays
+  pub same_broker : (old new : S) (calls then_calls : List Call) → MakesCalls ServesSent old new calls then_calls
+      → (below new).recorded.ghost_name ≡ (below old).recorded.ghost_name
+  same_broker old new calls then_calls makes =
+      let each = each_gives ServesSent SendsEach none_sends one_sends more_sends old new makes.made makes.served in
+      (adding.journals_each (below old) (below new) (sent_as (is_bare old) makes.made) each.1).0
 
 bare_are_passed_on : (calls below : List Call) → ArePassedOn calls below
     → ArePassedOn (map bare_call calls) (map bare_call below)

@@ -13,7 +13,7 @@ use crate::fault::{PlayFault, line_fault, loses_first, unless};
 use crate::holding::asked_next;
 use crate::line::take_over;
 use kob_inbox::{StopReason, Tick};
-use kob_lines::{Calls, Loss, Lossy, RecordedLine};
+use kob_lines::{Connection, Loss, LossyServer, RecordedLine, RecordedServer};
 use kob_names::PlainValue;
 use kob_rights::Event;
 use kob_router::Call;
@@ -87,32 +87,23 @@ impl ConsumerWorker {
     {
         let principal = self.principal.copy(alloc)?;
         let host = self.host.copy(alloc)?;
-        let line = RecordedLine::open(alloc, recorded, self.worker, principal, host);
-        let calls = Calls::new(alloc);
-        let mut line = Lossy { line, loss, calls };
+        let below = RecordedLine::open(alloc, recorded, self.worker, principal, host);
+        let mut line = Connection::new(alloc, LossyServer { line: below, loss });
         let tick = take_over(&mut self.consumer, alloc, &mut self.inbox, &mut line);
-        let fault = stopped_by(&tick).or(line_fault(line.calls.fault, line.line.calls.fault));
+        let line_fault = line_fault(line.calls.fault, line.server.line.calls.fault);
+        let fault = stopped_by(&tick).or(line_fault);
         let is_lost = loses_first(loss, &line.calls.made);
-        let Lossy {
-            line,
-            loss: _,
-            calls,
-        } = line;
-        let RecordedLine {
+        let (LossyServer { line: below, loss: _ }, made) = line.close();
+        let (below, calls) = below.close();
+        drop(calls);
+        let RecordedServer {
             recorded,
             worker: _,
             principal,
             host,
-            calls: below,
-        } = line;
-        drop(below);
+        } = below;
         drop((principal, host));
         let _ = *recorded;
-        let Calls {
-            made,
-            unmade: _,
-            fault: _,
-        } = calls;
         let told = unless(fault, is_lost, (tick, made))?;
         Ok(told)
     }

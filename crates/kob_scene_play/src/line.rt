@@ -22,19 +22,21 @@ pub(crate) fn send_over(
     line: &mut Lossy<SentLine<'_>>,
 ) -> ServiceTick
     requires { IsFirst (option_map hand_of router.old.hand) outbox.old }
-    ensures same_broker { line.new.line.line.recorded.ghost_name
-        ≡ line.old.line.line.recorded.ghost_name }
+    ensures same_broker { line.new.server.line.server.below.recorded.ghost_name
+        ≡ line.old.server.line.server.below.recorded.ghost_name }
     ensures same { router.new.target ≡ router.old.target }
     ensures done { Ticks IsOneTick (dispatch_of router.old.target)
         (point_of router.old outbox.old line.old.calls.made.items line.old.calls.unmade)
         (point_of router.new outbox.new line.new.calls.made.items line.new.calls.unmade) result }
     ensures first { IsFirst (option_map hand_of router.new.hand) outbox.new }
     ensures passed { PassesCallsOn line.old.calls.made.items line.new.calls.made.items
-        line.old.line.calls.made.items line.new.line.calls.made.items }
-    ensures journaled { Journals line.old.line.line.worker line.old.line.line.principal
-        line.old.line.line.host (sent_as line.old.line.is_bare line.old.line.calls.made.items)
-        (sent_as line.old.line.is_bare line.new.line.calls.made.items)
-        line.old.line.line.recorded.now line.new.line.line.recorded.now }
+        line.old.server.line.calls.made.items line.new.server.line.calls.made.items }
+    ensures journaled { let was = line.old.server.line in
+        let below = was.server.below in
+        Journals below.worker below.principal below.host
+        (sent_as was.server.is_bare was.calls.made.items)
+        (sent_as was.server.is_bare line.new.server.line.calls.made.items)
+        below.recorded.now line.new.server.line.server.below.recorded.now }
 {
     router.tick(alloc, outbox, line)
 }
@@ -46,7 +48,8 @@ pub(crate) fn take_over(
     inbox: &mut Inbox,
     line: &mut Lossy<RecordedLine<'_>>,
 ) -> ConsumerTick
-    ensures same_broker { line.new.line.recorded.ghost_name ≡ line.old.line.recorded.ghost_name }
+    ensures same_broker { line.new.server.line.server.recorded.ghost_name
+        ≡ line.old.server.line.server.recorded.ghost_name }
     ensures same { consumer.new.subscription ≡ consumer.old.subscription }
     ensures done { consumer_ticks.Ticks consumer.old.subscription
         (consumer_ticks.point_of consumer.old inbox.old line.old.calls.made.items
@@ -54,10 +57,11 @@ pub(crate) fn take_over(
         (consumer_ticks.point_of consumer.new inbox.new line.new.calls.made.items
         line.new.calls.unmade) result }
     ensures passed { PassesCallsOn line.old.calls.made.items line.new.calls.made.items
-        line.old.line.calls.made.items line.new.line.calls.made.items }
-    ensures journaled { Journals line.old.line.worker line.old.line.principal line.old.line.host
-        line.old.line.calls.made.items line.new.line.calls.made.items
-        line.old.line.recorded.now line.new.line.recorded.now }
+        line.old.server.line.calls.made.items line.new.server.line.calls.made.items }
+    ensures journaled { let was = line.old.server.line in
+        Journals was.server.worker was.server.principal was.server.host
+        was.calls.made.items line.new.server.line.calls.made.items
+        was.server.recorded.now line.new.server.line.server.recorded.now }
 {
     consumer.tick(alloc, inbox, line)
 }

@@ -6,10 +6,10 @@ ghost use Rattle.kob_scene_play.specs.Services.{sent_as, sent_by};
 
 use crate::fault::{PlayFault, line_fault, loses_first, stop_of_service, unless};
 use crate::line::send_over;
-use crate::sent_line::SentLine;
+use crate::sent_line::SentServer;
 use crate::service_worker::ServiceWorker;
 use crate::skip::skip_first;
-use kob_lines::{Calls, Loss, Lossy, RecordedLine};
+use kob_lines::{Connection, Loss, LossyServer, RecordedServer};
 use kob_names::PlainValue;
 use kob_router::Tick;
 use kob_scene_text::Sending;
@@ -51,36 +51,28 @@ impl<'s> ServiceWorker<'s> {
     {
         let principal = self.principal.copy(alloc)?;
         let host = self.host.copy(alloc)?;
-        let line = RecordedLine::open(alloc, recorded, self.worker, principal, host);
-        let between = Calls::new(alloc);
-        let line = SentLine {
-            line,
-            is_bare,
-            calls: between,
+        let below = RecordedServer {
+            recorded,
+            worker: self.worker,
+            principal,
+            host,
         };
-        let calls = Calls::new(alloc);
-        let mut line = Lossy { line, loss, calls };
+        let sent = Connection::new(alloc, SentServer { below, is_bare });
+        let mut line = Connection::new(alloc, LossyServer { line: sent, loss });
         let tick = send_over(&mut self.router, alloc, &mut self.outbox, &mut line);
-        let fault = stop_of_service(&tick).or(line_fault(line.calls.fault, line.line.calls.fault));
+        let line_fault = line_fault(line.calls.fault, line.server.line.calls.fault);
+        let fault = stop_of_service(&tick).or(line_fault);
         let is_lost = loses_first(loss, &line.calls.made);
-        let Lossy {
-            line,
-            loss: _,
-            calls,
-        } = line;
-        let SentLine {
-            line,
-            is_bare: _,
-            calls: between,
-        } = line;
-        let RecordedLine {
+        let (LossyServer { line: sent, loss: _ }, calls) = line.close();
+        drop(calls);
+        let (SentServer { below, is_bare: _ }, calls) = sent.close();
+        drop(calls);
+        let RecordedServer {
             recorded,
             worker: _,
             principal,
             host,
-            calls: below,
-        } = line;
-        drop((calls, between, below));
+        } = below;
         drop((principal, host));
         let _ = *recorded;
         let tick = unless(fault, is_lost, tick)?;

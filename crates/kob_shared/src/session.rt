@@ -212,6 +212,13 @@ impl<'a> Model for Session<'a> {
 }
 
 impl<'a> Session<'a> {
+    /// The worker's number in the journal.
+    pub fn worker(&self) -> usize
+        ensures { result ≡ self.now.worker }
+    {
+        self.worker
+    }
+
     /// How many entries of the journal the session knows of.
     pub fn seen(&self) -> usize
         ensures { result ≡ self.now.seen }

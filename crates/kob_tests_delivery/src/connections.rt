@@ -44,7 +44,7 @@ fn serve_all<R: Wait>(rt: &R, alloc: Global, recorded: &mut Recorded, local: &Lo
 
 /// The calls of a line that asks for a producer id and then for the groups.
 fn calls_over<R: Wait>(alloc: Global, remote: Remote<'_, R>) -> Vec<Call> {
-    let mut line = Connection::over(alloc, remote);
+    let mut line = Connection::new(alloc, remote);
     drop(line.send(alloc, Request::InitProducerId));
     drop(line.send(alloc, Request::ListGroups));
     line.into_calls()

@@ -1,7 +1,7 @@
 //! A line to a broker whose journal is full.
 
 use crate::making::{asker, recorded};
-use kob_lines::RecordedLine;
+use kob_lines::{IntoCalls, RecordedLine};
 use kob_rights::Request;
 use kob_router::{Delivery, Line};
 use kob_shared::{CallFault, Recorded};
@@ -21,13 +21,13 @@ fn fills(alloc: Global, recorded: &mut Recorded) -> Option<bool> {
     let (principal, host) = asker(alloc, "User:root")?;
     let mut line = RecordedLine::open(alloc, recorded, 7, principal, host);
     let first = is_heard(alloc, &mut line);
-    let second = line.call(alloc, Request::InitProducerId);
+    let second = line.server.call(alloc, Request::InitProducerId);
     let is_served = second.is_ok();
     drop(second);
     let before = line.calls.fault;
     let third = is_heard(alloc, &mut line);
     let after = line.calls.fault;
-    let calls = line.close();
+    let calls = line.into_calls();
     let made = calls.len();
     drop(calls);
     let is_named = (before, after) == (None, Some(CallFault::JournalFull));

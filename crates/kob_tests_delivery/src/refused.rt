@@ -9,7 +9,7 @@ use crate::making::{
 };
 use kob_broker::Broker;
 use kob_inbox::{Consumer, Inbox, Subscription};
-use kob_lines::BrokerLine;
+use kob_lines::{BrokerLine, IntoCalls};
 use kob_outbox::Outbox;
 use kob_router::{Line, Router};
 use std::alloc::Global;
@@ -110,7 +110,7 @@ fn sends_all(alloc: Global, outbox: &mut Outbox, broker: &mut Broker) -> Option<
     let mut router = Router::new(alloc, route, 1);
     let came = router_ticks(alloc, outbox, &mut router, &mut line);
     drop(router);
-    let calls = line.close();
+    let calls = line.into_calls();
     let made = calls.len();
     drop(calls);
     Some(made > 0 && came_to_the_end(&came))

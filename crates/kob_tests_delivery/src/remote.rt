@@ -3,6 +3,7 @@
 use crossbeam_channel::{Receiver, Sender};
 use kob_lines::Serve;
 use kob_rights::{Reply, Request};
+use kob_shared::CallFault;
 use std::alloc::Global;
 use std::sync::Wait;
 
@@ -15,12 +16,12 @@ pub(crate) struct Remote<'a, R: Wait> {
 }
 
 impl<'a, R: Wait> Serve for Remote<'a, R> {
-    fn serve(&mut self, _alloc: Global, request: Request) -> Option<Reply> {
+    fn serve(&mut self, _alloc: Global, request: Request) -> Result<Option<Reply>, CallFault> {
         match self.requests.send(self.rt, request) {
-            Ok(()) => self.replies.recv(self.rt).ok(),
+            Ok(()) => Ok(self.replies.recv(self.rt).ok()),
             Err(unsent) => {
                 drop(unsent);
-                None
+                Ok(None)
             }
         }
     }

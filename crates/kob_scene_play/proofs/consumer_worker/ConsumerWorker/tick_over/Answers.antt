@@ -8,7 +8,9 @@ pub returns-clause-called : goal.returns-clause-called
 returns-clause-called c =
     let was = c.self.inside in
     let ticked = c.take_over-tick in
-    let opened = c.open-line in
+    let opened = c.open-below in
+    let below = c.new-line.result.server.line in
+    let begun = ap (λ s. s.line) c.new-line.ensures.server in
     let old : Consumer =
     record {
       worker = was.worker;
@@ -34,19 +36,22 @@ returns-clause-called c =
       inbox = inbox_by was.taking ticked.new.inbox was.every;
     } in
     let calls = ticked.new.line.calls.made.items in
-    let after = ticked.new.line.line.recorded.now in
+    let after = ticked.new.line.server.line.server.recorded.now in
     let lost = subst (λ all. LosesFirst c.args.loss all) c.deref.ensures.value (c.loses_first-is_lost.ensures c.in_ok-told.ensures.lost) in
     let journaled =
-    journaled_below was.worker opened.result.worker was.principal opened.result.principal was.host opened.result.host
-    c.new-calls.result.made.items calls opened.result.calls.made.items ticked.new.line.line.calls.made.items
-    c.args.recorded.now opened.result.recorded.now after opened.ensures.worker
-    (rw c.in_ok-principal.ensures at opened.ensures.asker.0) (rw c.in_ok-host.ensures at opened.ensures.asker.1)
-    opened.ensures.recorded c.new-calls.ensures.made opened.ensures.made ticked.ensures.passed ticked.ensures.journaled in
+    journaled_below was.worker below.server.worker was.principal below.server.principal was.host below.server.host
+    c.new-line.result.calls.made.items calls below.calls.made.items ticked.new.line.server.line.calls.made.items
+    c.args.recorded.now below.server.recorded.now after (ap (λ l. l.server.worker) begun ∙ opened.ensures.worker)
+    (ap (λ l. l.server.principal) begun ∙ opened.ensures.asker.0 ∙ c.in_ok-principal.ensures)
+    (ap (λ l. l.server.host) begun ∙ opened.ensures.asker.1 ∙ c.in_ok-host.ensures)
+    (ap (λ l. l.server.recorded.now) begun ∙ opened.ensures.recorded) c.new-line.ensures.made
+    (ap (λ l. l.calls.made.items) begun ∙ opened.ensures.made) ticked.ensures.passed ticked.ensures.journaled in
     let done =
-    consumer_ticked c.args.loss old new ticked.result c.new-calls.result.made.items calls c.new-calls.result.unmade
+    consumer_ticked c.args.loss old new ticked.result c.new-line.result.calls.made.items calls
+    c.new-line.result.calls.unmade
     ticked.new.line.calls.unmade c.args.recorded.now after lost
     (record { worker = refl; principal = refl; host = refl; start = refl; taking = refl; subscription = ticked.ensures.same }) refl
-    c.new-calls.ensures.made c.new-calls.ensures.unmade journaled ticked.ensures.done in
+    c.new-line.ensures.made c.new-line.ensures.unmade journaled ticked.ensures.done in
     let ends : after ≡ c.recorded-1.given.0 = search rules in
     let told = c.in_ok-told.told in
     let is = c.in_ok-told.ensures.same in

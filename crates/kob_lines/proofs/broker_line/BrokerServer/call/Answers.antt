@@ -1,6 +1,6 @@
 use Rattle.kob_lines.proofs.Words.{Event, Fits, Request, ap, state_of, subst}
 use Rattle.kob_lines.proofs.Adding.{step_fits}
-use Rattle.kob_lines.proofs.broker_line.BrokerLine.call.Goals as goal
+use Rattle.kob_lines.proofs.broker_line.BrokerServer.call.Goals as goal
 
 pub returns-clause-fits : goal.returns-clause-fits
 returns-clause-fits c =
