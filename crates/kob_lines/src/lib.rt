@@ -1,6 +1,6 @@
 //! Lines to a broker: over a borrowed broker, over one with a journal, over a session, over a server
-//! of one's own, and a line that loses calls on purpose. A router with its outbox, laws of runs, and one fault for programs that
-//! use all these.
+//! of one's own, and a line that loses calls on purpose. A router with its outbox, a consumer with
+//! its inbox, laws of runs, and one fault for programs that use all these.
 #![tactic(auto)]
 
 mod broker_line;
@@ -12,6 +12,7 @@ mod into_calls;
 mod lossy;
 mod offsets;
 mod program_fault;
+mod receiver;
 mod recorded_line;
 mod relay;
 mod service_course;
@@ -24,6 +25,7 @@ pub use consumer_course::a_consumer_run_goes_on;
 pub use into_calls::IntoCalls;
 pub use lossy::{Loss, Lossy};
 pub use program_fault::ProgramFault;
+pub use receiver::Receiver;
 pub use recorded_line::RecordedLine;
 pub use relay::Relay;
 pub use service_course::a_service_run_goes_on;

@@ -60,7 +60,7 @@ impl<'s> ServiceWorker<'s> {
         };
         let calls = Calls::new(alloc);
         let mut line = Lossy { line, loss, calls };
-        let tick = send_over(&mut self.router, alloc, &mut self.outbox, &mut line);
+        let tick = send_over(&mut self.relay, alloc, &mut line);
         let fault = stop_of_service(&tick).or(line_fault(line.calls.fault, line.line.calls.fault));
         let is_lost = loses_first(loss, &line.calls.made);
         let Lossy {
@@ -132,8 +132,8 @@ impl<'s> ServiceWorker<'s> {
     fn skip(&mut self) -> Result<(), PlayFault>
         ensures { OnOk result (Skips self.old self.new) }
     {
-        self.router.restart();
-        skip_first(&mut self.outbox)?;
+        self.relay.restart();
+        skip_first(&mut self.relay)?;
         Ok(())
     }
 }
