@@ -7,7 +7,7 @@ use Rattle.std.proofs.Common.{length}
 use Rattle.std.specs.Prelude.{IfOk}
 use Rattle.kob_router.specs.Run.{calls_of}
 use Rattle.kob_router.specs.Tick.{state_of}
-use Rattle.std.proofs.Common.{append-nil, append_assoc}
+use Rattle.std.proofs.Common.{append_assoc}
 use Rattle.kob_inbox.specs.Contents.{Contents as Inbox}
 use Rattle.kob_inbox.specs.Run as consumer
 use Rattle.kob_inbox.specs.Tick as taken
@@ -148,11 +148,11 @@ consumer_ticked earlier old new inbox then_inbox calls then_calls unmade then_un
       counted = done.counted;
     }))
 
-pub consumer_restarted : (old new : Fetcher) (inbox : Inbox) (calls : List Call)
+pub consumer_restarted : (old new : Fetcher) (inbox then_inbox : Inbox) (calls : List Call)
     → new.subscription ≡ old.subscription
-    → taken.state_of new inbox ≡ consumer.after old.subscription (taken.state_of old inbox) Restarted
-    → IsReaderRun old inbox calls → IsReaderRun new inbox calls
-consumer_restarted old new inbox calls same is was =
-    subst (λ (t : Subscription). HasConsumerRun t (taken.state_of new inbox) calls) (sym same)
+    → taken.state_of new then_inbox ≡ consumer.after old.subscription (taken.state_of old inbox) Restarted
+    → IsReaderRun old inbox calls → IsReaderRun new then_inbox calls
+consumer_restarted old new inbox then_inbox calls same is was =
+    subst (λ (t : Subscription). HasConsumerRun t (taken.state_of new then_inbox) calls) (sym same)
     (subst (λ (s : consumer.State). HasConsumerRun old.subscription s calls) (sym is)
     (consumer_courses.restarts old.subscription (taken.state_of old inbox) calls was))

@@ -7,7 +7,8 @@ ghost use Rattle.kob_embedding.specs.Running.{IsReaderRun};
 ghost use Rattle.kob_inbox.specs.Contents.{placed_intake};
 
 use crate::part::Part;
-use kob_inbox::{Consumer, Inbox, InboxFault, InboxRow};
+use kob_inbox::{Consumer, InboxFault, InboxRow};
+use kob_lines::Receiver;
 use std::marker::Model;
 
 /// The final state of a consumer: the calls of its line as a worker, and its inbox. Its invariant:
@@ -15,8 +16,7 @@ use std::marker::Model;
 #[derive(Drop)]
 pub struct ConsumerEnd {
     part: Part,
-    consumer: Consumer,
-    inbox: Inbox,
+    receiver: Receiver,
 }
 
 impl Model for ConsumerEnd {
@@ -30,26 +30,23 @@ impl Model for ConsumerEnd {
     ghost view = { λ e. record {
       worker = e.part.worker;
       calls = e.part.calls.items;
-      fetcher = e.consumer;
-      inbox = e.inbox;
+      fetcher = e.receiver.fetcher;
+      inbox = e.receiver.inbox;
     } };
 
-    ghost invariant = { λ e. IsReaderRun e.consumer e.inbox e.part.calls.items };
+    ghost invariant = { λ e.
+        IsReaderRun e.receiver.fetcher e.receiver.inbox e.part.calls.items };
 }
 
 impl ConsumerEnd {
-    pub(crate) fn new(part: Part, consumer: Consumer, inbox: Inbox) -> ConsumerEnd
-        requires { IsReaderRun consumer inbox part.calls.items }
+    pub(crate) fn new(part: Part, receiver: Receiver) -> ConsumerEnd
+        requires { IsReaderRun receiver.fetcher receiver.inbox part.calls.items }
         ensures worker { result.worker ≡ part.worker }
         ensures calls { result.calls ≡ part.calls.items }
-        ensures fetcher { result.fetcher ≡ consumer }
-        ensures inbox { result.inbox ≡ inbox }
+        ensures fetcher { result.fetcher ≡ receiver.fetcher }
+        ensures inbox { result.inbox ≡ receiver.inbox }
     {
-        ConsumerEnd {
-            part,
-            consumer,
-            inbox,
-        }
+        ConsumerEnd { part, receiver }
     }
 
     /// The worker with its calls, the oldest first. Does not allocate.
@@ -65,7 +62,7 @@ impl ConsumerEnd {
     pub fn consumer(&self) -> &Consumer
         ensures { result.now ≡ self.now.fetcher }
     {
-        &self.consumer
+        self.receiver.consumer()
     }
 
     /// All events that were taken in, in the order of their intake, as [`Inbox::taken`] reads them.
@@ -75,6 +72,6 @@ impl ConsumerEnd {
         ensures memory { IfErr result (λ fault. fault ≡ InboxFault.Memory alloc_error) }
         ensures same { self.new ≡ self.old }
     {
-        self.inbox.taken()
+        self.receiver.taken()
     }
 }

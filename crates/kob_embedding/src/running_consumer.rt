@@ -14,8 +14,8 @@ ghost use Rattle.kob_inbox.specs.Tick.{Point, Ticks, point_of, state_of};
 use crate::consumer_end::ConsumerEnd;
 use crate::part::{Part, joined};
 use crate::past_calls::PastCalls;
-use kob_inbox::{Consumer, Inbox, InboxFault, InboxRow, StopReason, Subscription, Tick};
-use kob_lines::{IntoCalls, ProgramFault, a_consumer_run_goes_on};
+use kob_inbox::{Inbox, InboxFault, InboxRow, StopReason, Subscription, Tick};
+use kob_lines::{IntoCalls, ProgramFault, Receiver, a_consumer_run_goes_on};
 use kob_rights::Code;
 use kob_router::{Call, Line};
 use std::alloc::{AllocError, Global};
@@ -27,8 +27,7 @@ use std::{mem, thread};
 /// that the law of delivery applies to it.
 #[derive(Drop)]
 pub struct RunningConsumer<L: Line> {
-    consumer: Consumer,
-    inbox: Inbox,
+    receiver: Receiver,
     past: PastCalls,
     line: L,
 }
@@ -43,14 +42,14 @@ impl<L: Line> Model for RunningConsumer<L> {
     ghost coded = { Prim.hlevel (codes, L.code) };
 
     ghost view = { λ r. record {
-      fetcher = r.consumer;
-      inbox = r.inbox;
+      fetcher = r.receiver.fetcher;
+      inbox = r.receiver.inbox;
       earlier = r.past.calls;
       line = r.line;
     } };
 
     ghost invariant = { λ r.
-        IsReaderRun r.consumer r.inbox (r.past.calls ++ L.calls r.line) };
+        IsReaderRun r.receiver.fetcher r.receiver.inbox (r.past.calls ++ L.calls r.line) };
 }
 
 impl<L: Line> RunningConsumer<L> {
@@ -68,16 +67,11 @@ impl<L: Line> RunningConsumer<L> {
         ensures earlier { result.earlier ≡ [] }
         ensures line { result.line ≡ line }
     {
-        let Subscription {
-            group,
-            assignment,
-            max,
-        } = subscription;
+        let receiver = Receiver::new(alloc, inbox, subscription);
         let past = PastCalls::none();
         a_consumer_run_goes_on();
         RunningConsumer {
-            consumer: Consumer::new(alloc, group, assignment, max),
-            inbox,
+            receiver,
             past,
             line,
         }
@@ -95,7 +89,7 @@ impl<L: Line> RunningConsumer<L> {
         ensures earlier { self.new.earlier ≡ self.old.earlier }
         ensures line { L.becomes self.old.line self.new.line }
     {
-        let tick = self.consumer.tick(alloc, &mut self.inbox, &mut self.line);
+        let tick = self.receiver.tick(alloc, &mut self.line);
         a_consumer_run_goes_on();
         tick
     }
@@ -120,7 +114,8 @@ impl<L: Line> RunningConsumer<L> {
         ensures earlier { self.new.earlier ≡ self.old.earlier }
         ensures line { L.becomes self.old.line self.new.line }
     {
-        let round = self.consumer.subscription().assignment.len().max(1);
+        let subscription = self.receiver.consumer().subscription();
+        let round = subscription.assignment.len().max(1);
         let mut idle = 0;
         for _ in 0..most {
             let tick = self.step(alloc)?;
@@ -240,7 +235,7 @@ impl<L: Line> RunningConsumer<L> {
         ensures earlier { self.new.earlier ≡ self.old.earlier }
         ensures line { self.new.line ≡ self.old.line }
     {
-        self.consumer.restart();
+        self.receiver.restart();
         a_consumer_run_goes_on();
     }
 
@@ -251,7 +246,7 @@ impl<L: Line> RunningConsumer<L> {
         ensures memory { IfErr result (λ fault. fault ≡ InboxFault.Memory alloc_error) }
         ensures same { self.new ≡ self.old }
     {
-        self.inbox.taken()
+        self.receiver.taken()
     }
 }
 
@@ -294,14 +289,13 @@ impl<L: IntoCalls> RunningConsumer<L> {
         ensures inbox { result.inbox ≡ self.inbox }
     {
         let RunningConsumer {
-            consumer,
-            inbox,
+            receiver,
             past,
             line,
         } = self;
         drop(past);
         let calls = line.into_calls();
-        ConsumerEnd::new(Part { worker, calls }, consumer, inbox)
+        ConsumerEnd::new(Part { worker, calls }, receiver)
     }
 
     /// Ends the line. The calls of this worker are those of the lines that were handed out, in turn,
@@ -314,17 +308,15 @@ impl<L: IntoCalls> RunningConsumer<L> {
         ensures inbox { IfOk result (λ e. e.inbox ≡ self.inbox) }
     {
         let RunningConsumer {
-            consumer,
-            inbox,
+            receiver,
             past,
             line,
         } = self;
         drop(past);
         match joined(earlier, line.into_calls()) {
-            Ok(calls) => Ok(ConsumerEnd::new(Part { worker, calls }, consumer, inbox)),
+            Ok(calls) => Ok(ConsumerEnd::new(Part { worker, calls }, receiver)),
             Err(refused) => {
-                drop(consumer);
-                drop(inbox);
+                drop(receiver);
                 Err(refused)
             }
         }

@@ -1,6 +1,8 @@
 -- What becomes of the row in hand where others write and sweep the outbox.
-use Rattle.kob_lines.proofs.Words.{Change, Contents, Err, Hand, HoldsFirst, IsFirst, List, None, Ok, OnErr, OnOk, Option, OutboxEvent, OutboxFault, RecordFault, Relayed, Result, Some, [], after_record, arith, filter-append, later_than, nat_tests, refl, slice_get, swept_waits, take, without_sent, ℕ, ◌++◌, ◌∷◌, ◌≡◌}
-use Rattle.kob_outbox.specs.Contents.{Event}
+use Rattle.kob_lines.proofs.Words.{Change, Contents, Err, Hand, HoldsFirst, IsFirst, List, None, Ok, OnErr, OnOk, Option, OutboxEvent, OutboxFault, RecordFault, Relayed, Result, Some, [], after_record, arith, filter-append, later_than, nat_tests, refl, slice_get, swept_waits, take, without_sent, ℕ, ◌++◌, ◌∷◌, subst, sym, ◌≡◌}
+use Rattle.kob_outbox.specs.Contents.{Event, Key, with_state}
+use Rattle.kob_router.specs.Tick.{hand_of}
+use Rattle.std.specs.Prelude.{option_map}
 
 first_stays : (xs ys : List Event) (x : Event) → slice_get xs 0 ≡ Some x → slice_get (xs ++ ys) 0 ≡ Some x
 first_stays [] ys x first = cc
@@ -39,3 +41,19 @@ pub holds_swept : (old : Relayed) (now : Contents) (result : Result ℕ OutboxFa
     → HoldsFirst (record old { outbox = now })
 holds_swept old now (Ok count) holds is stays = grind (arith, nat_tests, first_swept)
 holds_swept old now (Err fault) holds is stays = grind (arith, nat_tests)
+
+first_stated : (hand : Option Hand) (c : Contents) (key : Key) (state : List ℕ) → IsFirst hand c
+    → IsFirst hand (with_state c key state)
+first_stated None c key state first = tt
+first_stated (Some hand) c key state first = first
+
+-- a business row that is written alone is no row of the outbox
+pub holds_stated : (old : Relayed) (now : Contents) (key : Key) (state : List ℕ)
+    (result : Result (Unit {0}) RecordFault) → HoldsFirst old → OnOk result (now ≡ with_state old.outbox key state)
+    → OnErr result (now ≡ old.outbox) → HoldsFirst (record old { outbox = now })
+holds_stated old now key state (Ok done) holds is stays = grind (arith, nat_tests, first_stated)
+holds_stated old now key state (Err fault) holds is stays = grind (arith, nat_tests)
+
+-- no row is in hand
+pub holds_none : (r : Relayed) → r.router.hand ≡ None → HoldsFirst r
+holds_none r none = subst (λ hand. IsFirst (option_map hand_of hand) r.outbox) (sym none) tt

@@ -2,7 +2,7 @@
 use Rattle.std.specs.Prelude.{◌≡◌, ℕ, List, option_map}
 use Rattle.kob_outbox.specs.Contents.{Contents, Event, empty}
 use Rattle.kob_router.specs.Run.{dispatch_of, Dispatching, IsRouterRun, events_of}
-use Rattle.kob_router.specs.Tick.{IsFirst, IsOneTick, Ticks, hand_of, point_of}
+use Rattle.kob_router.specs.Tick.{IsFirst, IsOneTick, Ticks, hand_of, point_of, state_of}
 use Rattle.kob_router.specs.declared.line.Call.{Call}
 use Rattle.kob_router.specs.declared.sender.Sender.{Sender}
 use Rattle.kob_router.specs.declared.tick.Tick.{Tick}
@@ -15,6 +15,10 @@ use Rattle.kob_inbox.specs.Run as consumers
 pub record Relayed : Type 0 where
   pub outbox : Contents
   pub router : Sender
+
+-- both, as a run has them
+abbrev pub relayed_state : Relayed → routers.State
+relayed_state r = state_of r.router r.outbox
 
 -- the row in hand, if there is one, is the first after the mark
 abbrev pub HoldsFirst : Relayed → Type 0

@@ -1,6 +1,6 @@
 //! Lines to a broker: connections over a borrowed broker, over one with a journal, over a session,
 //! over a server of one's own, and over a line whose calls are lost on purpose. A router with its
-//! outbox, laws of runs, and one fault for programs that use all these.
+//! outbox, a consumer with its inbox, laws of runs, and one fault for programs that use all these.
 #![tactic(auto)]
 
 mod broker_line;
@@ -11,6 +11,7 @@ mod event;
 mod into_calls;
 mod lossy;
 mod program_fault;
+mod receiver;
 mod recorded_line;
 mod relay;
 mod service_course;
@@ -24,6 +25,7 @@ pub use consumer_course::a_consumer_run_goes_on;
 pub use into_calls::IntoCalls;
 pub use lossy::{Loss, Lossy, LossyServer};
 pub use program_fault::ProgramFault;
+pub use receiver::Receiver;
 pub use recorded_line::{RecordedLine, RecordedServer};
 pub use relay::Relay;
 pub use service_course::a_service_run_goes_on;

@@ -68,8 +68,8 @@ ServiceGoesOn (RouterStopped (router_stops.Memory refused)) = ⊥
 ServiceGoesOn (RouterStopped router_stops.Store) = ⊥
 ServiceGoesOn tick = Unit {0}
 
--- a tick of the router: what it answers tells of its moves, and its first call has the loss
-pub record IsServiceTick (route : Dispatching) (loss : Loss) (moves : List routers.Move)
+-- the moves of a tick of the router: what it answers tells of them, and its first call has the loss
+pub record IsOfServiceTick (route : Dispatching) (loss : Loss) (moves : List routers.Move)
     (served : List Served) (new : routers.State) : Type 0 where
   pub own : AllByRecursion IsOfTick moves
   pub few : IsOneTick (routers.calls_of moves)
@@ -84,7 +84,7 @@ IsOfServiceStep route old (service_steps.Record change event) moves served new =
     ((moves ≡ Recorded change event ∷ [])
     ⊎ ((moves ≡ []) × (IsRecordable old.outbox change event → ⊥)))
     × (served ≡ [])
-IsOfServiceStep route old (service_steps.Tick loss) moves served new = IsServiceTick route loss moves served new
+IsOfServiceStep route old (service_steps.Tick loss) moves served new = IsOfServiceTick route loss moves served new
 IsOfServiceStep route old service_steps.Restart moves served new = (moves ≡ RouterRestarted ∷ []) × (served ≡ [])
 IsOfServiceStep route old service_steps.Sweep moves served new = (moves ≡ Swept ∷ []) × (served ≡ [])
 
@@ -111,8 +111,8 @@ ConsumerGoesOn (ConsumerStopped (consumer_stops.Memory refused)) = ⊥
 ConsumerGoesOn (ConsumerStopped consumer_stops.Store) = ⊥
 ConsumerGoesOn tick = Unit {0}
 
--- a tick of the consumer: what it answers tells of its one move, whose call has the loss
-pub record IsConsumerTick (t : Subscription) (loss : Loss) (moves : List consumers.Move)
+-- the one move of a tick of the consumer: what it answers tells of it, and its call has the loss
+pub record IsOfConsumerTick (t : Subscription) (loss : Loss) (moves : List consumers.Move)
     (served : List Served) : Type 0 where
   pub tick : ConsumerTick
   pub goes_on : ConsumerGoesOn tick
@@ -122,7 +122,7 @@ pub record IsConsumerTick (t : Subscription) (loss : Loss) (moves : List consume
 
 -- the moves of one step
 abbrev pub IsOfConsumerStep : Subscription → ConsumerStep → List consumers.Move → List Served → Type 0
-IsOfConsumerStep t (consumer_steps.Tick loss) moves served = IsConsumerTick t loss moves served
+IsOfConsumerStep t (consumer_steps.Tick loss) moves served = IsOfConsumerTick t loss moves served
 IsOfConsumerStep t consumer_steps.Restart moves served = (moves ≡ ConsumerRestarted ∷ []) × (served ≡ [])
 
 -- what one step does

@@ -4,7 +4,7 @@ ghost use Rattle.std.specs.Prelude.{◌≡◌, map, IfOk, OnErr, OnOk};
 ghost use Rattle.std.specs.List.{enumerate_from};
 ghost use Rattle.kob_inbox.specs.Contents.{placed_intake};
 ghost use Rattle.kob_inbox.specs.Run.{start};
-ghost use Rattle.kob_inbox.specs.Tick.{state_of};
+ghost use Rattle.kob_lines.specs.Received.{received_state};
 ghost use Rattle.kob_pipeline.specs.declared.plan.ConsumerStep.TheVariants as steps;
 ghost use Rattle.kob_pipeline.specs.Steps.{ConsumerGoesOn, IsConsumerStep, Leads, Steps, with_desk};
 
@@ -12,9 +12,8 @@ use crate::end::InboxEnd;
 use crate::line::DeskLine;
 use crate::plan::{ConsumerPlan, ConsumerStep};
 use crate::step_fault::StepFault;
-use kob_inbox::{Consumer, Inbox, StopReason, Tick};
-use kob_lines::Loss;
-use kob_names::PlainValue;
+use kob_inbox::{StopReason, Tick};
+use kob_lines::{Loss, Receiver};
 use kob_router::Line;
 use kob_shared::{CallFault, Gate};
 use std::alloc::Global;
@@ -23,25 +22,19 @@ use std::sync::Wait;
 /// A consumer with its inbox.
 #[derive(Drop)]
 pub(crate) struct Consuming {
-    consumer: Consumer,
-    inbox: Inbox,
+    receiver: Receiver,
 }
 
 impl Consuming {
     /// A consumer and its inbox, before its first step.
     pub(crate) fn open(alloc: Global, plan: &ConsumerPlan) -> Result<Consuming, StepFault>
         ensures subscription { IfOk result (λ at_work.
-            at_work.consumer.subscription ≡ plan.now.subscription) }
-        ensures state { IfOk result (λ at_work.
-            state_of at_work.consumer at_work.inbox ≡ start) }
+            at_work.receiver.fetcher.subscription ≡ plan.now.subscription) }
+        ensures state { IfOk result (λ at_work. received_state at_work.receiver ≡ start) }
     {
-        let group = plan.subscription.group.copy(alloc)?;
-        let assignment = plan.subscription.assignment.copy(alloc)?;
-        let inbox = Inbox::open_in_memory(alloc)?;
-        Ok(Consuming {
-            consumer: Consumer::new(alloc, group, assignment, plan.subscription.max),
-            inbox,
-        })
+        let subscription = plan.subscription.copy(alloc)?;
+        let receiver = Receiver::open(alloc, subscription)?;
+        Ok(Consuming { receiver })
     }
 
     /// Makes the steps, one after another.
@@ -52,10 +45,10 @@ impl Consuming {
         steps: &[ConsumerStep],
     ) -> Result<(), StepFault>
         requires { line.old.calls.unmade ≡ 0 }
-        ensures { OnOk result (Leads (Steps (IsConsumerStep self.old.consumer.subscription))
-            (with_desk (state_of self.old.consumer self.old.inbox) line.old.desk)
+        ensures { OnOk result (Leads (Steps (IsConsumerStep self.old.receiver.fetcher.subscription))
+            (with_desk (received_state self.old.receiver) line.old.desk)
             steps.now
-            (with_desk (state_of self.new.consumer self.new.inbox) line.new.desk)) }
+            (with_desk (received_state self.new.receiver) line.new.desk)) }
     {
         for step in steps {
             self.step(alloc, line, step)?;
@@ -74,16 +67,16 @@ impl Consuming {
         requires { line.old.calls.unmade ≡ 0 }
         ensures made { OnOk result (line.new.calls.unmade ≡ 0) }
         ensures same { OnOk result
-            (self.new.consumer.subscription ≡ self.old.consumer.subscription) }
-        ensures done { OnOk result (Leads (IsConsumerStep self.old.consumer.subscription)
-            (with_desk (state_of self.old.consumer self.old.inbox) line.old.desk)
+            (self.new.receiver.fetcher.subscription ≡ self.old.receiver.fetcher.subscription) }
+        ensures done { OnOk result (Leads (IsConsumerStep self.old.receiver.fetcher.subscription)
+            (with_desk (received_state self.old.receiver) line.old.desk)
             step.now
-            (with_desk (state_of self.new.consumer self.new.inbox) line.new.desk)) }
+            (with_desk (received_state self.new.receiver) line.new.desk)) }
     {
         match step {
             ConsumerStep::Tick(loss) => self.tick(alloc, line, *loss),
             ConsumerStep::Restart => {
-                self.consumer.restart();
+                self.receiver.restart();
                 Ok(())
             }
         }
@@ -99,14 +92,14 @@ impl Consuming {
         requires { line.old.calls.unmade ≡ 0 }
         ensures made { OnOk result (line.new.calls.unmade ≡ 0) }
         ensures same { OnOk result
-            (self.new.consumer.subscription ≡ self.old.consumer.subscription) }
-        ensures done { OnOk result (Leads (IsConsumerStep self.old.consumer.subscription)
-            (with_desk (state_of self.old.consumer self.old.inbox) line.old.desk)
+            (self.new.receiver.fetcher.subscription ≡ self.old.receiver.fetcher.subscription) }
+        ensures done { OnOk result (Leads (IsConsumerStep self.old.receiver.fetcher.subscription)
+            (with_desk (received_state self.old.receiver) line.old.desk)
             (steps.Tick loss)
-            (with_desk (state_of self.new.consumer self.new.inbox) line.new.desk)) }
+            (with_desk (received_state self.new.receiver) line.new.desk)) }
     {
         line.lose(loss);
-        let tick = self.consumer.tick(alloc, &mut self.inbox, line);
+        let tick = self.receiver.tick(alloc, line);
         goes_on(tick)?;
         line.goes_on()?;
         Ok(())
@@ -115,13 +108,10 @@ impl Consuming {
     /// What the inbox holds.
     pub(crate) fn close(self) -> Result<InboxEnd, StepFault>
         ensures { IfOk result (λ left.
-            map placed_intake left.rows.items ≡ enumerate_from 1 self.inbox) }
+            map placed_intake left.rows.items ≡ enumerate_from 1 self.receiver.inbox) }
     {
-        let Consuming {
-            consumer: _,
-            mut inbox,
-        } = self;
-        let rows = inbox.taken()?;
+        let Consuming { mut receiver } = self;
+        let rows = receiver.taken()?;
         Ok(InboxEnd { rows })
     }
 }

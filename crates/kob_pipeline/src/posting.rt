@@ -1,13 +1,13 @@
 //! A service with its router and its outbox, and its steps.
 
-ghost use Rattle.std.specs.Prelude.{◌≡◌, ◌≤◌, ◌⊎◌, ◌^◌, ◌++◌, [], map, IfErr, IfOk, IsErrOf, None};
-ghost use Rattle.std.specs.Prelude.{alloc_error};
+ghost use Rattle.std.specs.Prelude.{◌≡◌, ◌≤◌, ◌⊎◌, ◌^◌, ◌++◌, [], map, IfErr, IfOk, IsErrOf};
+ghost use Rattle.std.specs.Prelude.{alloc_error, None};
 ghost use Rattle.std.specs.Prelude.{◌-◌, OnErr, OnOk, false, length, option_map, slice_get};
 ghost use Rattle.std.specs.Prelude.{unwrap_or};
+ghost use Rattle.kob_lines.specs.Relayed.{relayed_state};
 ghost use Rattle.kob_outbox.specs.Contents.{id_text, stored_row, first_bad, later_than};
 ghost use Rattle.kob_outbox.specs.Contents.{is_recorded, next_seq};
 ghost use Rattle.kob_router.specs.Run.{dispatch_of, start};
-ghost use Rattle.kob_router.specs.Tick.{IsFirst, hand_of, state_of};
 ghost use Rattle.kob_pipeline.specs.declared.plan.ServiceStep.TheVariants as steps;
 ghost use Rattle.kob_delivery.specs.Delivered.{IsPrefixOf};
 ghost use Rattle.kob_pipeline.specs.Steps.{ServiceGoesOn, IsServiceStep, Leads, Steps, with_desk};
@@ -16,9 +16,9 @@ use crate::end::OutboxEnd;
 use crate::line::DeskLine;
 use crate::plan::{Service, ServiceStep};
 use crate::step_fault::StepFault;
-use kob_lines::Loss;
+use kob_lines::{Loss, Relay};
 use kob_outbox::{Change, Outbox, OutboxEvent, RecordFault, Row};
-use kob_router::{Line, Router, StopReason, Tick};
+use kob_router::{Line, StopReason, Tick};
 use kob_shared::{CallFault, Gate};
 use std::alloc::Global;
 use std::sync::Wait;
@@ -26,11 +26,10 @@ use std::sync::Wait;
 /// The most rows that one read of the outbox returns.
 const PAGE: u32 = 1_000;
 
-/// A service's router and outbox.
+/// A service's router with its outbox.
 #[derive(Drop)]
 pub(crate) struct Posting {
-    router: Router,
-    outbox: Outbox,
+    relay: Relay,
 }
 
 impl Posting {
@@ -40,16 +39,13 @@ impl Posting {
     pub(crate) fn open(alloc: Global, service: &Service) -> Result<Posting, StepFault>
         requires some { 1 ≤ service.now.target.partitions }
         requires most { service.now.target.partitions ≤ 1000 }
-        ensures target { IfOk result (λ posting. posting.router.target ≡ service.now.target) }
-        ensures hand { IfOk result (λ posting. posting.router.hand ≡ None) }
-        ensures state { IfOk result (λ posting. state_of posting.router posting.outbox ≡ start) }
+        ensures target { IfOk result (λ posting.
+            posting.relay.router.target ≡ service.now.target) }
+        ensures state { IfOk result (λ posting. relayed_state posting.relay ≡ start) }
     {
-        let route = service.target.route.copy(alloc)?;
-        let outbox = Outbox::open_in_memory(alloc)?;
-        Ok(Posting {
-            router: Router::new(alloc, route, service.target.partitions),
-            outbox,
-        })
+        let target = service.target.copy(alloc)?;
+        let relay = Relay::open(alloc, target)?;
+        Ok(Posting { relay })
     }
 
     /// Makes the steps, one after another.
@@ -59,12 +55,12 @@ impl Posting {
         line: &mut DeskLine<'_, R, G>,
         steps: &[ServiceStep],
     ) -> Result<(), StepFault>
-        requires first { IsFirst (option_map hand_of self.old.router.hand) self.old.outbox }
-        requires made { line.old.calls.unmade ≡ 0 }
-        ensures { OnOk result (Leads (Steps (IsServiceStep (dispatch_of self.old.router.target)))
-            (with_desk (state_of self.old.router self.old.outbox) line.old.desk)
+        requires { line.old.calls.unmade ≡ 0 }
+        ensures { OnOk result (Leads
+            (Steps (IsServiceStep (dispatch_of self.old.relay.router.target)))
+            (with_desk (relayed_state self.old.relay) line.old.desk)
             steps.now
-            (with_desk (state_of self.new.router self.new.outbox) line.new.desk)) }
+            (with_desk (relayed_state self.new.relay) line.new.desk)) }
     {
         for step in steps {
             self.step(alloc, line, step)?;
@@ -80,22 +76,19 @@ impl Posting {
         line: &mut DeskLine<'_, R, G>,
         step: &ServiceStep,
     ) -> Result<(), StepFault>
-        requires first { IsFirst (option_map hand_of self.old.router.hand) self.old.outbox }
-        requires made { line.old.calls.unmade ≡ 0 }
-        ensures first { OnOk result (IsFirst (option_map hand_of self.new.router.hand)
-            self.new.outbox) }
+        requires { line.old.calls.unmade ≡ 0 }
         ensures made { OnOk result (line.new.calls.unmade ≡ 0) }
-        ensures same { OnOk result (self.new.router.target ≡ self.old.router.target) }
-        ensures done { OnOk result (Leads (IsServiceStep (dispatch_of self.old.router.target))
-            (with_desk (state_of self.old.router self.old.outbox) line.old.desk)
+        ensures same { OnOk result (self.new.relay.router.target ≡ self.old.relay.router.target) }
+        ensures done { OnOk result (Leads (IsServiceStep (dispatch_of self.old.relay.router.target))
+            (with_desk (relayed_state self.old.relay) line.old.desk)
             step.now
-            (with_desk (state_of self.new.router self.new.outbox) line.new.desk)) }
+            (with_desk (relayed_state self.new.relay) line.new.desk)) }
     {
         match step {
             ServiceStep::Record(change, event) => self.note(change, event),
             ServiceStep::Tick(loss) => self.tick(alloc, line, *loss),
             ServiceStep::Restart => {
-                self.router.restart();
+                self.relay.restart();
                 Ok(())
             }
             ServiceStep::Sweep => self.sweep(),
@@ -105,23 +98,20 @@ impl Posting {
     /// Records an event. A text that does not fit and an id that is spent change nothing, and the
     /// service goes on.
     fn note(&mut self, change: &Change, event: &OutboxEvent) -> Result<(), StepFault>
-        requires { IsFirst (option_map hand_of self.old.router.hand) self.old.outbox }
-        ensures first { OnOk result (IsFirst (option_map hand_of self.new.router.hand)
-            self.new.outbox) }
-        ensures same { OnOk result (self.new.router ≡ self.old.router) }
+        ensures same { OnOk result (self.new.relay.router ≡ self.old.relay.router) }
         ensures done { OnOk result ((desk : AtDesk)
-            → Leads (IsServiceStep (dispatch_of self.old.router.target))
-            (with_desk (state_of self.old.router self.old.outbox) desk)
+            → Leads (IsServiceStep (dispatch_of self.old.relay.router.target))
+            (with_desk (relayed_state self.old.relay) desk)
             (steps.Record change.now event.now)
-            (with_desk (state_of self.new.router self.new.outbox) desk)) }
+            (with_desk (relayed_state self.new.relay) desk)) }
         ensures fits { OnErr result (first_bad change.now event.now ≡ None) }
         ensures own { IfErr result (λ fault.
             (fault ≡ StepFault.Store) ⊎ (fault ≡ StepFault.Call (CallFault.Memory alloc_error))) }
         ensures fresh { IsErrOf result StepFault.Store
-            → (is_recorded self.old.outbox.ids (id_text event.now.id) ≡ false)
-            ⊎ (next_seq self.old.outbox ≡ 2 ^ 63) }
+            → (is_recorded self.old.relay.outbox.ids (id_text event.now.id) ≡ false)
+            ⊎ (next_seq self.old.relay.outbox ≡ 2 ^ 63) }
     {
-        match self.outbox.record(change, event) {
+        match self.relay.record(change, event) {
             Ok(_) => Ok(()),
             Err(RecordFault::BadField(_)) => Ok(()),
             Err(RecordFault::DuplicateId) => Ok(()),
@@ -132,17 +122,14 @@ impl Posting {
 
     /// Deletes the rows up to the mark.
     fn sweep(&mut self) -> Result<(), StepFault>
-        requires { IsFirst (option_map hand_of self.old.router.hand) self.old.outbox }
-        ensures first { OnOk result (IsFirst (option_map hand_of self.new.router.hand)
-            self.new.outbox) }
-        ensures same { OnOk result (self.new.router ≡ self.old.router) }
+        ensures same { OnOk result (self.new.relay.router ≡ self.old.relay.router) }
         ensures done { OnOk result ((desk : AtDesk)
-            → Leads (IsServiceStep (dispatch_of self.old.router.target))
-            (with_desk (state_of self.old.router self.old.outbox) desk)
+            → Leads (IsServiceStep (dispatch_of self.old.relay.router.target))
+            (with_desk (relayed_state self.old.relay) desk)
             steps.Sweep
-            (with_desk (state_of self.new.router self.new.outbox) desk)) }
+            (with_desk (relayed_state self.new.relay) desk)) }
     {
-        self.outbox.sweep()?;
+        self.relay.sweep()?;
         Ok(())
     }
 
@@ -153,19 +140,16 @@ impl Posting {
         line: &mut DeskLine<'_, R, G>,
         loss: Loss,
     ) -> Result<(), StepFault>
-        requires first { IsFirst (option_map hand_of self.old.router.hand) self.old.outbox }
-        requires made { line.old.calls.unmade ≡ 0 }
-        ensures first { OnOk result (IsFirst (option_map hand_of self.new.router.hand)
-            self.new.outbox) }
+        requires { line.old.calls.unmade ≡ 0 }
         ensures made { OnOk result (line.new.calls.unmade ≡ 0) }
-        ensures same { OnOk result (self.new.router.target ≡ self.old.router.target) }
-        ensures done { OnOk result (Leads (IsServiceStep (dispatch_of self.old.router.target))
-            (with_desk (state_of self.old.router self.old.outbox) line.old.desk)
+        ensures same { OnOk result (self.new.relay.router.target ≡ self.old.relay.router.target) }
+        ensures done { OnOk result (Leads (IsServiceStep (dispatch_of self.old.relay.router.target))
+            (with_desk (relayed_state self.old.relay) line.old.desk)
             (steps.Tick loss)
-            (with_desk (state_of self.new.router self.new.outbox) line.new.desk)) }
+            (with_desk (relayed_state self.new.relay) line.new.desk)) }
     {
         line.lose(loss);
-        let tick = self.router.tick(alloc, &mut self.outbox, line);
+        let tick = self.relay.tick(alloc, line);
         goes_on(tick)?;
         line.goes_on()?;
         Ok(())
@@ -174,13 +158,12 @@ impl Posting {
     /// What the outbox holds.
     pub(crate) fn close(self) -> Result<OutboxEnd, StepFault>
         ensures rows { IfOk result (λ left.
-            map stored_row left.rows.items ≡ later_than 0 self.outbox.events) }
-        ensures mark { IfOk result (λ left. left.mark ≡ self.outbox.mark) }
+            map stored_row left.rows.items ≡ later_than 0 self.relay.outbox.events) }
+        ensures mark { IfOk result (λ left. left.mark ≡ self.relay.outbox.mark) }
     {
-        let Posting {
-            router: _,
-            mut outbox,
-        } = self;
+        let Posting { relay } = self;
+        let (mut outbox, router) = relay.into_parts();
+        drop(router);
         let mark = outbox.mark()?;
         let rows = rows_of(&mut outbox)?;
         Ok(OutboxEnd { rows, mark })

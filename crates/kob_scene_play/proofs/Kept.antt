@@ -1,23 +1,11 @@
--- What is in hand stays the first row after the mark; what a record answered.
-use Rattle.kob_scene_play.proofs.Words.{Change, Column, Contents, Does, Err, Hand, IfOk, IsErrOf, IsFirst, IsTrue, List, None, Ok, OnErr, OnOk, Option, OutboxEvent, OutboxFault, RecordFault, Recorded, Records, Result, Service, Some, after_record, first_bad, first_recorded, first_swept, id_text, is_recorded, next_seq, refl, subst, sym, without_sent, ℕ, ◌≡◌}
-use Rattle.kob_outbox.specs.Contents.{Key, first_bad_of_change, with_state}
+-- What a record answered.
+use Rattle.kob_scene_play.proofs.Words.{Change, Column, Does, Err, IfOk, IsErrOf, IsTrue, List, None, Ok, OnErr, OnOk, OutboxEvent, RecordFault, Recorded, Records, Result, Service, Some, first_bad, id_text, is_recorded, next_seq, refl, ℕ, ◌≡◌}
+use Rattle.kob_outbox.specs.Contents.{first_bad_of_change}
 use Rattle.kob_outbox.specs.declared.fault.RecordFault.TheVariants as faults
 use Rattle.kob_scene_play.specs.Steps.{Crashes, IsPrinted, IsServiceChange, Tells, crashed, hides}
 use Rattle.kob_scene_text.specs.PrintedRows.{recorded_text}
 use Rattle.kob_scene_text.specs.declared.scene.Recording.TheVariants.{Late, Whole}
 use Rattle.kob_scene_text.specs.declared.scene.ServiceStep.TheVariants as service_steps
-
-pub first_after_record : (hand : Option Hand) (old new : Contents) (change : Change) (event : OutboxEvent)
-    (result : Result ℕ RecordFault) → IsFirst hand old → OnOk result (new ≡ after_record old change event)
-    → OnErr result (new ≡ old) → IsFirst hand new
-first_after_record hand old new change event (Ok seq) first ok err =
-    subst (IsFirst hand) (sym ok) (first_recorded hand old change event first)
-first_after_record hand old new change event (Err fault) first ok err = subst (IsFirst hand) (sym err) first
-
-pub first_after_sweep : (hand : Option Hand) (old new : Contents) (result : Result ℕ OutboxFault)
-    → IsFirst hand old → OnOk result (new ≡ without_sent old.mark old) → OnErr result (new ≡ old) → IsFirst hand new
-first_after_sweep hand old new (Ok count) first ok err = subst (IsFirst hand) (sym ok) (first_swept hand old first)
-first_after_sweep hand old new (Err fault) first ok err = subst (IsFirst hand) (sym err) first
 
 -- what a record answered, by its clauses
 pub records : (change : Change) (event : OutboxEvent) (old new : Service) (result : Result ℕ RecordFault)
@@ -31,19 +19,6 @@ records change event old new (Err (faults.BadField column)) value ok err bad dup
 records change event old new (Err faults.DuplicateId) value ok err bad duplicate = (err, duplicate refl)
 records change event old new (Err (faults.Memory e)) value ok err bad duplicate = err
 records change event old new (Err faults.Store) value ok err bad duplicate = err
-
--- a business row that is written alone
-first_stated : (hand : Option Hand) (c : Contents) (key : Key) (state : List ℕ) → IsFirst hand c
-    → IsFirst hand (with_state c key state)
-first_stated None c key state first = tt
-first_stated (Some hand) c key state first = first
-
-pub first_after_crash : (hand : Option Hand) (old new : Contents) (key : Key) (state : List ℕ)
-    (result : Result (Unit {0}) RecordFault) → IsFirst hand old → OnOk result (new ≡ with_state old key state)
-    → OnErr result (new ≡ old) → IsFirst hand new
-first_after_crash hand old new key state (Ok done) first ok err =
-    subst (IsFirst hand) (sym ok) (first_stated hand old key state first)
-first_after_crash hand old new key state (Err fault) first ok err = subst (IsFirst hand) (sym err) first
 
 -- what a record answered that crashed, by its clauses
 pub crashes : (change : Change) (event : OutboxEvent) (old new : Service) (result : Result (Unit {0}) RecordFault)

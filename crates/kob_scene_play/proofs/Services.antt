@@ -5,6 +5,7 @@ use Rattle.kob_lines.specs.Calls.{MakesCalls, ServesAs, ServesEach}
 use Rattle.kob_lines.specs.Joined.{each_append, each_gives}
 use Rattle.kob_lines.specs.Servers.{ServesRecorded}
 use Rattle.kob_lines.specs.declared.recorded_line.RecordedServer.{RecordedServer}
+use Rattle.kob_lines.specs.Relayed.{Relayed}
 use Rattle.kob_outbox.specs.Contents.{Event, stored_row}
 use Rattle.kob_outbox.specs.declared.event.Row.{Row}
 use Rattle.kob_rights.specs.declared.reply.Reply.{Reply}
@@ -16,17 +17,21 @@ use Rattle.kob_scene_text.specs.declared.scene.Sending.{Sending}
 
 -- ---- a row is skipped
 
+abbrev past : Relayed → Option Event → Relayed
+past r found = record r { outbox = record r.outbox { mark = mark_past r.outbox.mark found } }
+
 -- no row waits
-pub past_none : (old new : Contents) → None ≡ next_row old → new ≡ old → new ≡ past_first old
-past_none old new none same =
-    same ∙ ap (λ (found : Option Event). record old { mark = mark_past old.mark found }) none
+pub past_none : (old new : Relayed) → None ≡ next_row old.outbox → new ≡ old
+    → new ≡ record old { outbox = past_first old.outbox }
+past_none old new none same = same ∙ ap (λ (found : Option Event). past old found) none
 
 -- a row waits
-pub past_some : (old mid new : Contents) (row : Row) → Some (stored_row row) ≡ next_row old → mid ≡ old
-    → new ≡ record mid { mark = row.seq } → new ≡ past_first old
+pub past_some : (old mid new : Relayed) (row : Row) → Some (stored_row row) ≡ next_row old.outbox → mid ≡ old
+    → new ≡ record mid { outbox = record mid.outbox { mark = row.seq } }
+    → new ≡ record old { outbox = past_first old.outbox }
 past_some old mid new row some same moved =
-    moved ∙ ap (λ (c : Contents). record c { mark = row.seq }) same
-    ∙ ap (λ (found : Option Event). record old { mark = mark_past old.mark found }) some
+    moved ∙ ap (λ (r : Relayed). record r { outbox = record r.outbox { mark = row.seq } }) same
+    ∙ ap (λ (found : Option Event). past old found) some
 
 -- ---- without producer ids
 

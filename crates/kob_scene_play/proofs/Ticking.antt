@@ -2,13 +2,13 @@
 use Rattle.kob_scene_play.proofs.Words.{ArePassedOn, AreServed, Call, Consumer, IsOwnTick, IsJournaled, IsSameConsumer, IsSameService, IsRouterTick, Journals, List, LosesFirst, Loss, PassesCallsOn, Record, Served, Service, Ticks, [], inl, inr, point_of, served_in, subst, sym, ℕ, map, ◌++◌, ◌∙◌, ◌∷◌, ◌≡◌, ap, Err, IfOk, None, Ok, OnOk, Option, Result, Some}
 use Rattle.kob_inbox.specs.declared.tick.Tick.{Tick as ConsumerAnswer}
 use Rattle.kob_inbox.specs.Contents.{Contents as InboxContents}
+use Rattle.kob_lines.specs.Relayed.{IsTick}
 use Rattle.kob_rights.specs.declared.event.Event.{Event}
 use Rattle.kob_rights.specs.declared.reply.Reply.{Reply}
-use Rattle.kob_router.specs.Run.{dispatch_of}
-use Rattle.kob_router.specs.Tick as router_ticks
 use Rattle.kob_router.specs.declared.tick.Tick.{Tick as ServiceAnswer}
 use Rattle.kob_scene_play.specs.Asked.{IsAsked, committed_by}
 use Rattle.kob_scene_play.specs.Begins.{IsBegun, start_event}
+use Rattle.kob_scene_play.specs.Services.{relayed_of}
 use Rattle.kob_scene_play.specs.Steps.{IsAheadBy, IsAheadTick, IsCalled, IsTakingTick, IsTickBy, IsTickOfConsumer, ahead_of}
 use Rattle.kob_scene_play.specs.Takings.{HandlesReply, TakesHeld, asked_event, inbox_by, inbox_with}
 use Rattle.kob_scene_text.specs.declared.scene.Taking.{Taking}
@@ -64,15 +64,11 @@ journaled_below worker own_worker principal own_principal host own_host calls th
 pub service_ticked : (sent : List Call → List Call) (loss : Loss) (old new : Service) (tick : ServiceAnswer) (before now : List Call) (unmade then_unmade : ℕ)
     (recorded then_recorded : Record) → LosesFirst loss now → IsSameService old new → new.recorded ≡ old.recorded
     → before ≡ [] → unmade ≡ 0 → IsJournaled old.worker old.principal old.host (sent now) recorded then_recorded
-    → router_ticks.Ticks router_ticks.IsOneTick (dispatch_of old.sender.target)
-    (router_ticks.point_of old.sender old.outbox before unmade)
-    (router_ticks.point_of new.sender new.outbox now then_unmade) tick
+    → IsTick (relayed_of old) (relayed_of new) before now unmade then_unmade tick
     → IsRouterTick sent loss old new recorded then_recorded tick
 service_ticked sent loss old new tick before now unmade then_unmade recorded then_recorded lost same events none all journaled ticks =
     let Begun : List Call → ℕ → Type 0 =
-    λ calls count. router_ticks.Ticks router_ticks.IsOneTick (dispatch_of old.sender.target)
-    (router_ticks.point_of old.sender old.outbox calls count)
-    (router_ticks.point_of new.sender new.outbox now then_unmade) tick in
+    λ calls count. IsTick (relayed_of old) (relayed_of new) calls now count then_unmade tick in
     record {
       same = same;
       recorded = events;

@@ -11,7 +11,6 @@ pub use Rattle.kob_outbox.specs.declared.event.OutboxEvent.{OutboxEvent}
 pub use Rattle.kob_outbox.specs.declared.fault.OutboxFault.{OutboxFault}
 pub use Rattle.kob_outbox.specs.declared.fault.RecordFault.{RecordFault}
 pub use Rattle.kob_outbox.specs.declared.fields.Column.{Column}
-pub use Rattle.kob_lines.proofs.Relaying.{first_recorded, first_swept}
 pub use Rattle.kob_delivery.specs.View.{ArePrivate, IsBreach}
 pub use Rattle.kob_delivery.specs.declared.premises.Breach.{Breach}
 pub use Rattle.kob_router.specs.Line.{AreServed, Served, one_more}

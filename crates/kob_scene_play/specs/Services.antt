@@ -3,6 +3,7 @@ use Rattle.std.specs.List.{find, list_any}
 use Rattle.std.specs.Prelude.{◌≡◌, ℕ, ◌-◌, ◌==◌, Bool, true, false, length, not, List, [], ◌∷◌, ◌++◌, Option, None, Some, Result, Ok, Err, map, option_map, string_bytes, if◌then◌else◌}
 use Rattle.kob_delivery_check.specs.Unrecorded.{has_new_id}
 use Rattle.kob_lines.specs.Calls.{IsJournaled}
+use Rattle.kob_lines.specs.Relayed.{IsTick, Relayed, relayed_state}
 use Rattle.kob_lines.specs.declared.lossy.Loss.{Loss}
 use Rattle.kob_lines.specs.declared.lossy.Loss.TheVariants as losses
 use Rattle.kob_outbox.specs.Contents.{Contents, Event, first_after, key_of, with_state}
@@ -12,7 +13,6 @@ use Rattle.kob_outbox.specs.declared.fault.RecordFault.{RecordFault}
 use Rattle.kob_rights.specs.declared.request.Request.{Request}
 use Rattle.kob_rights.specs.declared.request.Request.TheVariants.{Produce}
 use Rattle.kob_router.specs.Run as routing
-use Rattle.kob_router.specs.Tick as router_ticks
 use Rattle.kob_router.specs.declared.line.Call.{Call}
 use Rattle.kob_router.specs.declared.sender.HeldRow.{HeldRow}
 use Rattle.kob_router.specs.declared.sender.Sender.{Sender}
@@ -46,8 +46,12 @@ pub record Service : Type 0 where
   pub unwritten : List OutboxEvent
   pub hidden : List ℕ
 
+-- its router with its outbox
+abbrev pub relayed_of : Service → Relayed
+relayed_of service = record { outbox = service.outbox; router = service.sender }
+
 abbrev pub service_state : Service → routing.State
-service_state service = router_ticks.state_of service.sender service.outbox
+service_state service = relayed_state (relayed_of service)
 
 -- its number, who it is, how it sends, how it routes, what it did not record and what is hidden stay
 pub record IsSameService (old new : Service) : Type 0 where
@@ -137,10 +141,7 @@ pub record IsRouterTick (sent : List Call → List Call) (loss : Loss) (old new 
   pub lost : LosesFirst loss calls
   pub journaled : IsJournaled old.worker old.principal old.host (sent calls) before after
   pub unmade : ℕ
-  pub ticks :
-      router_ticks.Ticks router_ticks.IsOneTick (routing.dispatch_of old.sender.target)
-      (router_ticks.point_of old.sender old.outbox [] 0)
-      (router_ticks.point_of new.sender new.outbox calls unmade) tick
+  pub ticks : IsTick (relayed_of old) (relayed_of new) [] calls 0 unmade tick
 
 -- What is done after a tick.
 

@@ -32,7 +32,7 @@ use Rattle.kob_rights.specs.declared.event.Event.{Event}
 use Rattle.kob_rights.specs.declared.reply.Reply.{Reply}
 use Rattle.kob_scene_play.specs.Asked.{HasLoss, IsAsked}
 use Rattle.kob_scene_play.specs.Begins.{IsBegun, start_event}
-use Rattle.kob_scene_play.specs.Takings.{Ahead, HandlesReply, TakesHeld, ahead, asked_event, inbox_after}
+use Rattle.kob_scene_play.specs.Takings.{Ahead, HandlesReply, TakesHeld, asked_event, inbox_after}
 use Rattle.kob_scene_play.specs.declared.holding.Holding.{Holding}
 use Rattle.kob_scene_play.specs.declared.holding.Holding.TheVariants.{Nothing}
 pub use Rattle.kob_scene_play.specs.Services.{Does, IsRouterTick, IsSameService, IsServiceTick, LosesFirst, Service, crashed, hides, recorded_after, service_state, shown}
@@ -85,7 +85,7 @@ abbrev pub consumer_state : Consumer → consuming.State
 consumer_state consumer = consumer_ticks.state_of consumer.fetcher consumer.own
 
 abbrev pub ahead_of : Consumer → Ahead
-ahead_of consumer = ahead consumer.fetcher consumer.own consumer.holding
+ahead_of consumer = record { state = consumer_state consumer; holding = consumer.holding }
 
 -- its number, who it is, where it begins, how it takes in and what it reads stay
 pub record IsSameConsumer (old new : Consumer) : Type 0 where

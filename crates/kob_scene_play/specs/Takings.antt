@@ -3,7 +3,8 @@
 use Rattle.std.specs.Prelude.{◌≡◌, ◌++◌, ℕ, List, [], ◌∷◌, Option, None, Some, Result, Ok, Err, flat_map, length, option_map}
 use Rattle.kob_inbox.specs.Contents.{Arrival, Contents, Intake, intake_of, placed_intake}
 use Rattle.kob_inbox.specs.Run.{State, after_answer, behind, due_now, place_at}
-use Rattle.kob_inbox.specs.Tick.{Hears, state_of}
+use Rattle.kob_inbox.specs.Tick.{Hears}
+use Rattle.kob_lines.specs.Received.{Received, received_state}
 use Rattle.kob_inbox.specs.declared.cursors.Cursor.{Cursor}
 use Rattle.kob_inbox.specs.declared.fetcher.Fetcher.{Fetcher}
 use Rattle.kob_inbox.specs.declared.fetcher.Subscription.{Subscription}
@@ -40,8 +41,8 @@ pub record Ahead : Type 0 where
   pub state : State
   pub holding : Holding
 
-abbrev pub ahead : Fetcher → Contents → Holding → Ahead
-ahead f inbox holding = record { state = state_of f inbox; holding = holding }
+abbrev pub ahead : Received → Holding → Ahead
+ahead receiver holding = record { state = received_state receiver; holding = holding }
 
 -- the offsets of what is held are below the greatest
 abbrev pub AreWithin : Holding → Type 0

@@ -2,7 +2,7 @@
 
 ghost use Rattle.std.specs.Prelude.{◌≡◌, None, Some, IfOk, IfSome, IsTrue, OnOk, length};
 ghost use Rattle.kob_inbox.specs.Run.{due_now};
-ghost use Rattle.kob_inbox.specs.Tick.{state_of};
+ghost use Rattle.kob_lines.specs.Received.{received_state};
 ghost use Rattle.kob_rights.specs.Requests.{BodyWithin, Fits, IsBodyOf, OffsetsWithin};
 ghost use Rattle.kob_rights.specs.declared.reply.Body.TheVariants as bodies;
 ghost use Rattle.kob_scene_play.specs.Takings.{AreWithin, CountsCommitted, HandlesBody};
@@ -13,7 +13,8 @@ ghost use Rattle.kob_scene_play.specs.declared.holding.Holding.TheVariants.{Noth
 use crate::ask::committed_by;
 use crate::fault::PlayFault;
 use crate::holding::{Held, Holding, held_of};
-use kob_inbox::{Consumer, Inbox, StopReason, Tick};
+use kob_inbox::{Consumer, StopReason, Tick};
+use kob_lines::Receiver;
 use kob_names::PlainValue;
 use kob_rights::{Body, Event, Fetch, Reply, Request};
 use std::alloc::{AllocError, Global};
@@ -22,26 +23,25 @@ use std::mem;
 /// Handles what was heard of the next request.
 pub(crate) fn handle_reply(
     alloc: Global,
-    consumer: &mut Consumer,
-    inbox: &mut Inbox,
+    receiver: &mut Receiver,
     holding: &mut Holding,
     event: Event,
     heard: Option<Reply>,
 ) -> Result<Tick, PlayFault>
     requires within { AreWithin holding.old }
-    requires asked { asked_next consumer.old.subscription consumer.old.cursors.items
-        consumer.old.turn holding.old ≡ Some event.request }
+    requires asked { asked_next receiver.old.fetcher.subscription receiver.old.fetcher.cursors.items
+        receiver.old.fetcher.turn holding.old ≡ Some event.request }
     requires fits { IfSome heard (λ reply. Fits event.request reply) }
     requires offsets { IfSome heard (λ reply. OffsetsWithin reply) }
-    ensures same { consumer.new.subscription ≡ consumer.old.subscription }
+    ensures same { receiver.new.fetcher.subscription ≡ receiver.old.fetcher.subscription }
     ensures within { AreWithin holding.new }
-    ensures done { IfOk result (HandlesReply consumer.old.subscription event.request heard
-        (ahead consumer.old inbox.old holding.old) (ahead consumer.new inbox.new holding.new)) }
+    ensures done { IfOk result (HandlesReply receiver.old.fetcher.subscription event.request heard
+        (ahead receiver.old holding.old) (ahead receiver.new holding.new)) }
 {
     match heard {
         Some(Reply::Done(body)) => {
             let request = event.into_request();
-            handle_body(alloc, consumer, inbox, holding, request, body)
+            handle_body(alloc, receiver, holding, request, body)
         }
         None => Ok(committed_by(None)),
         Some(Reply::Denied { code, verdicts }) => {
@@ -55,24 +55,23 @@ pub(crate) fn handle_reply(
 
 fn handle_body(
     alloc: Global,
-    consumer: &mut Consumer,
-    inbox: &mut Inbox,
+    receiver: &mut Receiver,
     holding: &mut Holding,
     request: Request,
     body: Body,
 ) -> Result<Tick, PlayFault>
     requires within { AreWithin holding.old }
-    requires asked { asked_next consumer.old.subscription consumer.old.cursors.items
-        consumer.old.turn holding.old ≡ Some request }
+    requires asked { asked_next receiver.old.fetcher.subscription receiver.old.fetcher.cursors.items
+        receiver.old.fetcher.turn holding.old ≡ Some request }
     requires fits { IsBodyOf request body }
     requires offsets { BodyWithin body }
-    ensures same { consumer.new.subscription ≡ consumer.old.subscription }
+    ensures same { receiver.new.fetcher.subscription ≡ receiver.old.fetcher.subscription }
     ensures within { AreWithin holding.new }
-    ensures done { IfOk result (HandlesBody holding.old consumer.old.subscription request body
-        (ahead consumer.old inbox.old holding.old) (ahead consumer.new inbox.new holding.new)) }
+    ensures done { IfOk result (HandlesBody holding.old receiver.old.fetcher.subscription request
+        body (ahead receiver.old holding.old) (ahead receiver.new holding.new)) }
 {
     match mem::replace(holding, Holding::Nothing) {
-        Holding::Nothing => handle_due(alloc, consumer, inbox, holding, request, body),
+        Holding::Nothing => handle_due(alloc, receiver, holding, request, body),
         Holding::Fetched(held) => {
             drop((request, body));
             *holding = Holding::Committed(held);
@@ -85,21 +84,21 @@ fn handle_body(
 /// Holds the records that a FETCH brought. Any other body is handled by the consumer.
 fn handle_due(
     alloc: Global,
-    consumer: &mut Consumer,
-    inbox: &mut Inbox,
+    receiver: &mut Receiver,
     holding: &mut Holding,
     request: Request,
     body: Body,
 ) -> Result<Tick, PlayFault>
     requires nothing { holding.old ≡ Nothing }
-    requires due { due_now consumer.old.subscription consumer.old.cursors.items consumer.old.turn
-        ≡ Some request }
+    requires due { due_now receiver.old.fetcher.subscription receiver.old.fetcher.cursors.items
+        receiver.old.fetcher.turn ≡ Some request }
     requires fits { IsBodyOf request body }
     requires offsets { BodyWithin body }
-    ensures same { consumer.new.subscription ≡ consumer.old.subscription }
+    ensures same { receiver.new.fetcher.subscription ≡ receiver.old.fetcher.subscription }
     ensures within { AreWithin holding.new }
-    ensures done { IfOk result (IsHandled (held_or request body) consumer.old.subscription request
-        (ahead consumer.old inbox.old holding.old) (ahead consumer.new inbox.new holding.new)) }
+    ensures done { IfOk result (IsHandled (held_or request body)
+        receiver.old.fetcher.subscription request (ahead receiver.old holding.old)
+        (ahead receiver.new holding.new)) }
 {
     match held_of(request, body) {
         Ok(held) => {
@@ -107,31 +106,30 @@ fn handle_due(
             *holding = Holding::Fetched(held);
             Ok(Tick::Placed(position))
         }
-        Err(body) => Ok(consumer.hear(alloc, inbox, body)?),
+        Err(body) => Ok(receiver.hear(alloc, body)?),
     }
 }
 
 /// Takes in what is held, for which its commit is acknowledged. Nothing is done if nothing is held.
 pub(crate) fn take_held(
     alloc: Global,
-    consumer: &mut Consumer,
-    inbox: &mut Inbox,
+    receiver: &mut Receiver,
     holding: &mut Holding,
 ) -> Result<Tick, PlayFault>
     requires within { AreWithin holding.old }
-    requires asked { asked_next consumer.old.subscription consumer.old.cursors.items
-        consumer.old.turn holding.old ≡ None }
-    ensures same { consumer.new.subscription ≡ consumer.old.subscription }
+    requires asked { asked_next receiver.old.fetcher.subscription receiver.old.fetcher.cursors.items
+        receiver.old.fetcher.turn holding.old ≡ None }
+    ensures same { receiver.new.fetcher.subscription ≡ receiver.old.fetcher.subscription }
     ensures within { AreWithin holding.new }
-    ensures done { IfOk result (TakesHeld holding.old consumer.old.subscription
-        (ahead consumer.old inbox.old holding.old) (ahead consumer.new inbox.new holding.new)) }
+    ensures done { IfOk result (TakesHeld holding.old receiver.old.fetcher.subscription
+        (ahead receiver.old holding.old) (ahead receiver.new holding.new)) }
 {
     match mem::replace(holding, Holding::Nothing) {
         Holding::Nothing => Ok(Tick::Idle),
         Holding::Fetched(_) => unreachable!(),
         Holding::Committed(held) => {
-            let count = take_records(alloc, consumer, inbox, held)?;
-            count_committed(alloc, consumer, inbox)?;
+            let count = take_records(alloc, receiver, held)?;
+            count_committed(alloc, receiver)?;
             Ok(Tick::Took(count))
         }
     }
@@ -140,23 +138,18 @@ pub(crate) fn take_held(
 /// The consumer takes in what is held, as it does with the reply to its FETCH. Returns the number
 /// of records.
 #[tactic(auto, using(crate::proofs::Taking::all_taken))]
-fn take_records(
-    alloc: Global,
-    consumer: &mut Consumer,
-    inbox: &mut Inbox,
-    held: Held,
-) -> Result<u64, PlayFault>
+fn take_records(alloc: Global, receiver: &mut Receiver, held: Held) -> Result<u64, PlayFault>
     requires { BodyWithin (bodies.Records held.records) }
-    ensures same { consumer.new.subscription ≡ consumer.old.subscription }
+    ensures same { receiver.new.fetcher.subscription ≡ receiver.old.fetcher.subscription }
     ensures count { IfOk result (λ count. count ≡ length held.records) }
-    ensures done { OnOk result (state_of consumer.new inbox.new
-        ≡ with_held consumer.old.subscription (state_of consumer.old inbox.old) held) }
+    ensures done { OnOk result (received_state receiver.new
+        ≡ with_held receiver.old.fetcher.subscription (received_state receiver.old) held) }
 {
     let Held { asked, records } = held;
-    let is_due = is_due(alloc, consumer, &asked);
+    let is_due = is_due(alloc, receiver.consumer(), &asked);
     drop(asked);
     match is_due {
-        Ok(true) => took(consumer.hear(alloc, inbox, Body::Records(records))?),
+        Ok(true) => took(receiver.hear(alloc, Body::Records(records))?),
         Ok(false) => {
             drop(records);
             Err(PlayFault::NotDue)
@@ -193,19 +186,15 @@ fn took(tick: Tick) -> Result<u64, PlayFault>
 
 /// The commit that is due to the consumer counts as acknowledged.
 #[tactic(auto, using(crate::proofs::Taking::counted))]
-fn count_committed(
-    alloc: Global,
-    consumer: &mut Consumer,
-    inbox: &mut Inbox,
-) -> Result<(), PlayFault>
-    ensures same { consumer.new.subscription ≡ consumer.old.subscription }
-    ensures done { OnOk result (CountsCommitted consumer.old.subscription
-        (state_of consumer.old inbox.old) (state_of consumer.new inbox.new)) }
+fn count_committed(alloc: Global, receiver: &mut Receiver) -> Result<(), PlayFault>
+    ensures same { receiver.new.fetcher.subscription ≡ receiver.old.fetcher.subscription }
+    ensures done { OnOk result (CountsCommitted receiver.old.fetcher.subscription
+        (received_state receiver.old) (received_state receiver.new)) }
 {
-    match consumer.due(alloc)? {
+    match receiver.consumer().due(alloc)? {
         Some(Request::OffsetCommit(commit)) => {
             drop(commit);
-            consumer.hear(alloc, inbox, Body::Committed)?;
+            receiver.hear(alloc, Body::Committed)?;
             Ok(())
         }
         _ => Err(PlayFault::NotDue),

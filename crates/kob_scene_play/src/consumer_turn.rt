@@ -89,7 +89,7 @@ impl ConsumerWorker {
         let host = self.host.copy(alloc)?;
         let below = RecordedLine::open(alloc, recorded, self.worker, principal, host);
         let mut line = Connection::new(alloc, LossyServer { line: below, loss });
-        let tick = take_over(&mut self.consumer, alloc, &mut self.inbox, &mut line);
+        let tick = take_over(&mut self.receiver, alloc, &mut line);
         let line_fault = line_fault(line.calls.fault, line.server.line.calls.fault);
         let fault = stopped_by(&tick).or(line_fault);
         let is_lost = loses_first(loss, &line.calls.made);
@@ -119,23 +119,11 @@ impl ConsumerWorker {
         ensures { IfOk result (IsAheadTick loss self.old self.new recorded.old recorded.new) }
     {
         let Some(event) = self.asked_next(alloc)? else {
-            return take_held(
-                alloc,
-                &mut self.consumer,
-                &mut self.inbox,
-                &mut self.holding,
-            );
+            return take_held(alloc, &mut self.receiver, &mut self.holding);
         };
         match ask(alloc, recorded, self.worker, loss, &event) {
             Ok(heard) => {
-                handle_reply(
-                    alloc,
-                    &mut self.consumer,
-                    &mut self.inbox,
-                    &mut self.holding,
-                    event,
-                    heard,
-                )
+                handle_reply(alloc, &mut self.receiver, &mut self.holding, event, heard)
             }
             Err(fault) => {
                 drop(event);
@@ -149,7 +137,7 @@ impl ConsumerWorker {
         ensures { IfOk result (λ event. event ≡ asked_event self.now.principal self.now.host
             self.now.fetcher self.now.holding) }
     {
-        let Some(request) = asked_next(alloc, &self.consumer, &self.holding)? else {
+        let Some(request) = asked_next(alloc, self.receiver.consumer(), &self.holding)? else {
             return Ok(None);
         };
         let event = event_of(alloc, &self.principal, &self.host, request)?;

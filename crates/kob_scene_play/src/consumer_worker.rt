@@ -14,17 +14,17 @@ use crate::every::Every;
 use crate::fault::{PlayFault, has_loss};
 use crate::holding::Holding;
 use kob_delivery_check::start_due;
-use kob_inbox::{Consumer, Inbox, InboxFault, InboxRow, Subscription, Tick};
-use kob_lines::Loss;
-use kob_names::{Host, PlainValue, Principal};
+use kob_inbox::{Consumer, InboxFault, InboxRow, Subscription, Tick};
+use kob_lines::{Loss, Receiver};
+use kob_names::{Host, Principal};
 use kob_rights::{Event, Request};
 use kob_scene_text::{Start, Taking};
 use kob_shared::{Journal, Recorded};
 use std::alloc::{AllocError, Global};
 use std::marker::Model;
 
-/// A consumer: its number in the journal, who it is, where it begins, how it takes in, how far it
-/// has come, its inbox, what it holds if it commits before it takes in, and the events of each
+/// A consumer: its number in the journal, who it is, where it begins, how it takes in, its
+/// progress with its inbox, what it holds if it commits before it takes in, and the events of each
 /// record if it is without dedup.
 #[derive(Drop)]
 pub struct ConsumerWorker {
@@ -33,15 +33,12 @@ pub struct ConsumerWorker {
     pub(crate) host: Host,
     start: Start,
     pub(crate) taking: Taking,
-    subscription: Subscription,
-    pub(crate) consumer: Consumer,
-    pub(crate) inbox: Inbox,
+    pub(crate) receiver: Receiver,
     pub(crate) holding: Holding,
     pub(crate) every: Every,
 }
 
 impl Model for ConsumerWorker {
-    ghost use Rattle.std.specs.Prelude.{◌≡◌};
     ghost use Rattle.kob_scene_play.specs.Steps.{Consumer};
     ghost use Rattle.kob_scene_play.specs.Takings.{AreWithin, inbox_by};
 
@@ -53,13 +50,13 @@ impl Model for ConsumerWorker {
       host = w.host;
       start = w.start;
       taking = w.taking;
-      fetcher = w.consumer;
-      own = w.inbox;
+      fetcher = w.receiver.fetcher;
+      own = w.receiver.inbox;
       holding = w.holding;
-      inbox = inbox_by w.taking w.inbox w.every;
+      inbox = inbox_by w.taking w.receiver.inbox w.every;
     } };
 
-    ghost invariant = { λ w. (w.consumer.subscription ≡ w.subscription) × AreWithin w.holding };
+    ghost invariant = { λ w. AreWithin w.holding };
 }
 
 impl ConsumerWorker {
@@ -83,21 +80,14 @@ impl ConsumerWorker {
         ensures holding { IfOk result (λ w. w.holding ≡ Nothing) }
         ensures inbox { IfOk result (λ w. w.inbox ≡ []) }
     {
-        let Subscription {
-            group,
-            assignment,
-            max,
-        } = subscription.copy(alloc)?;
-        let inbox = Inbox::open_in_memory(alloc)?;
+        let receiver = Receiver::open(alloc, subscription)?;
         Ok(ConsumerWorker {
             worker,
             principal,
             host,
             start,
             taking,
-            subscription,
-            consumer: Consumer::new(alloc, group, assignment, max),
-            inbox,
+            receiver,
             holding: Holding::Nothing,
             every: Every::new(alloc),
         })
@@ -114,7 +104,7 @@ impl ConsumerWorker {
     pub fn subscription(&self) -> &Subscription
         ensures { result.now ≡ self.now.fetcher.subscription }
     {
-        &self.subscription
+        self.receiver.consumer().subscription()
     }
 
     /// Where it begins on a partition without a commit of its group.
@@ -134,7 +124,7 @@ impl ConsumerWorker {
     pub fn consumer(&self) -> &Consumer
         ensures { result.now ≡ self.now.fetcher }
     {
-        &self.consumer
+        self.receiver.consumer()
     }
 
     /// One step over the broker, whose first call has this loss. Its call gets its entry in the
@@ -192,7 +182,7 @@ impl ConsumerWorker {
         ensures { IfOk result (λ event. event ≡ commit_event self.now.principal self.now.host
             self.now.fetcher journal.now) }
     {
-        let Some(asked) = start_due(alloc, journal, &self.consumer)? else {
+        let Some(asked) = start_due(alloc, journal, self.receiver.consumer())? else {
             return Ok(None);
         };
         let request = Request::OffsetCommit(asked);
@@ -205,7 +195,7 @@ impl ConsumerWorker {
     pub fn restart(&mut self)
         ensures { Restarts self.old self.new }
     {
-        self.consumer.restart();
+        self.receiver.restart();
         self.holding = Holding::Nothing;
     }
 
@@ -216,8 +206,8 @@ impl ConsumerWorker {
         ensures same { self.new ≡ self.old }
     {
         match self.taking {
-            Taking::Proved => self.inbox.taken(),
-            Taking::CommitsBefore => self.inbox.taken(),
+            Taking::Proved => self.receiver.taken(),
+            Taking::CommitsBefore => self.receiver.taken(),
             Taking::NoDedup => match self.every.rows(alloc) {
                 Ok(rows) => Ok(rows),
                 Err(refused) => Err(InboxFault::Memory(refused)),

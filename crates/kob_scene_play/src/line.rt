@@ -1,34 +1,27 @@
 //! One tick of a worker over a line to the broker that may lose its first call.
 
-ghost use Rattle.std.specs.Prelude.{◌≡◌, option_map};
-ghost use Rattle.kob_inbox.specs.Tick as consumer_ticks;
+ghost use Rattle.std.specs.Prelude.{◌≡◌};
+ghost use Rattle.kob_inbox.specs.Tick.{Ticks, point_of};
 ghost use Rattle.kob_lines.specs.Calls.{Journals, PassesCallsOn};
-ghost use Rattle.kob_router.specs.Run.{dispatch_of};
-ghost use Rattle.kob_router.specs.Tick.{IsFirst, IsOneTick, Ticks, hand_of, point_of};
+ghost use Rattle.kob_lines.specs.Relayed.{IsTick};
 ghost use Rattle.kob_scene_play.specs.Services.{sent_as};
 
 use crate::sent_line::SentLine;
-use kob_inbox::{Consumer, Inbox, Tick as ConsumerTick};
-use kob_lines::{Lossy, RecordedLine};
-use kob_outbox::Outbox;
-use kob_router::{Router, Tick as ServiceTick};
+use kob_inbox::Tick as ConsumerTick;
+use kob_lines::{Lossy, Receiver, RecordedLine, Relay};
+use kob_router::Tick as ServiceTick;
 use std::alloc::Global;
 
 /// One step of a router over the line.
 pub(crate) fn send_over(
-    router: &mut Router,
+    relay: &mut Relay,
     alloc: Global,
-    outbox: &mut Outbox,
     line: &mut Lossy<SentLine<'_>>,
 ) -> ServiceTick
-    requires { IsFirst (option_map hand_of router.old.hand) outbox.old }
     ensures same_broker { line.new.server.line.server.below.recorded.ghost_name
         ≡ line.old.server.line.server.below.recorded.ghost_name }
-    ensures same { router.new.target ≡ router.old.target }
-    ensures done { Ticks IsOneTick (dispatch_of router.old.target)
-        (point_of router.old outbox.old line.old.calls.made.items line.old.calls.unmade)
-        (point_of router.new outbox.new line.new.calls.made.items line.new.calls.unmade) result }
-    ensures first { IsFirst (option_map hand_of router.new.hand) outbox.new }
+    ensures done { IsTick relay.old relay.new line.old.calls.made.items line.new.calls.made.items
+        line.old.calls.unmade line.new.calls.unmade result }
     ensures passed { PassesCallsOn line.old.calls.made.items line.new.calls.made.items
         line.old.server.line.calls.made.items line.new.server.line.calls.made.items }
     ensures journaled { let was = line.old.server.line in
@@ -38,23 +31,22 @@ pub(crate) fn send_over(
         (sent_as was.server.is_bare line.new.server.line.calls.made.items)
         below.recorded.now line.new.server.line.server.below.recorded.now }
 {
-    router.tick(alloc, outbox, line)
+    relay.tick(alloc, line)
 }
 
 /// One step of a consumer over the line.
 pub(crate) fn take_over(
-    consumer: &mut Consumer,
+    receiver: &mut Receiver,
     alloc: Global,
-    inbox: &mut Inbox,
     line: &mut Lossy<RecordedLine<'_>>,
 ) -> ConsumerTick
     ensures same_broker { line.new.server.line.server.recorded.ghost_name
         ≡ line.old.server.line.server.recorded.ghost_name }
-    ensures same { consumer.new.subscription ≡ consumer.old.subscription }
-    ensures done { consumer_ticks.Ticks consumer.old.subscription
-        (consumer_ticks.point_of consumer.old inbox.old line.old.calls.made.items
+    ensures same { receiver.new.fetcher.subscription ≡ receiver.old.fetcher.subscription }
+    ensures done { Ticks receiver.old.fetcher.subscription
+        (point_of receiver.old.fetcher receiver.old.inbox line.old.calls.made.items
         line.old.calls.unmade)
-        (consumer_ticks.point_of consumer.new inbox.new line.new.calls.made.items
+        (point_of receiver.new.fetcher receiver.new.inbox line.new.calls.made.items
         line.new.calls.unmade) result }
     ensures passed { PassesCallsOn line.old.calls.made.items line.new.calls.made.items
         line.old.server.line.calls.made.items line.new.server.line.calls.made.items }
@@ -63,5 +55,5 @@ pub(crate) fn take_over(
         was.calls.made.items line.new.server.line.calls.made.items
         was.server.recorded.now line.new.server.line.server.recorded.now }
 {
-    consumer.tick(alloc, inbox, line)
+    receiver.tick(alloc, line)
 }

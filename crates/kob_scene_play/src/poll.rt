@@ -6,7 +6,8 @@ ghost use Rattle.std.specs.Option.{option_copied};
 ghost use Rattle.kob_outbox.specs.Contents.{stored_row};
 ghost use Rattle.kob_scene_play.specs.Services.{is_hidden, poll_behind, poll_by, poll_rows};
 
-use kob_outbox::{Outbox, OutboxFault, Row};
+use kob_lines::Relay;
+use kob_outbox::{OutboxFault, Row};
 
 /// What comes before a step of the router.
 #[derive(Clone, Copy, Debug)]
@@ -20,28 +21,26 @@ pub(crate) enum Poll {
 }
 
 /// What comes before a step of the router. A row in flight is sent again whatever is hidden.
-pub(crate) fn poll_by(
-    outbox: &mut Outbox,
-    in_flight: Option<u64>,
-    hidden: &[u64],
-) -> Result<Poll, OutboxFault>
-    ensures poll { IfOk result (λ poll. poll ≡ poll_by in_flight hidden.now outbox.old) }
-    ensures same { outbox.new ≡ outbox.old }
+pub(crate) fn poll_by(relay: &mut Relay, hidden: &[u64]) -> Result<Poll, OutboxFault>
+    ensures poll { IfOk result (λ poll.
+        poll ≡ poll_by (option_map (λ held. held.row.seq) relay.old.router.hand) hidden.now
+        relay.old.outbox) }
+    ensures same { relay.new ≡ relay.old }
 {
-    match in_flight {
+    match relay.in_flight() {
         Some(_) => Ok(Poll::Own),
-        None => poll_waiting(outbox, hidden),
+        None => poll_waiting(relay, hidden),
     }
 }
 
 ghost use Rattle.std.specs.Prelude.{None};
 
-fn poll_waiting(outbox: &mut Outbox, hidden: &[u64]) -> Result<Poll, OutboxFault>
-    ensures poll { IfOk result (λ poll. poll ≡ poll_by None hidden.now outbox.old) }
-    ensures same { outbox.new ≡ outbox.old }
+fn poll_waiting(relay: &mut Relay, hidden: &[u64]) -> Result<Poll, OutboxFault>
+    ensures poll { IfOk result (λ poll. poll ≡ poll_by None hidden.now relay.old.outbox) }
+    ensures same { relay.new ≡ relay.old }
 {
-    let mark = outbox.mark()?;
-    let rows = outbox.after(mark, u32::MAX)?;
+    let mark = relay.mark()?;
+    let rows = relay.after(mark, u32::MAX)?;
     Ok(poll_rows(&rows, hidden))
 }
 

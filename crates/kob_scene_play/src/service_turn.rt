@@ -59,7 +59,7 @@ impl<'s> ServiceWorker<'s> {
         };
         let sent = Connection::new(alloc, SentServer { below, is_bare });
         let mut line = Connection::new(alloc, LossyServer { line: sent, loss });
-        let tick = send_over(&mut self.router, alloc, &mut self.outbox, &mut line);
+        let tick = send_over(&mut self.relay, alloc, &mut line);
         let line_fault = line_fault(line.calls.fault, line.server.line.calls.fault);
         let fault = stop_of_service(&tick).or(line_fault);
         let is_lost = loses_first(loss, &line.calls.made);
@@ -124,8 +124,8 @@ impl<'s> ServiceWorker<'s> {
     fn skip(&mut self) -> Result<(), PlayFault>
         ensures { OnOk result (Skips self.old self.new) }
     {
-        self.router.restart();
-        skip_first(&mut self.outbox)?;
+        self.relay.restart();
+        skip_first(&mut self.relay)?;
         Ok(())
     }
 }

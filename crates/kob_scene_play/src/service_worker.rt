@@ -10,16 +10,16 @@ ghost use Rattle.kob_scene_play.specs.Services.{IsTickOfService, is_repeat};
 
 use crate::fault::{PlayFault, has_loss};
 use crate::poll::Poll;
-use kob_lines::Loss;
+use kob_lines::{Loss, Relay};
 use kob_names::{Host, Principal};
-use kob_outbox::{Change, Outbox, OutboxEvent, OutboxFault, RecordFault, Row};
-use kob_router::{Router, Target, Tick};
+use kob_outbox::{Change, OutboxEvent, OutboxFault, RecordFault, Row};
+use kob_router::{Target, Tick};
 use kob_scene_text::Sending;
 use kob_shared::Recorded;
 use std::alloc::Global;
 use std::marker::Model;
 
-/// A service: its number in the journal, who it is, how it sends, its router and its outbox, the
+/// A service: its number in the journal, who it is, how it sends, its router with its outbox, the
 /// events of its scene that it recorded, those of which it wrote the business row alone, and the
 /// numbers of its hidden rows.
 #[derive(Drop)]
@@ -28,8 +28,7 @@ pub struct ServiceWorker<'s> {
     pub(crate) principal: Principal,
     pub(crate) host: Host,
     pub(crate) sending: Sending,
-    pub(crate) router: Router,
-    pub(crate) outbox: Outbox,
+    pub(crate) relay: Relay,
     recorded: Vec<&'s OutboxEvent>,
     pub(crate) unwritten: Vec<&'s OutboxEvent>,
     pub(crate) hidden: Vec<u64>,
@@ -37,9 +36,8 @@ pub struct ServiceWorker<'s> {
 
 impl<'s> Model for ServiceWorker<'s> {
     ghost use Rattle.std.specs.Coded.{codes};
-    ghost use Rattle.std.specs.Prelude.{map, option_map};
+    ghost use Rattle.std.specs.Prelude.{map};
     ghost use Rattle.kob_outbox.specs.Contents.{contents_code};
-    ghost use Rattle.kob_router.specs.Tick.{IsFirst, hand_of};
     ghost use Rattle.kob_scene_play.specs.Services.{Service};
 
     ghost Value = { Service };
@@ -51,14 +49,12 @@ impl<'s> Model for ServiceWorker<'s> {
       principal = w.principal;
       host = w.host;
       sending = w.sending;
-      sender = w.router;
-      outbox = w.outbox;
+      sender = w.relay.router;
+      outbox = w.relay.outbox;
       recorded = map (λ event. event.now) w.recorded.items;
       unwritten = map (λ event. event.now) w.unwritten.items;
       hidden = w.hidden.items;
     } };
-
-    ghost invariant = { λ w. IsFirst (option_map hand_of w.router.hand) w.outbox };
 }
 
 impl<'s> ServiceWorker<'s> {
@@ -85,15 +81,13 @@ impl<'s> ServiceWorker<'s> {
           hidden = [];
         }) }
     {
-        let Target { route, partitions } = target;
-        let outbox = Outbox::open_in_memory(alloc)?;
+        let relay = Relay::open(alloc, target)?;
         Ok(ServiceWorker {
             worker,
             principal,
             host,
             sending,
-            router: Router::new(alloc, route, partitions),
-            outbox,
+            relay,
             recorded: Vec::new(alloc),
             unwritten: Vec::new(alloc),
             hidden: Vec::new(alloc),
@@ -127,7 +121,7 @@ impl<'s> ServiceWorker<'s> {
         if let Err(refused) = self.recorded.reserve(1) {
             return Err(RecordFault::Memory(refused));
         }
-        match self.outbox.record(change, event) {
+        match self.relay.record(change, event) {
             Ok(seq) => {
                 self.recorded.push_reserved(event);
                 Ok(seq)
@@ -208,7 +202,7 @@ impl<'s> ServiceWorker<'s> {
     pub fn restart(&mut self)
         ensures { Does Restarted self.old self.new }
     {
-        self.router.restart();
+        self.relay.restart();
     }
 
     /// Removes the rows up to the mark, and returns how many they were.
@@ -218,7 +212,7 @@ impl<'s> ServiceWorker<'s> {
         ensures ok { OnOk result (Does Swept self.old self.new) }
         ensures err { OnErr result (self.new ≡ self.old) }
     {
-        self.outbox.sweep()
+        self.relay.sweep()
     }
 
     /// The mark of its outbox.
@@ -226,7 +220,7 @@ impl<'s> ServiceWorker<'s> {
         ensures value { IfOk result (λ mark. mark ≡ self.old.outbox.mark) }
         ensures same { self.new ≡ self.old }
     {
-        self.outbox.mark()
+        self.relay.mark()
     }
 
     /// The first rows after this number that were not swept, at most this many.
@@ -235,7 +229,7 @@ impl<'s> ServiceWorker<'s> {
             ≡ first_after seq limit self.old.outbox.events) }
         ensures same { self.new ≡ self.old }
     {
-        self.outbox.after(seq, limit)
+        self.relay.after(seq, limit)
     }
 
     /// The state of its business row with this kind and id, if there is one.
@@ -244,7 +238,7 @@ impl<'s> ServiceWorker<'s> {
             ≡ state_at kind.now id.now self.old.outbox.business) }
         ensures same { self.new ≡ self.old }
     {
-        self.outbox.business(kind, id)
+        self.relay.business(kind, id)
     }
 }
 

@@ -28,7 +28,7 @@ impl<'s> ServiceWorker<'s> {
             return Err(RecordFault::Memory(refused));
         }
         let is_new = has_new_id(&self.unwritten, event);
-        match self.outbox.set_business(change) {
+        match self.relay.set_business(change) {
             Ok(()) if is_new => {
                 self.unwritten.push_reserved(event);
                 Ok(())
@@ -75,9 +75,7 @@ impl<'s> ServiceWorker<'s> {
         ensures same { self.new ≡ self.old }
     {
         match self.sending {
-            Sending::VisibleLate => {
-                poll_by(&mut self.outbox, self.router.in_flight(), &self.hidden)
-            }
+            Sending::VisibleLate => poll_by(&mut self.relay, &self.hidden),
             _ => Ok(Poll::Own),
         }
     }
@@ -87,6 +85,6 @@ impl<'s> ServiceWorker<'s> {
         requires { self.old.sender.hand ≡ None }
         ensures { OnOk result (self.new ≡ passed_to seq self.old) }
     {
-        move_mark(&mut self.outbox, seq)
+        move_mark(&mut self.relay, seq)
     }
 }

@@ -15,7 +15,7 @@ use crate::orders::{Delivered, Worked, broker, order_event, print, script};
 use kob_embedding::{ConsumerEnd, RunningConsumer, RunningService, ServiceEnd, SharedService};
 use kob_embedding::{judged_in_turn, rotating_session_of};
 use kob_inbox::{Inbox, Subscription};
-use kob_lines::{IntoCalls, Loss, Lossy, ProgramFault, SessionLine};
+use kob_lines::{AsWorker, IntoCalls, Loss, Lossy, ProgramFault, SessionLine};
 use kob_names::PlainValue;
 use kob_outbox::Outbox;
 use kob_rights::Event;
@@ -104,7 +104,7 @@ fn serve<R: Threads + Wait + Sync>(
 
 /// The orders are placed, and then paid. Between the two the service changes its line and restarts
 /// its router.
-fn serve_over<R: Threads + Wait + Sync, L: IntoCalls + Send + Drop>(
+fn serve_over<R: Threads + Wait + Sync, L: IntoCalls + AsWorker + Send + Drop>(
     rt: &R,
     alloc: Global,
     shared: &RotatingBroker,
@@ -122,7 +122,7 @@ fn serve_over<R: Threads + Wait + Sync, L: IntoCalls + Send + Drop>(
     service.restart(rt);
     let paid = record_and_send(rt, alloc, shared, handed, &service, [2, 4], "paid");
     let (service, earlier) = service.finish();
-    let end = service.close_after(1, earlier);
+    let end = service.finish_after(earlier);
     placed.and(changed).and(paid)?;
     Ok(end?)
 }
@@ -226,7 +226,7 @@ fn consume<R: Wait>(rt: &R, alloc: Global, shared: &RotatingBroker) -> Worked<Co
     let session = rotating_session_of(alloc, shared, 2, "User:mail", "10.0.0.2")?;
     let mut consumer = consumer(alloc, SessionLine::open(rt, alloc, session))?;
     let taken = consumer.take_rows(alloc, EVENTS, u32::MAX);
-    consumer.end(2, taken)
+    consumer.finish_with(taken)
 }
 
 /// A consumer with an empty inbox, which takes in the events of all orders.

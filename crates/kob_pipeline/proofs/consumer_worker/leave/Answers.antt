@@ -1,5 +1,5 @@
 use Rattle.kob_pipeline.proofs.Words.{IfOk-weaker, InboxEnd, IsInboxLeft, enumerate_from, map, placed_intake, ◌≡◌}
-use Rattle.kob_inbox.specs.Tick.{state_of}
+use Rattle.kob_lines.specs.Received.{received_state}
 use Rattle.kob_pipeline.proofs.consumer_worker.leave.Goals as goal
 
 pub returns : goal.returns
@@ -10,7 +10,7 @@ returns g c =
     let before = c.args.line.now.desk in
     let now = c.run.new.line.desk in
     let leads = rw (c.deref.ensures.value, opened.subscription, opened.state) at c.in_ok-run.ensures in
-    IfOk-weaker c.close.result (λ (left : InboxEnd). map placed_intake left.rows.items ≡ enumerate_from 1 at_last.inbox)
+    IfOk-weaker c.close.result (λ (left : InboxEnd). map placed_intake left.rows.items ≡ enumerate_from 1 at_last.receiver.inbox)
     (IsInboxLeft consumer before now)
-    (λ left rows. record { state = state_of at_last.consumer at_last.inbox; leads = leads; rows = rows })
+    (λ left rows. record { state = received_state at_last.receiver; leads = leads; rows = rows })
     c.close.ensures

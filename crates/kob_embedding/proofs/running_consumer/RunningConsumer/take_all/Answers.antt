@@ -1,4 +1,4 @@
-use Rattle.kob_embedding.proofs.Words.{Subscription, ap, length, rules, subst, ◌∙◌, ◌≡◌}
+use Rattle.kob_embedding.proofs.Words.{Fetcher, Subscription, ap, length, rules, subst, ◌∙◌, ◌≡◌}
 use Rattle.std.proofs.Common.{inr}
 use Rattle.kob_embedding.specs.Running.{Reader}
 use Rattle.kob_embedding.proofs.Idling.{no_round, none_idle, one_more_idle, round_is}
@@ -13,8 +13,9 @@ returns-then-idle-round-clause-idle g c =
     let now = c.step.new.self in
     let before = point_of was.fetcher was.inbox (g.L.Line.calls was.line) (g.L.Line.unmade was.line) in
     let point = point_of now.fetcher now.inbox (g.L.Line.calls now.line) (g.L.Line.unmade now.line) in
-    let same : c.subscription.result.now ≡ t =
-    c.subscription.ensures ∙ ap (λ (r : Reader g.row.L.Denot). r.fetcher.subscription) c.self.view_is in
+    let same : c.subscription-subscription.result.now ≡ t =
+    c.subscription-subscription.ensures ∙ ap (λ (f : Fetcher). f.subscription) c.consumer.ensures
+    ∙ ap (λ (r : Reader g.row.L.Denot). r.fetcher.subscription) c.self.view_is in
     let partitions : c.len.result ≡ length t.assignment =
     c.len.ensures ∙ ap (λ (u : Subscription). length u.assignment) same in
     elim c.if-is_idle.branch [

@@ -7,4 +7,4 @@ pub returns-in-Restart-clause-done : goal.returns-in-Restart-clause-done
 returns-in-Restart-clause-done g c =
     rw c.in-Restart.is
     (leads_still (Restarted ∷ [])
-    (record { run = (tt, c.restart.ensures.done c.args.self.now.inbox); own = (refl, refl) }))
+    (record { run = (tt, c.restart.ensures.done); own = (refl, refl) }))

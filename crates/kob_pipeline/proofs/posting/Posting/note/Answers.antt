@@ -1,16 +1,9 @@
-use Rattle.kob_pipeline.proofs.Words.{first_recorded, Err, Recorded, [], ap, inl, option_map, refl, subst, sym, ◌∷◌}
-use Rattle.kob_router.specs.Tick.{IsFirst, hand_of, state_of}
+use Rattle.kob_pipeline.proofs.Words.{Err, Recorded, [], ap, inl, refl, ◌∷◌}
+use Rattle.kob_lines.specs.Relayed.{relayed_state}
 use Rattle.kob_outbox.specs.Contents.{first_bad}
 use Rattle.kob_pipeline.proofs.PlanRows.{fits_unless}
 use Rattle.kob_pipeline.proofs.Worked.{leads_still, not_recorded}
 use Rattle.kob_pipeline.proofs.posting.Posting.note.Goals as goal
-
-pub returns-in-Ok-clause-first : goal.returns-in-Ok-clause-first
-returns-in-Ok-clause-first c =
-    let was = c.args.self.now in
-    let hand = option_map hand_of was.router.hand in
-    subst (IsFirst hand) (sym c.in-Ok.ensures.ok)
-    (first_recorded hand was.outbox c.args.change.now c.args.event.now c.requires)
 
 pub returns-in-Ok-clause-done : goal.returns-in-Ok-clause-done
 returns-in-Ok-clause-done c = λ desk.
@@ -19,7 +12,7 @@ returns-in-Ok-clause-done c = λ desk.
     (record {
       run = (
         record { fits = made.good; fresh = made.fresh; room = made.room },
-        ap (state_of c.args.self.now.router) made.ok,
+        ap relayed_state made.ok,
       );
       own = (inl refl, refl);
     })
@@ -27,7 +20,7 @@ returns-in-Ok-clause-done c = λ desk.
 pub returns-in-Err-BadField-clause-done : goal.returns-in-Err-BadField-clause-done
 returns-in-Err-BadField-clause-done c = λ desk.
     let was = c.in-Err-BadField.ensures in
-    not_recorded desk (ap (state_of c.args.self.now.router) was.err) (λ may.
+    not_recorded desk (ap relayed_state was.err) (λ may.
     let bad = (was.bad c.in-Err-BadField.field-0-0).0 (ap Err c.in-Err-BadField.field-0-is) in
     let good = may.fits in absurd (cc))
 
@@ -45,5 +38,5 @@ returns-in-Err-Store-clause-fresh c = λ stored. (c.in-Err-Store.ensures.store (
 pub returns-in-Err-DuplicateId-clause-done : goal.returns-in-Err-DuplicateId-clause-done
 returns-in-Err-DuplicateId-clause-done c = λ desk.
     let was = c.in-Err-DuplicateId.ensures in
-    not_recorded desk (ap (state_of c.args.self.now.router) was.err) (λ may.
+    not_recorded desk (ap relayed_state was.err) (λ may.
     let spent = (was.duplicate (ap Err c.in-Err-DuplicateId.field-0-is)).1 in let fresh = may.fresh in absurd (cc))

@@ -8,11 +8,10 @@ loop-step-preserved g c =
     let made = c.in_ok-step.ensures in
     let within : was.step-index < length c.args.steps.now = omega arith in (
       made.made,
-      made.first,
-      made.same ∙ was.invariant.2,
-      leads_more c.args.steps.now was.step-index within c.step-item.is was.invariant.3
-          (rw was.invariant.2 at made.done),
+      made.same ∙ was.invariant.1,
+      leads_more c.args.steps.now was.step-index within c.step-item.is was.invariant.2
+          (rw was.invariant.1 at made.done),
     )
 
 pub loop-step-init : goal.loop-step-init
-loop-step-init g c = (c.requires.made, c.requires.first, refl, no_step c.args.line.now.desk)
+loop-step-init g c = (c.requires, refl, no_step c.args.line.now.desk)

@@ -11,6 +11,6 @@ returns g c =
     let now = c.run.new.line.desk in
     let leads = rw (c.deref.ensures.value, opened.target, opened.state) at c.in_ok-run.ensures in
     subst (λ (s : Service). IfOk c.close.result (IsOutboxLeft s before now)) c.self.view_is
-    (if_ok_two (λ (left : OutboxEnd). map stored_row left.rows.items ≡ later_than 0 at_last.outbox.events)
-    (λ (left : OutboxEnd). left.mark ≡ at_last.outbox.mark) (IsOutboxLeft service before now) c.close.result
+    (if_ok_two (λ (left : OutboxEnd). map stored_row left.rows.items ≡ later_than 0 at_last.relay.outbox.events)
+    (λ (left : OutboxEnd). left.mark ≡ at_last.relay.outbox.mark) (IsOutboxLeft service before now) c.close.result
     (λ left rows mark. outbox_left service leads rows mark) c.close.ensures.rows c.close.ensures.mark)

@@ -1,6 +1,5 @@
-use Rattle.kob_scene_play.proofs.Words.{Consumer, IfOk, IsSameConsumer, ap, refl, subst, sym, ◌∙◌, ◌≡◌}
-use Rattle.kob_inbox.specs.Contents.{Contents}
-use Rattle.kob_inbox.specs.declared.fetcher.Fetcher.{Fetcher}
+use Rattle.kob_scene_play.proofs.Words.{Consumer, IfOk, ap, refl, subst, sym, ◌∙◌, ◌≡◌}
+use Rattle.kob_lines.specs.Received.{Received}
 use Rattle.kob_scene_play.proofs.Ticking.{handled_ahead, taken_ahead}
 use Rattle.kob_scene_play.specs.Steps.{IsAheadTick}
 use Rattle.kob_scene_play.specs.Takings.{asked_event, inbox_by}
@@ -10,21 +9,21 @@ use Rattle.kob_scene_play.proofs.consumer_worker.ConsumerWorker.go_ahead.Goals a
 pub returns-in_default : goal.returns-in_default
 returns-in_default c =
     let was = c.self.inside in
-    let with : Fetcher → Contents → Holding → Consumer =
-    λ fetcher own holding. record {
+    let with : Received → Holding → Consumer =
+    λ receiver holding. record {
       worker = was.worker;
       principal = was.principal;
       host = was.host;
       start = was.start;
       taking = was.taking;
-      fetcher = fetcher;
-      own = own;
+      fetcher = receiver.fetcher;
+      own = receiver.inbox;
       holding = holding;
-      inbox = inbox_by was.taking own was.every;
+      inbox = inbox_by was.taking receiver.inbox was.every;
     } in
-    let old = with was.consumer was.inbox was.holding in
+    let old = with was.receiver was.holding in
     let made = c.take_held in
-    let new = with made.new.consumer made.new.inbox made.new.holding in
+    let new = with made.new.receiver made.new.holding in
     let is = c.self.view_is in
     let early = ap (λ (w : Consumer). w.taking) is ∙ c.requires in
     let found = subst (λ (w : Consumer). c.in_ok-event.field-0 ≡ asked_event w.principal w.host w.fetcher w.holding) (sym is)
@@ -32,26 +31,26 @@ returns-in_default c =
     subst (λ (from : Consumer). IfOk made.result (IsAheadTick c.args.loss from new c.args.recorded.now c.args.recorded.now)) is
     (taken_ahead made.result c.args.loss old new c.args.recorded.now c.args.recorded.now c.in_ok-event.field-0
     (record { worker = refl; principal = refl; host = refl; start = refl; taking = refl; subscription = made.ensures.same })
-    (ap (λ taking. inbox_by taking made.new.inbox was.every) early) found c.in_default.is refl made.ensures.done)
+    (ap (λ taking. inbox_by taking made.new.receiver.inbox was.every) early) found c.in_default.is refl made.ensures.done)
 
 pub returns-in-Ok : goal.returns-in-Ok
 returns-in-Ok c =
     let was = c.self.inside in
-    let with : Fetcher → Contents → Holding → Consumer =
-    λ fetcher own holding. record {
+    let with : Received → Holding → Consumer =
+    λ receiver holding. record {
       worker = was.worker;
       principal = was.principal;
       host = was.host;
       start = was.start;
       taking = was.taking;
-      fetcher = fetcher;
-      own = own;
+      fetcher = receiver.fetcher;
+      own = receiver.inbox;
       holding = holding;
-      inbox = inbox_by was.taking own was.every;
+      inbox = inbox_by was.taking receiver.inbox was.every;
     } in
-    let old = with was.consumer was.inbox was.holding in
+    let old = with was.receiver was.holding in
     let made = c.handle_reply in
-    let new = with made.new.consumer made.new.inbox made.new.holding in
+    let new = with made.new.receiver made.new.holding in
     let is = c.self.view_is in
     let early = ap (λ (w : Consumer). w.taking) is ∙ c.requires in
     let found = subst (λ (w : Consumer). c.in_ok-event.field-0 ≡ asked_event w.principal w.host w.fetcher w.holding) (sym is)
@@ -60,4 +59,4 @@ returns-in-Ok c =
     (handled_ahead made.result c.args.loss old new c.args.recorded.now c.ask.new.recorded c.in_ok-event.field-0
     c.in-Some.event c.in-Ok.heard
     (record { worker = refl; principal = refl; host = refl; start = refl; taking = refl; subscription = made.ensures.same })
-    (ap (λ taking. inbox_by taking made.new.inbox was.every) early) found c.in-Some.is c.in-Ok.ensures.asked made.ensures.done)
+    (ap (λ taking. inbox_by taking made.new.receiver.inbox was.every) early) found c.in-Some.is c.in-Ok.ensures.asked made.ensures.done)

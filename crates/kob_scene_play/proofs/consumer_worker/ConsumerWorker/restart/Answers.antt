@@ -1,4 +1,4 @@
-use Rattle.kob_scene_play.proofs.Words.{Consumer, refl, subst}
+use Rattle.kob_scene_play.proofs.Words.{Consumer, ap, refl, subst}
 use Rattle.kob_scene_play.specs.Steps.{Restarts}
 use Rattle.kob_scene_play.specs.Takings.{inbox_by}
 use Rattle.kob_scene_play.specs.declared.holding.Holding.TheVariants.{Nothing}
@@ -14,10 +14,10 @@ returns c =
       host = was.host;
       start = was.start;
       taking = was.taking;
-      fetcher = c.restart.new.self;
-      own = was.inbox;
+      fetcher = c.restart.new.self.fetcher;
+      own = c.restart.new.self.inbox;
       holding = Nothing;
-      inbox = inbox_by was.taking was.inbox was.every;
+      inbox = inbox_by was.taking c.restart.new.self.inbox was.every;
     } in
     let made = c.restart.ensures in
     subst (λ (old : Consumer). Restarts old new) c.self.view_is (record {
@@ -29,7 +29,7 @@ returns c =
         taking = refl;
         subscription = made.same;
       };
-      forgets = made.done was.inbox;
+      forgets = made.done;
       holding = refl;
-      inbox = refl;
+      inbox = ap (λ own. inbox_by was.taking own was.every) made.inbox;
     })

@@ -1,4 +1,4 @@
-use Rattle.kob_scene_play.proofs.Words.{Call, Consumer, LosesFirst, List, Record, Tick, ap, refl, rules, subst, sym, ◌∙◌, ◌≡◌}
+use Rattle.kob_scene_play.proofs.Words.{Call, Consumer, LosesFirst, List, Record, Tick, ap, refl, rules, subst, sym, ◌≡◌}
 use Rattle.kob_scene_play.proofs.Ticking.{consumer_ticked, journaled_below}
 use Rattle.kob_scene_play.specs.Steps.{IsCalled}
 use Rattle.kob_scene_play.specs.Takings.{inbox_by}
@@ -18,10 +18,10 @@ returns-clause-called c =
       host = was.host;
       start = was.start;
       taking = was.taking;
-      fetcher = was.consumer;
-      own = was.inbox;
+      fetcher = was.receiver.fetcher;
+      own = was.receiver.inbox;
       holding = was.holding;
-      inbox = inbox_by was.taking was.inbox was.every;
+      inbox = inbox_by was.taking was.receiver.inbox was.every;
     } in
     let new : Consumer =
     record {
@@ -30,10 +30,10 @@ returns-clause-called c =
       host = was.host;
       start = was.start;
       taking = was.taking;
-      fetcher = ticked.new.consumer;
-      own = ticked.new.inbox;
+      fetcher = ticked.new.receiver.fetcher;
+      own = ticked.new.receiver.inbox;
       holding = was.holding;
-      inbox = inbox_by was.taking ticked.new.inbox was.every;
+      inbox = inbox_by was.taking ticked.new.receiver.inbox was.every;
     } in
     let calls = ticked.new.line.calls.made.items in
     let after = ticked.new.line.server.line.server.recorded.now in

@@ -11,8 +11,8 @@ returns c =
       principal = was.principal;
       host = was.host;
       sending = was.sending;
-      sender = c.restart.new.self;
-      outbox = was.outbox;
+      sender = c.restart.new.self.router;
+      outbox = c.restart.new.self.outbox;
       recorded = map (λ event. event.now) was.recorded.items;
       unwritten = map (λ event. event.now) was.unwritten.items;
       hidden = was.hidden.items;
@@ -24,11 +24,11 @@ returns c =
         principal = refl;
         host = refl;
         sending = refl;
-        target = made.same;
+        target = made.target;
         unwritten = refl;
         hidden = refl;
       };
       recorded = refl;
       may = tt;
-      done = made.done was.outbox;
+      done = made.done;
     })
