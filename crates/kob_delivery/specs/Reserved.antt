@@ -80,16 +80,34 @@ after_reply resource name (Done body) request bindings =
 after_reply resource name (Denied code verdicts) request bindings = bindings
 after_reply resource name (Refused code reason) request bindings = bindings
 
--- done, it creates no binding on the name that allows others; and where a name without bindings is
--- everyone's, it deletes none
-abbrev pub LeavesReserved : List ℕ → Operation → ResourceKind → List ℕ → Bool → Request → Reply
-    → Type 0
-LeavesReserved principal operation resource name everyone (CreateAcls asked) (Done body) =
+-- the request creates no binding on the name that allows others; and where a name without bindings
+-- is everyone's, it deletes none
+abbrev pub OpensNothing : List ℕ → Operation → ResourceKind → List ℕ → Bool → Request → Type 0
+OpensNothing principal operation resource name everyone (CreateAcls asked) =
     AllByRecursion (λ draft. (is_on resource name draft && allows_others principal operation draft)
     ≡ false) asked.drafts
-LeavesReserved principal operation resource name everyone (DeleteAcls asked) (Done body) =
-    everyone ≡ false
-LeavesReserved principal operation resource name everyone _ _ = Unit {0}
+OpensNothing principal operation resource name everyone (DeleteAcls asked) = everyone ≡ false
+OpensNothing principal operation resource name everyone (Produce asked) = Unit {0}
+OpensNothing principal operation resource name everyone (Fetch asked) = Unit {0}
+OpensNothing principal operation resource name everyone (ListOffsets asked) = Unit {0}
+OpensNothing principal operation resource name everyone (Metadata asked) = Unit {0}
+OpensNothing principal operation resource name everyone (OffsetCommit asked) = Unit {0}
+OpensNothing principal operation resource name everyone (OffsetFetch asked) = Unit {0}
+OpensNothing principal operation resource name everyone ListGroups = Unit {0}
+OpensNothing principal operation resource name everyone (DeleteGroups asked) = Unit {0}
+OpensNothing principal operation resource name everyone (CreateTopics asked) = Unit {0}
+OpensNothing principal operation resource name everyone (DeleteTopics asked) = Unit {0}
+OpensNothing principal operation resource name everyone (DeleteRecords asked) = Unit {0}
+OpensNothing principal operation resource name everyone InitProducerId = Unit {0}
+OpensNothing principal operation resource name everyone (DescribeAcls asked) = Unit {0}
+
+-- so it is if it was done
+abbrev pub LeavesReserved : List ℕ → Operation → ResourceKind → List ℕ → Bool → Request → Reply
+    → Type 0
+LeavesReserved principal operation resource name everyone request (Done body) =
+    OpensNothing principal operation resource name everyone request
+LeavesReserved principal operation resource name everyone request (Denied code verdicts) = Unit {0}
+LeavesReserved principal operation resource name everyone request (Refused code reason) = Unit {0}
 
 -- What breaks a premise.
 

@@ -6,7 +6,6 @@ ghost use Rattle.kob_authorizer.specs.Creation.{is_among};
 ghost use Rattle.kob_delivery.specs.Reserved.{after_reply, allows_others, is_on};
 ghost use Rattle.kob_delivery.specs.Reserved.{is_open_to_others, with_created, without_deleted};
 
-use crate::draft_filter::takes;
 use kob_names::{
     Binding, BindingFilter, Draft, Operation, Permission, PlainValue, Principal, ResourceKind, Text,
 };
@@ -102,7 +101,7 @@ fn is_among(bindings: &[Draft], draft: &Draft) -> bool
 fn delete_taken(bindings: &mut Vec<Draft>, filter: &BindingFilter)
     ensures { bindings.new.items ≡ without_deleted filter.now bindings.old.items }
 {
-    bindings.retain(|binding| !takes(filter, binding));
+    bindings.retain(|binding| !filter.takes_draft(binding));
 }
 
 /// Whether the binding is on the kind of resource, and its pattern matches the name.

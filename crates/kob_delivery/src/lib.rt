@@ -7,7 +7,6 @@ mod access_rules;
 mod actors;
 mod bindings_on;
 mod delivery_laws;
-mod draft_filter;
 mod history_laws;
 mod open_places;
 mod premises;

@@ -7,11 +7,10 @@ ghost use Rattle.kob_rights.specs.Requests.{Fits};
 ghost use Rattle.kob_shared.specs.Journals.{event_by};
 
 use crate::connection::{Connection, Serve};
-use crate::event::event_of;
 use kob_broker::Broker;
 use kob_names::{Host, Principal};
 use kob_rights::{Reply, Request};
-use kob_shared::CallFault;
+use kob_shared::{CallFault, event_of};
 use std::alloc::{AllocError, Global};
 
 /// A borrowed broker, which serves the requests of one principal at a host.

@@ -7,7 +7,6 @@ mod broker_line;
 mod calls;
 mod connection;
 mod consumer_course;
-mod event;
 mod into_calls;
 mod lossy;
 mod program_fault;

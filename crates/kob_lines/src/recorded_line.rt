@@ -5,10 +5,9 @@ ghost use Rattle.kob_rights.specs.Requests.{Fits, OffsetsWithin};
 ghost use Rattle.kob_shared.specs.Journals.{after_event, outcome_of, IsStaleOnlyBelow, event_by};
 
 use crate::connection::{Connection, Serve};
-use crate::event::event_of;
 use kob_names::{Host, Principal};
 use kob_rights::{Reply, Request};
-use kob_shared::{CallFault, Recorded};
+use kob_shared::{CallFault, Recorded, event_of};
 use std::alloc::Global;
 
 /// A borrowed broker with its journal, which serves the requests of one worker.

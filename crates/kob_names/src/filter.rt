@@ -4,6 +4,7 @@ ghost use Rattle.std.specs.Prelude.{◌≡◌, IfOk};
 ghost use Rattle.kob_names.specs.Filter.{takes, takes_part, takes_pattern};
 
 use crate::binding::Binding;
+use crate::draft::Draft;
 use crate::host::Host;
 use crate::kinds::{Operation, PatternKind, Permission, ResourceKind};
 use crate::pattern::Pattern;
@@ -38,13 +39,19 @@ impl BindingFilter {
     pub fn takes(&self, binding: &Binding) -> bool
         ensures { result ≡ takes self.now binding.now }
     {
-        let binding = binding.parts();
-        takes_part(&self.resource, &binding.resource)
-            && self.takes_pattern(&binding.pattern)
-            && takes_part(&self.principal, &binding.principal)
-            && takes_part(&self.host, &binding.host)
-            && takes_part(&self.operation, &binding.operation)
-            && takes_part(&self.permission, &binding.permission)
+        self.takes_draft(binding.parts())
+    }
+
+    /// Whether every part selects the binding of these parts.
+    pub fn takes_draft(&self, draft: &Draft) -> bool
+        ensures { result ≡ takes self.now draft.now }
+    {
+        takes_part(&self.resource, &draft.resource)
+            && self.takes_pattern(&draft.pattern)
+            && takes_part(&self.principal, &draft.principal)
+            && takes_part(&self.host, &draft.host)
+            && takes_part(&self.operation, &draft.operation)
+            && takes_part(&self.permission, &draft.permission)
     }
 
     fn takes_pattern(&self, pattern: &Pattern) -> bool

@@ -3,49 +3,12 @@
 ghost use Rattle.std.specs.Prelude.{◌≡◌, IfOk, IfSome};
 ghost use Rattle.kob_rights.specs.Requests.{Fits, OffsetsWithin};
 ghost use Rattle.kob_scene_play.specs.Asked.{IsAsked, committed_by};
-ghost use Rattle.kob_shared.specs.Journals.{event_by};
 
 use kob_inbox::{StopReason, Tick};
 use kob_lines::Loss;
-use kob_names::{Host, PlainValue, Principal};
-use kob_rights::{Event, Reply, Request};
+use kob_rights::{Event, Reply};
 use kob_shared::{CallFault, Recorded};
-use std::alloc::{AllocError, Global};
-
-/// The event of a principal at a host that asks this. The error is out of memory.
-pub(crate) fn event_of(
-    alloc: Global,
-    principal: &Principal,
-    host: &Host,
-    request: Request,
-) -> Result<Event, AllocError>
-    ensures { IfOk result (λ event. event ≡ event_by principal.now host.now request) }
-{
-    match asker_of(alloc, principal, host) {
-        Ok((principal, host)) => Ok(Event {
-            principal,
-            host,
-            request,
-        }),
-        Err(refused) => {
-            drop(request);
-            Err(refused)
-        }
-    }
-}
-
-/// Copies of the principal and the host.
-fn asker_of(
-    alloc: Global,
-    principal: &Principal,
-    host: &Host,
-) -> Result<(Principal, Host), AllocError>
-    ensures { IfOk result (λ asker. (asker.0 ≡ principal.now) × (asker.1 ≡ host.now)) }
-{
-    let principal = principal.copy(alloc)?;
-    let host = host.copy(alloc)?;
-    Ok((principal, host))
-}
+use std::alloc::Global;
 
 /// Serves an event as a worker's, unless it is lost before, and returns the reply, unless it is
 /// lost.

@@ -6,7 +6,7 @@ ghost use Rattle.kob_scene_play.specs.Steps.{IsAheadTick, IsCalled, IsOwnTick, I
 ghost use Rattle.kob_scene_play.specs.Takings.{asked_event, inbox_by, inbox_with};
 ghost use Rattle.kob_scene_text.specs.declared.scene.Taking.TheVariants.{CommitsBefore};
 
-use crate::ask::{ask, event_of};
+use crate::ask::ask;
 use crate::commits_before::{handle_reply, take_held};
 use crate::consumer_worker::ConsumerWorker;
 use crate::fault::{PlayFault, line_fault, loses_first, unless};
@@ -18,7 +18,7 @@ use kob_names::PlainValue;
 use kob_rights::Event;
 use kob_router::Call;
 use kob_scene_text::Taking;
-use kob_shared::Recorded;
+use kob_shared::{Recorded, event_of};
 use std::alloc::{AllocError, Global};
 
 impl ConsumerWorker {

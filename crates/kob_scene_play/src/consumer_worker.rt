@@ -9,7 +9,7 @@ ghost use Rattle.kob_scene_play.specs.Steps.{IsConsumerTick, IsTickOfConsumer, R
 ghost use Rattle.kob_scene_play.specs.Steps.{consumer_state, is_repeat_of_consumer};
 ghost use Rattle.kob_scene_play.specs.declared.holding.Holding.TheVariants.{Nothing};
 
-use crate::ask::{ask, committed_by, event_of};
+use crate::ask::{ask, committed_by};
 use crate::every::Every;
 use crate::fault::{PlayFault, has_loss};
 use crate::holding::Holding;
@@ -19,7 +19,7 @@ use kob_lines::{Loss, Receiver};
 use kob_names::{Host, Principal};
 use kob_rights::{Event, Request};
 use kob_scene_text::{Start, Taking};
-use kob_shared::{Journal, Recorded};
+use kob_shared::{Journal, Recorded, event_of};
 use std::alloc::{AllocError, Global};
 use std::marker::Model;
 

@@ -7,10 +7,11 @@ ghost use Rattle.kob_shared.specs.Journals.{IsSound, entry_limit, place_limit};
 ghost use Rattle.kob_shared.specs.Journals.{event_by, new_seat, IsServed, IsStaleOnlyBelow};
 
 use crate::continued::Continued;
+use crate::event::event_of;
 use crate::faults::{CallFault, RotateFault};
 use crate::journal::{PastJournal, Receipt};
 use crate::recorded::Recorded;
-use kob_names::{Host, PlainValue, Principal};
+use kob_names::{Host, Principal};
 use kob_rights::{Event, Request};
 use std::alloc::{AllocError, Global};
 use std::marker::Model;
@@ -275,25 +276,6 @@ impl<'a> Session<'a> {
         ensures { IfOk result
             (λ event. event ≡ event_by self.now.principal self.now.host request) }
     {
-        match self.asker(alloc) {
-            Ok((principal, host)) => Ok(Event {
-                principal,
-                host,
-                request,
-            }),
-            Err(refused) => {
-                drop(request);
-                Err(refused)
-            }
-        }
-    }
-
-    /// Copies of the principal and the host that ask.
-    fn asker(&self, alloc: Global) -> Result<(Principal, Host), AllocError>
-        ensures { IfOk result (λ asker. (asker.0 ≡ self.now.principal) × (asker.1 ≡ self.now.host)) }
-    {
-        let principal = self.principal.copy(alloc)?;
-        let host = self.host.copy(alloc)?;
-        Ok((principal, host))
+        event_of(alloc, &self.principal, &self.host, request)
     }
 }

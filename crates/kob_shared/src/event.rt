@@ -1,4 +1,4 @@
-//! The event that a line makes of a request.
+//! The event that a worker makes of a request.
 
 ghost use Rattle.std.specs.Prelude.{◌≡◌, IfOk};
 ghost use Rattle.kob_shared.specs.Journals.{event_by};
@@ -8,7 +8,7 @@ use kob_rights::{Event, Request};
 use std::alloc::{AllocError, Global};
 
 /// The event that the principal at the host makes with the request. The error is out of memory.
-pub(crate) fn event_of(
+pub fn event_of(
     alloc: Global,
     principal: &Principal,
     host: &Host,
