@@ -3,6 +3,7 @@ pub mod Deleting
 pub mod Entries
 pub mod IndexSteps
 pub mod LeastHits
+pub mod Lists
 pub mod SuperUsers
 pub mod Verdicts
 mod Words

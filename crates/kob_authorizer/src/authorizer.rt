@@ -9,8 +9,9 @@ ghost use Rattle.kob_authorizer.specs.Index.{CanDelete, bindings_left, bindings_
 ghost use Rattle.kob_authorizer.specs.Index.{without_taken};
 ghost use Rattle.kob_authorizer.specs.Creation.{binding_limit, create_fault};
 
-use crate::creation::{PreparedCreate, put_last};
+use crate::creation::PreparedCreate;
 use crate::deletion::{PreparedDelete, copies_taken, remove_taken};
+use crate::entry_list::EntryList;
 use crate::fault::CreateFault;
 use crate::index::{Index, put_all, remove_keys};
 use crate::look_up::verdict;
@@ -30,7 +31,7 @@ use std::marker::Model;
 /// ACLs", and of KIP-290.
 #[derive(Drop)]
 pub struct Authorizer {
-    entries: Vec<(u64, Binding)>,
+    entries: EntryList,
     index: Index,
     supers: SuperUsers,
     everyone: bool,
@@ -38,7 +39,7 @@ pub struct Authorizer {
 }
 
 impl Model for Authorizer {
-    ghost use Rattle.std.specs.Prelude.{◌-◌, ◌≤◌, length, vec_len, vec_capacity};
+    ghost use Rattle.std.specs.Prelude.{◌≤◌, length};
     ghost use Rattle.kob_authorizer.specs.Decide.{IsRising, State};
     ghost use Rattle.kob_authorizer.specs.Index.{Indexes};
     ghost use Rattle.kob_authorizer.specs.Creation.{binding_limit};
@@ -47,17 +48,17 @@ impl Model for Authorizer {
 
     ghost view = { λ authorizer. record {
       contents = record {
-        entries = authorizer.entries.items;
+        entries = authorizer.entries.entries;
         supers = authorizer.supers;
         everyone = authorizer.everyone;
         next = authorizer.next;
       };
-      room = vec_capacity authorizer.entries - vec_len authorizer.entries;
+      room = authorizer.entries.room;
     } };
 
-    ghost invariant = { λ authorizer. (length authorizer.entries.items ≤ binding_limit)
-        × IsRising 1 authorizer.entries.items authorizer.next
-        × Indexes authorizer.index authorizer.entries.items };
+    ghost invariant = { λ authorizer. (length authorizer.entries.entries ≤ binding_limit)
+        × IsRising 1 authorizer.entries.entries authorizer.next
+        × Indexes authorizer.index authorizer.entries.entries };
 }
 
 impl Authorizer {
@@ -69,7 +70,7 @@ impl Authorizer {
         ensures { result.contents ≡ fresh_contents supers.items everyone }
     {
         Authorizer {
-            entries: Vec::new(alloc),
+            entries: EntryList::new(alloc),
             index: Index::new(),
             supers: SuperUsers::new(supers),
             everyone,
@@ -211,7 +212,7 @@ impl Authorizer {
         let (fresh, leaves, serials) = prepared.into_parts();
         self.next += fresh.len() as u64;
         put_all(&mut self.index, leaves);
-        put_last(&mut self.entries, fresh);
+        self.entries.append(fresh);
         serials
     }
 

@@ -105,12 +105,3 @@ impl PreparedCreate {
         (fresh, leaves, serials)
     }
 }
-
-/// Appends the fresh entries, in reserved capacity.
-pub fn put_last(entries: &mut Vec<(u64, Binding)>, mut fresh: Vec<(u64, Binding)>)
-    requires { vec_len entries.old + vec_len fresh ≤ vec_capacity entries.old }
-    ensures items { entries.new.items ≡ entries.old.items ++ fresh.items }
-    ensures count { vec_len entries.new ≡ vec_len entries.old + vec_len fresh }
-{
-    entries.append(&mut fresh).unwrap();
-}

@@ -1,11 +1,12 @@
 //! A deletion of bindings between its first and its second step.
 
-ghost use Rattle.std.specs.Prelude.{◌≡◌, ◌≤◌, ◌++◌, ◌∷◌, [], IfOk, OnOk, length, map};
+ghost use Rattle.std.specs.Prelude.{◌≡◌, ◌*◌, ◌≤◌, ◌++◌, ◌∷◌, [], IfOk, OnOk, length, map};
 ghost use Rattle.std.specs.List.{filter_map};
 ghost use Rattle.kob_authorizer.specs.Index.{bindings_taken, bindings_left};
 ghost use Rattle.kob_authorizer.specs.Index.{ArePatternsOf, addition, key_place};
 ghost use Rattle.kob_authorizer.specs.Index.{AreRising, entry_at, removals_of};
 
+use crate::entry_list::EntryList;
 use crate::look_up::{entry_of, place_of};
 use crate::patterns::Patterns;
 use crate::removal::{KeyRemoval, Removal, key_removals, removals_of};
@@ -167,16 +168,14 @@ fn push_taken(
     Ok(())
 }
 
-/// Removes the entries that the filter selects. One alone is found by its serial.
-pub fn remove_taken(
-    entries: &mut Vec<(u64, Binding)>,
-    filter: &BindingFilter,
-    taken: &[(u64, Binding)],
-)
-    requires rising { AreRising entries.old.items }
-    requires taken { taken.now ≡ bindings_taken filter.now entries.old.items }
-    ensures items { entries.new.items ≡ bindings_left filter.now entries.old.items }
-    ensures bound { length entries.new.items ≤ length entries.old.items }
+/// Removes the entries that the filter selects. One alone is found by its serial. Does not
+/// allocate.
+pub fn remove_taken(entries: &mut EntryList, filter: &BindingFilter, taken: &[(u64, Binding)])
+    requires rising { AreRising entries.old.entries }
+    requires taken { taken.now ≡ bindings_taken filter.now entries.old.entries }
+    ensures entries { entries.new.entries ≡ bindings_left filter.now entries.old.entries }
+    ensures bound { length entries.new.entries ≤ length entries.old.entries }
+    ensures holes { entries.new.holes * 8 ≤ length entries.new.entries }
 {
     if taken.len() == 1 {
         if let Some(place) = place_of(entries.as_slice(), taken[0].0) {
@@ -184,5 +183,5 @@ pub fn remove_taken(
             return;
         }
     }
-    entries.retain(|entry| !filter.takes(&entry.1));
+    entries.remove_taken(filter);
 }

@@ -5,6 +5,7 @@ mod at_once;
 mod authorizer;
 mod creation;
 mod deletion;
+mod entry_list;
 mod equals;
 mod fault;
 mod fresh;

@@ -8,24 +8,25 @@ ghost use Rattle.std.specs.List.{IsDistinct};
 ghost use Rattle.std.specs.Option.{option_copied_mut};
 ghost use Rattle.kob_names.specs.Same.{same_text};
 
-use crate::by_name::{find, place_of};
+use crate::by_name::{find, place_of, take_at};
 use crate::iter::Iter;
 use crate::packing::pack;
 use crate::slot::Slot;
 use kob_names::Text;
 use std::alloc::{AllocError, Global};
+use std::collections::VecDeque;
 use std::marker::Model;
 use std::mem;
 
 /// A map from names to values in order of insertion. Names are found by binary search in a list of
 /// places that is sorted by name. So no choice of names makes a look-up slow; an insertion and a
-/// removal shift that list. A removal leaves a hole among the entries, which iterations skip.
-/// `reserve` removes the holes once there are more of them than entries. Contracts see the entries
-/// in order, and the capacity reserved for more.
+/// removal shift the shorter side of that list. A removal leaves a hole among the entries, which
+/// iterations skip. `reserve` removes the holes once there are more of them than entries. Contracts
+/// see the entries in order, and the capacity reserved for more.
 #[derive(Drop)]
 pub struct OrderedMap<V> {
     slots: Vec<Slot<V>>,
-    by_name: Vec<usize>,
+    by_name: VecDeque<usize>,
 }
 
 impl<V> Model for OrderedMap<V> {
@@ -36,13 +37,14 @@ impl<V> Model for OrderedMap<V> {
     ghost coded = { ordered_code V.code };
 
     ghost use Rattle.std.specs.Prelude.{min, vec_capacity, vec_len, ◌-◌};
+    ghost use Rattle.std.specs.VecDeque.{deque_capacity, deque_len};
     ghost use Rattle.kob_ordered.specs.Slots.{entries_in, names_in, IsSound};
 
     ghost view = { λ map. record {
       entries = entries_in map.slots.items;
-      room = min (vec_capacity map.by_name - vec_len map.by_name)
+      room = min (deque_capacity map.by_name - deque_len map.by_name)
           (vec_capacity map.slots - vec_len map.slots);
-      holes = vec_len map.slots - vec_len map.by_name;
+      holes = vec_len map.slots - deque_len map.by_name;
       names = names_in map.slots.items;
     } };
 
@@ -59,7 +61,7 @@ impl<V: Drop> OrderedMap<V> {
     {
         OrderedMap {
             slots: Vec::new(alloc),
-            by_name: Vec::new(alloc),
+            by_name: VecDeque::new(alloc),
         }
     }
 
@@ -82,7 +84,7 @@ impl<V: Drop> OrderedMap<V> {
     pub fn get(&self, name: &Text) -> Option<&V>
         ensures { option_copied result ≡ lookup (same_text name.now) self.now.entries }
     {
-        let place = place_of(self.slots.as_slice(), self.by_name.as_slice(), name)?;
+        let place = place_of(self.slots.as_slice(), &self.by_name, name)?;
         match &self.slots[place] {
             Slot::Entry(_, value) => Some(value),
             Slot::Hole => unreachable!(),
@@ -95,7 +97,7 @@ impl<V: Drop> OrderedMap<V> {
         ensures value { option_copied_mut result ≡ lookup (same_text name.now) self.old.entries }
         ensures names { IsDistinct same_text (keys_of self.old.entries) }
     {
-        let place = place_of(self.slots.as_slice(), self.by_name.as_slice(), name)?;
+        let place = place_of(self.slots.as_slice(), &self.by_name, name)?;
         Some(self.slots[place].value_mut())
     }
 
@@ -105,7 +107,7 @@ impl<V: Drop> OrderedMap<V> {
         ensures stands { IfSome result (λ place. StandsAt self.now place name.now) }
         ensures known { is_some result ≡ is_some (lookup (same_text name.now) self.now.entries) }
     {
-        place_of(self.slots.as_slice(), self.by_name.as_slice(), name)
+        place_of(self.slots.as_slice(), &self.by_name, name)
     }
 
     /// The value of the entry at a place, for writing. Does not allocate.
@@ -122,7 +124,7 @@ impl<V: Drop> OrderedMap<V> {
     pub fn contains_key(&self, name: &Text) -> bool
         ensures { result ≡ is_some (lookup (same_text name.now) self.now.entries) }
     {
-        place_of(self.slots.as_slice(), self.by_name.as_slice(), name).is_some()
+        place_of(self.slots.as_slice(), &self.by_name, name).is_some()
     }
 
     /// Reserves capacity for one more entry, and removes the holes if there are more of them than
@@ -146,7 +148,7 @@ impl<V: Drop> OrderedMap<V> {
         ensures entries { self.new.entries ≡ self.old.entries ++ (name, value) ∷ [] }
         ensures room { self.old.room ≤ self.new.room + 1 }
     {
-        let found = find(self.slots.as_slice(), self.by_name.as_slice(), &name);
+        let found = find(self.slots.as_slice(), &self.by_name, &name);
         self.by_name
             .insert(found.unwrap_err(), self.slots.len())
             .unwrap();
@@ -162,11 +164,11 @@ impl<V: Drop> OrderedMap<V> {
         ensures gone { lookup (same_text name.now) self.new.entries ≡ None }
         ensures room { self.old.room ≤ self.new.room }
     {
-        let found = find(self.slots.as_slice(), self.by_name.as_slice(), name);
+        let found = find(self.slots.as_slice(), &self.by_name, name);
         let Ok(index) = found else {
             return None;
         };
-        let place = self.by_name.remove(index);
+        let place = take_at(&mut self.by_name, index);
         match mem::replace(&mut self.slots[place], Slot::Hole) {
             Slot::Entry(_, value) => Some(value),
             Slot::Hole => unreachable!(),

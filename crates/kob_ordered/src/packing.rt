@@ -1,16 +1,18 @@
 //! The removal of the holes among the slots.
 
-ghost use Rattle.std.specs.Prelude.{◌≡◌, ◌<◌, length, slice_index_or, vec_capacity, ℕ, IfOk, OnOk};
+ghost use Rattle.std.specs.Prelude.{◌≡◌, ◌<◌, length, slice_index_or, ℕ, IfOk, OnOk};
+ghost use Rattle.std.specs.VecDeque.{deque_capacity};
 ghost use Rattle.kob_ordered.specs.Slots.{entries_in, rank, IsSound};
 
 use crate::slot::Slot;
 use std::alloc::{AllocError, Global};
+use std::collections::VecDeque;
 
 /// Removes the holes. After an error, which is out of memory, nothing has changed.
 pub(crate) fn pack<V: Drop>(
     alloc: Global,
     slots: &mut Vec<Slot<V>>,
-    by_name: &mut Vec<usize>,
+    by_name: &mut VecDeque<usize>,
 ) -> Result<(), AllocError>
     requires { IsSound slots.old.items by_name.old.items }
     ensures sound { IsSound slots.new.items by_name.new.items }
@@ -41,13 +43,13 @@ fn ranks_of<V>(alloc: Global, slots: &[Slot<V>]) -> Result<Vec<usize>, AllocErro
 }
 
 /// Replaces each place by its rank.
-fn renumber(places: &mut Vec<usize>, ranks: &[usize])
+fn renumber(places: &mut VecDeque<usize>, ranks: &[usize])
     requires { (k : ℕ) → k < length places.old.items
         → slice_index_or places.old.items k 0 < length ranks.now }
     ensures size { length places.new.items ≡ length places.old.items }
     ensures ranks { (k : ℕ) → k < length places.old.items → slice_index_or places.new.items k 0
         ≡ slice_index_or ranks.now (slice_index_or places.old.items k 0) 0 }
-    ensures capacity { vec_capacity places.new ≡ vec_capacity places.old }
+    ensures capacity { deque_capacity places.new ≡ deque_capacity places.old }
 {
     for k in 0..places.len() {
         places[k] = ranks[places[k]];

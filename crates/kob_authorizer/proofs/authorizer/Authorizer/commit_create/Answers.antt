@@ -5,6 +5,6 @@ use Rattle.kob_authorizer.proofs.authorizer.Authorizer.commit_create.Goals as go
 
 pub invariant_of-self : goal.invariant_of-self
 invariant_of-self c =
-    let before = c.self.inside.entries.items in let fresh = c.args.prepared.fresh in
+    let before = c.self.inside.entries.entries in let fresh = c.args.prepared.fresh in
     let rises = put_rises binding_limit c.self.inside.next c.len.result before fresh in
     let indexed = indexes_put_all fresh c.self.inside.index before c.self.invariant.2 in grind (arith, common_steps)

@@ -5,7 +5,7 @@ use Rattle.kob_authorizer.proofs.authorizer.Authorizer.commit_delete.Goals as go
 
 pub invariant_of-self : goal.invariant_of-self
 invariant_of-self c =
-    let before : List (ℕ × Binding) = c.self.inside.entries.items in let parts = c.into_parts-filter.ensures in
+    let before : List (ℕ × Binding) = c.self.inside.entries.entries in let parts = c.into_parts-filter.ensures in
     let wanted = c.into_parts-filter.result.0 in
     let deleted = indexes_deleted wanted 1 c.self.inside.next before c.self.inside.index c.self.invariant.1
     c.self.invariant.2 in
