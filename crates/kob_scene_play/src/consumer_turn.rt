@@ -93,7 +93,13 @@ impl ConsumerWorker {
         let line_fault = line_fault(line.calls.fault, line.server.line.calls.fault);
         let fault = stopped_by(&tick).or(line_fault);
         let is_lost = loses_first(loss, &line.calls.made);
-        let (LossyServer { line: below, loss: _ }, made) = line.close();
+        let (
+            LossyServer {
+                line: below,
+                loss: _,
+            },
+            made,
+        ) = line.close();
         let (below, calls) = below.close();
         drop(calls);
         let RecordedServer {

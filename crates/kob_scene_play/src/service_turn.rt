@@ -63,7 +63,13 @@ impl<'s> ServiceWorker<'s> {
         let line_fault = line_fault(line.calls.fault, line.server.line.calls.fault);
         let fault = stop_of_service(&tick).or(line_fault);
         let is_lost = loses_first(loss, &line.calls.made);
-        let (LossyServer { line: sent, loss: _ }, calls) = line.close();
+        let (
+            LossyServer {
+                line: sent,
+                loss: _,
+            },
+            calls,
+        ) = line.close();
         drop(calls);
         let (SentServer { below, is_bare: _ }, calls) = sent.close();
         drop(calls);
