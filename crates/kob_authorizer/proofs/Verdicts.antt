@@ -1,7 +1,8 @@
 -- Whether a binding in force matches a resource, by the test and by what it means.
-use Rattle.kob_authorizer.proofs.Words.{Binding, Contains, Decides, List, Matches, NoneMatches, Question, SomeMatches, arith, false, is_match, list_any, nat_tests, resource_decides, true, ℕ, ◌≡◌, Allow, Bool, Contains-from_any, Contents, Decides-and, Decides-like, Deny, IsEarliest, IsRising, IsTrue, IsTrueVerdict, None, NoneHits, Option, Permission, Some, both_ways, bytes_eq-Decides, covers, decide, decide_by_bindings, first_serial, hits, is_granted, is_hit, is_super, list_any-from_Contains, matches, nat_list_eq_equiv, not, permission_decides, reaches, refl, unless_open, verdict_of, ◌&&◌, ◌↔◌, ◌≤◌, AreRising, Contains-append_left, Contains-append_right, Decides-eqb, Held, Index, Indexes, IsIndex, Literal, Place, PrefixMap, Prefixed, ResourceKind, along_has_literal, along_has_prefixed, and_from, and_parts, behind, codes, drop, entries_on, filter, held, inl, inr, is_equal, is_place, key_place, keys_on, kind_in_tree, least_passing, length, matches_by, matching_serials, nat_eq, or_cases, pattern_place, same_binding_decides, same_resource, same_text, serial_of, serials_along, serials_for, serials_from, serials_of, starts_is, starts_with, subst, sym, tree_of, ◌++◌, ◌||◌, Verdict, common_steps, Contains-append_cases, [], is_unmatched, ne_eqb, same_kind, walk_of, walk_only, ◌==◌, ◌∷◌}
+use Rattle.kob_authorizer.proofs.Words.{ArePatternsOf, Binding, Contains, Decides, List, Matches, NoneMatches, Question, SomeMatches, arith, false, is_match, list_any, nat_tests, resource_decides, true, ℕ, ◌≡◌, Allow, Bool, Contains-from_any, Contents, Decides-and, Decides-like, Deny, IsEarliest, IsRising, IsTrue, IsTrueVerdict, None, NoneHits, Option, Permission, Some, both_ways, bytes_eq-Decides, covers, decide, decide_by_bindings, first_serial, hits, is_granted, is_hit, is_super, list_any-from_Contains, matches, nat_list_eq_equiv, not, permission_decides, reaches, refl, unless_open, verdict_of, ◌&&◌, ◌↔◌, ◌≤◌, AreRising, Contains-append_left, Contains-append_right, Decides-eqb, Held, Index, Indexes, IsIndex, Literal, Place, PrefixMap, Prefixed, ResourceKind, along_has_literal, along_has_prefixed, and_from, and_parts, behind, codes, drop, entries_on, filter, held, inl, inr, is_equal, is_place, key_place, keys_on, kind_in_tree, least_passing, length, matches_by, matching_serials, nat_eq, or_cases, pattern_place, same_binding_decides, same_resource, same_text, serial_of, serials_along, serials_for, serials_from, serials_of, starts_is, starts_with, subst, sym, tree_of, ◌++◌, ◌||◌, Verdict, common_steps, Contains-append_cases, [], is_unmatched, ne_eqb, same_kind, walk_of, walk_only, ◌==◌, ◌∷◌}
 use Rattle.kob_authorizer.proofs.Entries.{any_passes, each, of_each, passing, first_is, least_is, none_is, first_serial_found, among_mapped, kept_by_filter, at_head, given_by, was_kept}
 use Rattle.kob_authorizer.specs.Decide.{Hits}
+use Rattle.kob_authorizer.specs.declared.patterns.Patterns.{Patterns}
 use Rattle.kob_names.specs.declared.kinds.PatternKind.{PatternKind}
 use Rattle.kob_authorizer.proofs.LeastHits.{LeadToAll, least_is_first}
 use Rattle.kob_authorizer.specs.Index.{binding_key}
@@ -163,19 +164,19 @@ among_two : (given : List ℕ → List ℕ) (text one two : List ℕ) (serial : 
 among_two given text one two serial is_one has =
     grind (arith, nat_tests, bytes_eq-Decides, Contains-append_left, Contains-append_right)
 
-module _ (index : Index) (entries : List (ℕ × Binding)) (indexed : Indexes index entries) where
-  -- every binding that matches is looked up
-  pub looked_up : (resource : ResourceKind) (name : List ℕ) (entry : ℕ × Binding) → Contains entries entry
-      → entry.1.resource ≡ resource → IsTrue (matches entry.1.pattern name)
-      → Contains (matching_serials (held (tree_of index.patterns resource)) name) entry.0
-  looked_up resource name entry there of_kind matched =
-      let among = kept_by_filter (λ (e : ℕ × Binding). same_resource e.1.resource resource) entries entry there
-      ((resource_decides entry.1.resource resource).1 of_kind) in
-      let at = at_its_place pattern_place (tree_of index.patterns resource) (entries_on resource entries) entry
-      (indexed.patterns resource) among in
-      looked_up_by (held (tree_of index.patterns resource)) entry.1.pattern.kind entry.1.pattern.name name entry.0
-      matched at
+-- every binding that matches is looked up
+pub matched_up : (patterns : Patterns) (entries : List (ℕ × Binding)) → ArePatternsOf patterns entries
+    → (resource : ResourceKind) (name : List ℕ) (entry : ℕ × Binding) → Contains entries entry
+    → entry.1.resource ≡ resource → IsTrue (matches entry.1.pattern name)
+    → Contains (matching_serials (held (tree_of patterns resource)) name) entry.0
+matched_up patterns entries indexed resource name entry there of_kind matched =
+    let among = kept_by_filter (λ (e : ℕ × Binding). same_resource e.1.resource resource) entries entry there
+    ((resource_decides entry.1.resource resource).1 of_kind) in
+    let at = at_its_place pattern_place (tree_of patterns resource) (entries_on resource entries) entry
+    (indexed resource) among in
+    looked_up_by (held (tree_of patterns resource)) entry.1.pattern.kind entry.1.pattern.name name entry.0 matched at
 
+module _ (index : Index) (entries : List (ℕ × Binding)) (indexed : Indexes index entries) where
   -- every hit is looked up among the keys of who asks and of `User:*`
   hits_looked_up : (permission : Permission) (question : Question)
       → LeadToAll (is_hit permission question) entries (serials_for index.keys question)
@@ -299,7 +300,7 @@ module _ (index : Index) (entries : List (ℕ × Binding)) (indexed : Indexes in
   given_for : (some : SomeMatches question entries)
       → Contains (matching_serials (held tree) question.name) some.entry.0
   given_for some =
-      looked_up index entries indexed question.resource question.name some.entry some.in_force some.matches.resource
+      matched_up index.patterns entries indexed.patterns question.resource question.name some.entry some.in_force some.matches.resource
       some.matches.name
 
   none_by : (serials : List ℕ) (found : Bool) → matching_serials (held tree) question.name ≡ serials

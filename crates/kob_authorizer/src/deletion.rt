@@ -95,9 +95,9 @@ type DeletionParts = (
     Vec<Removal>,
 );
 
-/// Copies of the entries that the filter selects. If it names one pattern on one kind of resource,
-/// and few entries have it, only these are examined.
-#[tactic(auto, using(crate::proofs::Deleting::listed_lead))]
+/// Copies of the entries that the filter selects. If it names one kind of resource and one name,
+/// and few entries are at its pattern, or at the patterns that match the name, only these are
+/// examined.
 pub fn copies_taken(
     alloc: Global,
     entries: &[(u64, Binding)],
@@ -108,7 +108,7 @@ pub fn copies_taken(
     requires indexed { ArePatternsOf patterns.now entries.now }
     ensures { IfOk result (λ made. made.items ≡ bindings_taken filter.now entries.now) }
 {
-    match patterns.listed_by(alloc, filter)? {
+    match patterns.leading_by(alloc, filter)? {
         Some(serials) if serials.len() < entries.len() / 8 => {
             copies_at(alloc, entries, serials.as_slice(), filter)
         }

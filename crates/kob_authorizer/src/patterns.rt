@@ -1,12 +1,15 @@
 //! The trees that map the names of patterns to the serials of bindings.
 
-ghost use Rattle.std.specs.Prelude.{◌≡◌, IfOk, OnOk, vec_items};
+ghost use Rattle.std.specs.Prelude.{◌≡◌, ℕ, Contains, IfOk, IfSome, OnOk, vec_items};
 ghost use Rattle.std.specs.List.{fold};
 ghost use Rattle.std.specs.Option.{option_map};
 ghost use Rattle.kob_prefix_tree.specs.Contents.{left_of};
 ghost use Rattle.kob_authorizer.specs.Index.{no_patterns, patterns_of, tree_of};
 ghost use Rattle.kob_authorizer.specs.Index.{with_entry, with_pattern, listed_by};
 ghost use Rattle.kob_authorizer.specs.Index.{serials_beside, without_removal};
+ghost use Rattle.kob_authorizer.specs.Index.{matching_serials};
+ghost use Rattle.kob_authorizer.specs.Leading.{LeadToTaken, RiseFrom};
+ghost use Rattle.kob_prefix_tree.specs.Held.{held};
 
 use crate::key::kind_in_tree;
 use crate::removal::Removal;
@@ -63,9 +66,54 @@ impl Patterns {
         }
     }
 
+    /// Serials of entries, in order, among which are those of all entries that a filter selects. If
+    /// it names one kind of resource and one name, they are those at its pattern, or at the patterns
+    /// that match the name. Otherwise `None`: each entry is to be examined.
+    #[tactic(auto, using(crate::proofs::Deleting::listed_lead))]
+    pub fn leading_by(
+        &self,
+        alloc: Global,
+        filter: &BindingFilter,
+    ) -> Result<Option<Vec<u64>>, AllocError>
+        ensures { IfOk result (λ made. IfSome made (λ serials.
+            LeadToTaken self.now filter.now serials.items)) }
+    {
+        match filter.pattern {
+            FilterPattern::Matching => self.matching_by(alloc, filter),
+            FilterPattern::Any | FilterPattern::Literal | FilterPattern::Prefixed => {
+                self.listed_by(alloc, filter)
+            }
+        }
+    }
+
+    /// The serials at the patterns that match the name of a filter, in order, if it names one, and
+    /// one kind of resource.
+    #[tactic(auto, using(crate::proofs::Leading::matching_lead))]
+    fn matching_by(
+        &self,
+        alloc: Global,
+        filter: &BindingFilter,
+    ) -> Result<Option<Vec<u64>>, AllocError>
+        requires { filter.now.pattern ≡ FilterPattern.Matching }
+        ensures { IfOk result (λ made. IfSome made (λ serials.
+            LeadToTaken self.now filter.now serials.items)) }
+    {
+        match (filter.resource, &filter.name) {
+            (Some(resource), Some(name)) => {
+                let serials = serials_matching(
+                    alloc,
+                    self.tree(resource),
+                    name.as_str().as_bytes(),
+                )?;
+                Ok(Some(serials))
+            }
+            _ => Ok(None),
+        }
+    }
+
     /// The serials at the pattern that a filter names, in order, if it names one on one kind of
     /// resource.
-    pub fn listed_by(
+    fn listed_by(
         &self,
         alloc: Global,
         filter: &BindingFilter,
@@ -140,6 +188,37 @@ impl Patterns {
             ResourceKind::TransactionalId => self.transactional_ids.remove_all(name, kind, serials),
         };
     }
+}
+
+/// The serials at the patterns that match a name, in order.
+fn serials_matching(alloc: Global, tree: &PrefixTree, name: &[u8]) -> Result<Vec<u64>, AllocError>
+    ensures rising { IfOk result (λ made. RiseFrom 0 made.items) }
+    ensures all { IfOk result (λ made. (serial : ℕ)
+        → Contains (matching_serials (held tree.now) name.now) serial
+        → Contains made.items serial) }
+{
+    let walked = walked(alloc, tree, name)?;
+    Ok(in_order(walked))
+}
+
+/// The serials at the patterns that match a name; those of the literal `*` are last.
+fn walked(alloc: Global, tree: &PrefixTree, name: &[u8]) -> Result<Vec<u64>, AllocError>
+    ensures { IfOk result (λ made. made.items ≡ matching_serials (held tree.now) name.now) }
+{
+    let mut serials: Vec<u64> = tree.walk(name).collect(alloc)?;
+    let of_all: Vec<u64> = tree.literal("*".as_bytes()).collect(alloc)?;
+    serials.extend_from_slice(of_all.as_slice())?;
+    Ok(serials)
+}
+
+/// The serials in order, each once.
+fn in_order(mut serials: Vec<u64>) -> Vec<u64>
+    ensures rising { RiseFrom 0 result.items }
+    ensures all { (serial : ℕ) → Contains serials.items serial → Contains result.items serial }
+{
+    serials.sort_unstable();
+    serials.dedup();
+    serials
 }
 
 /// Removes serials, one place after another. Does not allocate.
