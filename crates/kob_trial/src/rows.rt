@@ -1,0 +1,116 @@
+//! Rows of what words of a question have to be, and the first word that does not fit its row.
+
+ghost use Rattle.std.specs.Prelude.{◌≡◌, ◌≤◌, IfOk, length};
+ghost use Rattle.std.specs.Result.{is_ok};
+ghost use Rattle.kob_script.specs.Words.{named_host, named_principal};
+ghost use Rattle.kob_trial.specs.Rows.{fits, is_listed, is_many_named, misfit};
+
+use kob_names::ResourceKind;
+use kob_script::{LineError, Word, host_of, lent_text_of, principal_of};
+use kob_words::{operation_named, resource_named};
+use std::alloc::{AllocError, Global};
+
+/// What a word of a question has to be.
+#[derive(Clone, Copy, Debug, PartialEq, Eq)]
+pub enum Fit {
+    Any,
+    Principal,
+    Host,
+    Operation,
+    Resource,
+    /// A kind of resource with many names: any but the cluster.
+    ManyNamed,
+    /// `yes` or `no`.
+    Answer,
+    May,
+    /// `idempotent` or `transactional`.
+    How,
+}
+
+/// The place of the first word that does not fit its row. If each fits, it is the place of the first
+/// word too many, or of the one that is missing.
+// Recursive: a row has at most eight words.
+pub fn misfit(alloc: Global, row: &[Fit], words: &[Word<'_>]) -> Result<usize, AllocError>
+    ensures place { IfOk result (λ place. place ≡ misfit row.now words.now) }
+    ensures within { IfOk result (λ place. place ≤ length words.now) }
+{
+    match row {
+        [] => Ok(0),
+        [fit, row @ ..] => match words {
+            [] => Ok(0),
+            [word, words @ ..] => {
+                if !fits(alloc, *fit, word)? {
+                    return Ok(0);
+                }
+                Ok(misfit(alloc, row, words)? + 1)
+            }
+        },
+    }
+}
+
+fn fits(alloc: Global, fit: Fit, word: &Word<'_>) -> Result<bool, AllocError>
+    ensures { IfOk result (λ is. is ≡ fits fit word.now) }
+{
+    match fit {
+        Fit::Any => Ok(true),
+        Fit::Principal => is_principal(alloc, word),
+        Fit::Host => is_host(alloc, word),
+        Fit::Operation => {
+            Ok(operation_named(word.decoded()).is_some() || is_listed(word.decoded()))
+        }
+        Fit::Resource => {
+            Ok(resource_named(word.decoded()).is_some() || is_listed(word.decoded()))
+        }
+        Fit::ManyNamed => Ok(is_many_named(word.decoded())),
+        Fit::Answer => {
+            Ok(word.decoded() == b"yes".as_slice() || word.decoded() == b"no".as_slice())
+        }
+        Fit::May => Ok(word.decoded() == b"may".as_slice()),
+        Fit::How => Ok(
+            word.decoded() == b"idempotent".as_slice()
+                || word.decoded() == b"transactional".as_slice(),
+        ),
+    }
+}
+
+fn is_principal(alloc: Global, word: &Word<'_>) -> Result<bool, AllocError>
+    ensures { IfOk result (λ is. is ≡ is_ok (named_principal word.now)) }
+{
+    let Ok(text) = lent_text_of(word) else {
+        return Ok(false);
+    };
+    match principal_of(alloc, text) {
+        Ok(_) => Ok(true),
+        Err(LineError::Fault(_)) => Ok(false),
+        Err(LineError::Memory(refused)) => Err(refused),
+    }
+}
+
+fn is_host(alloc: Global, word: &Word<'_>) -> Result<bool, AllocError>
+    ensures { IfOk result (λ is. is ≡ is_ok (named_host word.now)) }
+{
+    let Ok(text) = lent_text_of(word) else {
+        return Ok(false);
+    };
+    match host_of(alloc, text) {
+        Ok(_) => Ok(true),
+        Err(LineError::Fault(_)) => Ok(false),
+        Err(LineError::Memory(refused)) => Err(refused),
+    }
+}
+
+fn is_many_named(name: &[u8]) -> bool
+    ensures { result ≡ is_many_named name.now }
+{
+    match resource_named(name) {
+        Some(resource) => resource != ResourceKind::Cluster,
+        None => is_listed(name),
+    }
+}
+
+/// Whether a name is written as in a list: DESCRIBE_CONFIGS for DescribeConfigs.
+fn is_listed(name: &[u8]) -> bool
+    ensures { result ≡ is_listed name.now }
+{
+    name.contains(&b'_')
+}
