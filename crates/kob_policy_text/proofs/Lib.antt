@@ -11,6 +11,7 @@ pub mod Numbering
 pub mod Passing
 pub mod Placing
 pub mod Recording
+pub mod Remarking
 pub mod Stages
 pub mod Standing
 pub mod Taken

@@ -22,11 +22,10 @@ use Rattle.kob_prefix_tree.specs.Held.{Held, PrefixMap, added, held, serials_of,
 use Rattle.kob_prefix_tree.specs.declared.kind.PatternKind as of_tree
 use Rattle.kob_prefix_tree.specs.declared.kind.PatternKind.TheVariants as in_tree
 use Rattle.kob_policy_text.specs.AtHand.{is_known, principals_named, with_principal, with_text}
-use Rattle.kob_policy_text.specs.Hints.{is_named, is_taken, names}
+use Rattle.kob_policy_text.specs.Hints.{is_name_taken, is_named, names}
 use Rattle.kob_policy_text.specs.Policy.{Policy}
 use Rattle.kob_policy_text.specs.Taking.{IsTreeOf, no_patterns, some_serial, stands_at, taken_of, takes_name, tree_of, tree_takes, with_key, with_pattern}
 use Rattle.kob_policy_text.specs.declared.patterns.Patterns.{Patterns}
-use Rattle.kob_authorizer.specs.Decide as authorizer
 
 or_nothing : (b : Bool) → (b || (false || false)) ≡ b
 or_nothing true = refl
@@ -233,15 +232,14 @@ module _ (bindings : List Binding) (resource : ResourceKind) (tree : PrefixMap) 
   tree_is = same_when _ _ from_tree to_tree
 
 -- Whether a pattern of a policy takes the name.
-pub taken_is : (policy : Policy) (asked : authorizer.Question)
-    → tree_takes (tree_of (taken_of policy) asked.resource) asked.name ≡ is_taken policy asked
-taken_is policy asked =
-    let of_bindings = lead asked.resource no_patterns [] policy.bindings (none_yet asked.resource) in
-    let of_all = lead asked.resource (fold with_pattern no_patterns policy.bindings) policy.bindings policy.closings
+pub name_taken_is : (policy : Policy) (resource : ResourceKind) (name : List ℕ)
+    → tree_takes (tree_of (taken_of policy) resource) name ≡ is_name_taken policy resource name
+name_taken_is policy resource name =
+    let of_bindings = lead resource no_patterns [] policy.bindings (none_yet resource) in
+    let of_all = lead resource (fold with_pattern no_patterns policy.bindings) policy.bindings policy.closings
     of_bindings in
-    tree_is (policy.bindings ++ policy.closings) asked.resource (tree_of (taken_of policy) asked.resource) of_all
-    asked.name
-    ∙ list_any-append (takes_name asked.resource asked.name) policy.bindings policy.closings
+    tree_is (policy.bindings ++ policy.closings) resource (tree_of (taken_of policy) resource) of_all name
+    ∙ list_any-append (takes_name resource name) policy.bindings policy.closings
 
 -- Whether a binding of a policy names the principal.
 

@@ -18,6 +18,7 @@ use Rattle.kob_policy_text.specs.declared.question.Asker.{Asker}
 use Rattle.kob_policy_text.specs.declared.question.Right.{Right}
 use Rattle.kob_policy_text.specs.Quoted.{binding_text, name_text}
 use Rattle.kob_policy_text.specs.Policy.{deciding, is_yes, may, place_of, serials_of, Policy}
+use Rattle.kob_policy_text.specs.Remarks.{below_line, has_none}
 
 -- FILE:LINE
 abbrev pub origin_text : Origin → List ℕ
@@ -109,9 +110,14 @@ abbrev pub topics_asked : Policy → List (List ℕ) → List (List ℕ)
 topics_asked policy [] = topics_named policy.bindings
 topics_asked policy (first ∷ rest) = first ∷ rest
 
+abbrev pub seen_texts : Policy → List (List ℕ) → Asker → List ℕ
+seen_texts policy topics asker =
+    flat_map (seen_text policy asker) (topics_asked policy topics)
+
 abbrev pub sees_text : Policy → List (List ℕ) → Asker → List ℕ
 sees_text policy topics asker =
-    codes "  topics" ++ flat_map (seen_text policy asker) (topics_asked policy topics) ++ codes "\n"
+    codes "  topics" ++ seen_texts policy topics asker ++ codes "\n"
+    ++ below_line policy asker.principal (has_none (seen_texts policy topics asker))
 
 abbrev pub left_out_word : LeftOut → List ℕ
 left_out_word left_out.Resource = codes "resource"

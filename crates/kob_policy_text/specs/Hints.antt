@@ -1,13 +1,15 @@
 -- What stands below a no: that no pattern takes the name, or that no binding names who asks.
-use Rattle.std.specs.Prelude.{ℕ, Bool, List, [], ◌++◌, ◌&&◌, ◌||◌, codes, if◌then◌else◌}
+use Rattle.std.specs.Prelude.{ℕ, Bool, List, [], ◌++◌, ◌||◌, codes, if◌then◌else◌}
 use Rattle.std.specs.List.{list_any}
 use Rattle.kob_authorizer.specs.Decide as authorizer
-use Rattle.kob_names.specs.Binding.{Binding, matches}
-use Rattle.kob_names.specs.Same.{same_resource, same_text}
+use Rattle.kob_names.specs.Binding.{Binding}
+use Rattle.kob_names.specs.Same.{same_text}
+use Rattle.kob_names.specs.declared.kinds.ResourceKind.{ResourceKind}
 use Rattle.kob_names.specs.declared.verdict.Verdict.{Verdict}
 use Rattle.kob_names.specs.declared.verdict.Verdict.TheVariants.{AllowedBy, DeniedBy, NoAclFound, NoAllow, Super}
 use Rattle.kob_policy_text.specs.Policy.{Policy}
 use Rattle.kob_policy_text.specs.Quoted.{name_text}
+use Rattle.kob_policy_text.specs.Taking.{takes_name}
 
 abbrev pub names : List ℕ → Binding → Bool
 names principal binding = same_text binding.principal principal
@@ -15,14 +17,14 @@ names principal binding = same_text binding.principal principal
 abbrev pub is_named : Policy → List ℕ → Bool
 is_named policy principal = list_any (names principal) policy.bindings
 
-abbrev pub takes : authorizer.Question → Binding → Bool
-takes asked binding =
-    same_resource binding.resource asked.resource && matches binding.pattern asked.name
+-- a pattern of a binding takes the name; that of a left out binding counts
+abbrev pub is_name_taken : Policy → ResourceKind → List ℕ → Bool
+is_name_taken policy resource name =
+    list_any (takes_name resource name) policy.bindings
+    || list_any (takes_name resource name) policy.closings
 
--- the pattern of a left out binding counts
 abbrev pub is_taken : Policy → authorizer.Question → Bool
-is_taken policy asked =
-    list_any (takes asked) policy.bindings || list_any (takes asked) policy.closings
+is_taken policy asked = is_name_taken policy asked.resource asked.name
 
 unfoldable pub told_text : List ℕ → List ℕ → List ℕ
 told_text what name = what ++ name_text name ++ codes "\n"

@@ -7,6 +7,7 @@ use Rattle.kob_policy_review.specs.Holding.{holdings_of}
 use Rattle.kob_policy_review.specs.declared.holding.Holding.{Holding}
 use Rattle.kob_policy_text.specs.Parties.{names_text, party_text}
 use Rattle.kob_policy_text.specs.Policy.{Policy, contents_of}
+use Rattle.kob_policy_text.specs.Remarks.{of_principal}
 use Rattle.kob_words.specs.Words.{operation_name, resource_name}
 
 abbrev pub behind_comma : Operation → List ℕ
@@ -50,9 +51,14 @@ abbrev pub open_text : Bool → List ℕ
 open_text true = codes "  All on names that no pattern takes\n"
 open_text false = []
 
+-- what is granted to a principal that is no super user
+abbrev pub held_text : Policy → List ℕ → Option (List ℕ) → List ℕ
+held_text policy principal host =
+    flat_map (holding_text host) (holdings_of (contents_of policy) principal host)
+    ++ open_text policy.everyone
+
 -- what is granted to the principal
 abbrev pub holdings_text : Policy → List ℕ → Option (List ℕ) → List ℕ
 holdings_text policy principal host =
     if is_super policy.supers principal then codes "  All on every name, as a super user\n"
-    else (flat_map (holding_text host) (holdings_of (contents_of policy) principal host)
-    ++ open_text policy.everyone)
+    else of_principal policy principal (held_text policy principal host)

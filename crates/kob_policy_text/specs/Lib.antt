@@ -11,6 +11,7 @@ pub mod Listing
 pub mod LogAnswers
 pub mod LogLines
 pub mod Moved
+pub mod Nearest
 pub mod Numbered
 pub mod Objects
 pub mod Options
@@ -21,6 +22,7 @@ pub mod Questions
 pub mod Quoted
 pub mod Reaches
 pub mod Releases
+pub mod Remarks
 pub mod Removable
 pub mod Review
 pub mod Rows

@@ -8,6 +8,7 @@ use Rattle.kob_policy_review.specs.declared.below.Share.TheVariants.{Nothing, Pa
 use Rattle.kob_policy_text.specs.AtHand.{each_once}
 use Rattle.kob_policy_text.specs.Parties.{party_text, super_grant}
 use Rattle.kob_policy_text.specs.Policy.{Policy, contents_of}
+use Rattle.kob_policy_text.specs.Remarks.{or_none}
 use Rattle.kob_policy_text.specs.declared.question.Right.{Right}
 
 abbrev pub reach_who : Reach → List ℕ
@@ -33,8 +34,11 @@ unfoldable pub reach_text : Reach → List ℕ
 reach_text one = if asks_as_others one then [] else by_share one.share one
 
 -- super users first, and then all principals and hosts to which it is granted on some of the names
-abbrev pub reaches_text : Policy → Right → List ℕ
-reaches_text policy right =
+abbrev pub reached_text : Policy → Right → List ℕ
+reached_text policy right =
     flat_map super_grant (each_once policy.supers)
     ++ flat_map reach_text
     (reaches_below (contents_of policy) right.operation right.resource right.name)
+
+abbrev pub reaches_text : Policy → Right → List ℕ
+reaches_text policy right = or_none (reached_text policy right)

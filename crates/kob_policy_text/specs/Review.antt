@@ -28,6 +28,7 @@ use Rattle.kob_policy_text.specs.Policy.{Policy, contents_of, place_of}
 use Rattle.kob_policy_text.specs.Reaches.{reaches_text}
 use Rattle.kob_policy_text.specs.Summary.{summary_text}
 use Rattle.kob_policy_text.specs.Questions.{Questions}
+use Rattle.kob_policy_text.specs.Remarks.{on_right, or_none, taking_text}
 use Rattle.kob_policy_text.specs.Removable.{removable_text}
 use Rattle.kob_policy_text.specs.declared.question.Query.{Query}
 use Rattle.kob_policy_text.specs.declared.question.Question.{Question}
@@ -53,14 +54,16 @@ unneeded_text policy one = unneeded_at policy one.reason (place_of policy one.se
 
 -- the bindings without which, each taken alone, no answer at all changes
 abbrev pub unused_text : Policy → List ℕ
-unused_text policy = flat_map (unneeded_text policy) (unused_in (contents_of policy))
+unused_text policy =
+    or_none (flat_map (unneeded_text policy) (unused_in (contents_of policy)))
 
 -- an allow that a deny always beats
 unfoldable pub shadowed_line : Policy → ℕ → List ℕ
 shadowed_line policy serial = line_by policy (Some serial)
 
 abbrev pub shadowed_text : Policy → List ℕ
-shadowed_text policy = flat_map (shadowed_line policy) (shadowed_in (contents_of policy))
+shadowed_text policy =
+    or_none (flat_map (shadowed_line policy) (shadowed_in (contents_of policy)))
 
 -- the names of the right alone
 abbrev pub target_at : Right → Target
@@ -89,10 +92,13 @@ granted_text policy right =
     ++ flat_map (grant_if_told policy)
     (answers_on (contents_of policy) right.operation (target_at right))
 
+abbrev pub who_list : Policy → Right → List ℕ
+who_list policy right = on_right policy right (granted_text policy right)
+
 -- the answer from one host, or from every host
 abbrev pub who_text : Policy → Right → Option (List ℕ) → List ℕ
-who_text policy right (Some host) = from_text policy right host
-who_text policy right None = granted_text policy right
+who_text policy right (Some host) = from_text policy right host ++ taking_text policy right
+who_text policy right None = who_list policy right
 
 -- OPERATION RESOURCE NAME, above those who may
 unfoldable pub right_line : Right → List ℕ
@@ -101,7 +107,7 @@ right_line right =
     ++ codes " " ++ name_text right.name ++ codes "\n"
 
 abbrev pub grants_text : Policy → Right → List ℕ
-grants_text policy right = right_line right ++ granted_text policy right
+grants_text policy right = right_line right ++ who_list policy right
 
 -- who may read the topic, and then who may read as the group
 abbrev pub consumers_text : Policy → Right → Right → List ℕ

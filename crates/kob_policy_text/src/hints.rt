@@ -10,7 +10,8 @@ use kob_names::{Principal, Verdict};
 use std::alloc::AllocError;
 
 #[tactic(auto, using(kob_words::proofs::Appending::appending), unfolding(crate::specs::Hints::told_text))]
-fn push_told(out: &mut Vec<u8>, what: &[u8], name: &str) -> Result<(), AllocError>
+/// What is said of a name.
+pub fn push_told(out: &mut Vec<u8>, what: &[u8], name: &str) -> Result<(), AllocError>
     ensures { OnOk result (out.new.items ≡ out.old.items ++ told_text what.now name.now) }
 {
     out.extend_from_slice(what)?;

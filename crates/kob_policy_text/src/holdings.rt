@@ -1,12 +1,14 @@
 //! What is granted to a principal.
 
 ghost use Rattle.std.specs.Prelude.{◌≡◌, ◌++◌, OnOk, flat_map};
-ghost use Rattle.kob_policy_text.specs.Holdings.{behind_comma, from_host, holding_line, holding_text};
-ghost use Rattle.kob_policy_text.specs.Holdings.{holdings_text, is_nothing, is_repeated, joined};
-ghost use Rattle.kob_policy_text.specs.Holdings.{open_text, operations_text};
+ghost use Rattle.kob_policy_text.specs.Holdings.{behind_comma, from_host, held_text, holding_line};
+ghost use Rattle.kob_policy_text.specs.Holdings.{holding_text, holdings_text, is_nothing, is_repeated};
+ghost use Rattle.kob_policy_text.specs.Holdings.{joined, open_text, operations_text};
+ghost use Rattle.kob_policy_text.specs.Remarks.{of_principal};
 
 use crate::changes::{push_names, push_party};
 use crate::judge::Judge;
+use crate::remarks::{push_no_binding, push_none};
 use kob_names::{Host, Operation, Principal};
 use kob_policy_review::{Holding, is_super, names_all, rights};
 use kob_words::{operation_name, resource_name};
@@ -127,9 +129,47 @@ fn open_text(everyone: bool) -> &'static str
     }
 }
 
+/// What is granted to a principal that is no super user.
+#[tactic(auto, using(kob_words::proofs::Appending::appending))]
+fn push_held(
+    alloc: Global,
+    out: &mut Vec<u8>,
+    judge: &Judge,
+    principal: &Principal,
+    host: &Option<Host>,
+) -> Result<(), AllocError>
+    ensures { OnOk result
+        (out.new.items ≡ out.old.items ++ held_text judge.now principal.now host.now) }
+{
+    let found = rights(alloc, judge.authorizer(), principal, host)?;
+    push_each(out, host, found.as_slice())?;
+    out.extend_from_slice(open_text(judge.policy().everyone()).as_bytes())
+}
+
+/// The same, and what is remarked below it.
+#[tactic(auto, using(kob_words::proofs::Appending::appending, crate::proofs::Remarking::empty_since))]
+fn push_remarked(
+    alloc: Global,
+    out: &mut Vec<u8>,
+    judge: &Judge,
+    principal: &Principal,
+    host: &Option<Host>,
+) -> Result<(), AllocError>
+    ensures { OnOk result (out.new.items ≡ out.old.items ++ of_principal judge.now principal.now
+        (held_text judge.now principal.now host.now)) }
+{
+    let start = out.len();
+    push_held(alloc, out, judge, principal, host)?;
+    let is_empty = out.len() == start;
+    if judge.is_named(principal) {
+        push_none(out, is_empty)
+    } else {
+        push_no_binding(out, principal)
+    }
+}
+
 /// Prints what is granted to a principal, from one host or from each that counts: a line for each
 /// class of names, unless it is a super user.
-#[tactic(auto, using(kob_words::proofs::Appending::appending))]
 pub fn push_holdings(
     alloc: Global,
     out: &mut Vec<u8>,
@@ -143,7 +183,5 @@ pub fn push_holdings(
     if is_super(judge.policy().supers(), principal.as_str()) {
         return out.extend_from_slice(b"  All on every name, as a super user\n");
     }
-    let found = rights(alloc, judge.authorizer(), principal, host)?;
-    push_each(out, host, found.as_slice())?;
-    out.extend_from_slice(open_text(judge.policy().everyone()).as_bytes())
+    push_remarked(alloc, out, judge, principal, host)
 }

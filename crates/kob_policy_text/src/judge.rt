@@ -2,7 +2,7 @@
 
 ghost use Rattle.std.specs.Prelude.{◌≡◌, ◌≢◌, [], IfErr, IfOk, OnOk, Some, alloc_error};
 ghost use Rattle.kob_policy_text.specs.AtHand.{principals_named};
-ghost use Rattle.kob_policy_text.specs.Hints.{is_named, is_taken};
+ghost use Rattle.kob_policy_text.specs.Hints.{is_name_taken, is_named, is_taken};
 ghost use Rattle.kob_policy_text.specs.Taking.{taken_of};
 ghost use Rattle.kob_policy_text.specs.Policy.{added, closed, contents_of, deciding, is_yes, may};
 ghost use Rattle.kob_policy_text.specs.Policy.{open_fault, place_of, serials_of};
@@ -14,7 +14,7 @@ use crate::policy::Policy;
 use crate::serials::Serials;
 use crate::texts::Texts;
 use kob_authorizer::{Authorizer, CreateFault};
-use kob_names::{Items, Principal, Verdict};
+use kob_names::{Items, Principal, ResourceKind, Verdict};
 use std::alloc::{AllocError, Global};
 use std::marker::Model;
 
@@ -121,7 +121,14 @@ impl Judge {
     pub fn is_taken(&self, asked: &Asked<'_>) -> bool
         ensures { result ≡ is_taken self.now asked.now }
     {
-        self.patterns.take(asked.resource, asked.name)
+        self.is_name_taken(asked.resource, asked.name)
+    }
+
+    /// Whether the pattern of a binding takes a name. That of a binding that is left out counts.
+    pub fn is_name_taken(&self, resource: ResourceKind, name: &str) -> bool
+        ensures { result ≡ is_name_taken self.now resource name.now }
+    {
+        self.patterns.take(resource, name)
     }
 
     /// The serials of the bindings, in their order.

@@ -2,12 +2,13 @@
 
 ghost use Rattle.std.specs.Prelude.{◌≡◌, ◌++◌, OnOk, flat_map};
 ghost use Rattle.kob_policy_text.specs.Reaches.{asks_as_others, by_share, reach_from, reach_line};
-ghost use Rattle.kob_policy_text.specs.Reaches.{reach_text, reach_who, reaches_text};
+ghost use Rattle.kob_policy_text.specs.Reaches.{reach_text, reach_who, reached_text, reaches_text};
 
 use crate::at_hand::each_once;
 use crate::changes::push_party;
 use crate::judge::Judge;
 use crate::question::Right;
+use crate::remarks::push_none;
 use crate::who::push_supers;
 use kob_policy_review::{Reach, Share, names_all, who_below};
 use std::alloc::{AllocError, Global};
@@ -74,16 +75,16 @@ fn push_each(out: &mut Vec<u8>, found: &[Reach]) -> Result<(), AllocError>
     Ok(())
 }
 
-/// Prints super users, and then each principal and host that may do this on all names, or on some,
-/// that begin with the name of the right.
+/// Super users, and then each principal and host that may do this on all names, or on some, that
+/// begin with the name of the right.
 #[tactic(auto, using(kob_words::proofs::Appending::appending))]
-pub fn push_reaches(
+fn push_reached(
     alloc: Global,
     out: &mut Vec<u8>,
     judge: &Judge,
     right: &Right,
 ) -> Result<(), AllocError>
-    ensures { OnOk result (out.new.items ≡ out.old.items ++ reaches_text judge.now right.now) }
+    ensures { OnOk result (out.new.items ≡ out.old.items ++ reached_text judge.now right.now) }
 {
     let found = who_below(
         alloc,
@@ -95,4 +96,20 @@ pub fn push_reaches(
     let supers = each_once(alloc, judge.policy().supers())?;
     push_supers(out, supers.as_slice())?;
     push_each(out, found.as_slice())
+}
+
+/// Prints them, or that there are none.
+#[tactic(auto, using(kob_words::proofs::Appending::appending, crate::proofs::Remarking::empty_since))]
+pub fn push_reaches(
+    alloc: Global,
+    out: &mut Vec<u8>,
+    judge: &Judge,
+    right: &Right,
+) -> Result<(), AllocError>
+    ensures { OnOk result (out.new.items ≡ out.old.items ++ reaches_text judge.now right.now) }
+{
+    let start = out.len();
+    push_reached(alloc, out, judge, right)?;
+    let is_empty = out.len() == start;
+    push_none(out, is_empty)
 }

@@ -5,6 +5,7 @@ ghost use Rattle.kob_policy_text.specs.Review.{shadowed_line, shadowed_text};
 
 use crate::judge::Judge;
 use crate::printed::push_line_by;
+use crate::remarks::push_none;
 use kob_policy_review::shadowed;
 use std::alloc::{AllocError, Global};
 
@@ -27,10 +28,13 @@ fn push_each(out: &mut Vec<u8>, judge: &Judge, serials: &[u64]) -> Result<(), Al
 }
 
 /// Prints the allows that a deny beats wherever they bear on a question.
-#[tactic(auto, using(kob_words::proofs::Appending::appending))]
+#[tactic(auto, using(kob_words::proofs::Appending::appending, crate::proofs::Remarking::empty_since))]
 pub fn push_shadowed(alloc: Global, out: &mut Vec<u8>, judge: &Judge) -> Result<(), AllocError>
     ensures { OnOk result (out.new.items ≡ out.old.items ++ shadowed_text judge.now) }
 {
     let found = shadowed(alloc, judge.authorizer())?;
-    push_each(out, judge, &found)
+    let start = out.len();
+    push_each(out, judge, &found)?;
+    let is_empty = out.len() == start;
+    push_none(out, is_empty)
 }

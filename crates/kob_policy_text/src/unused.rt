@@ -6,6 +6,7 @@ ghost use Rattle.kob_policy_text.specs.Review.{unneeded_text, unused_text, why_t
 
 use crate::judge::Judge;
 use crate::printed::push_line_at;
+use crate::remarks::push_none;
 use kob_policy_review::{Reason, Unneeded, unused};
 use kob_words::push_number;
 use std::alloc::{AllocError, Global};
@@ -56,10 +57,13 @@ fn push_each(out: &mut Vec<u8>, judge: &Judge, found: &[Unneeded]) -> Result<(),
 }
 
 /// Prints the bindings without which, each taken alone, no answer at all changes, with the reason.
-#[tactic(auto, using(kob_words::proofs::Appending::appending))]
+#[tactic(auto, using(kob_words::proofs::Appending::appending, crate::proofs::Remarking::empty_since))]
 pub fn push_unused(alloc: Global, out: &mut Vec<u8>, judge: &Judge) -> Result<(), AllocError>
     ensures { OnOk result (out.new.items ≡ out.old.items ++ unused_text judge.now) }
 {
     let found = unused(alloc, judge.authorizer())?;
-    push_each(out, judge, &found)
+    let start = out.len();
+    push_each(out, judge, &found)?;
+    let is_empty = out.len() == start;
+    push_none(out, is_empty)
 }

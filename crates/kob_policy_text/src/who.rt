@@ -1,12 +1,13 @@
 //! Who may do what, and which topics a principal sees.
 
 ghost use Rattle.std.specs.Prelude.{◌≡◌, ◌++◌, IfOk, OnOk, codes, flat_map};
-ghost use Rattle.kob_policy_text.specs.Answers.{from_text, is_seen, seen_text, sees_text};
-ghost use Rattle.kob_policy_text.specs.Answers.{topic_text, topics_asked, who_line};
+ghost use Rattle.kob_policy_text.specs.Answers.{from_text, is_seen, seen_text, seen_texts};
+ghost use Rattle.kob_policy_text.specs.Answers.{sees_text, topic_text, who_line};
 ghost use Rattle.kob_policy_text.specs.Review.{grant_if_told, grant_line, granted_text, is_told};
 ghost use Rattle.kob_policy_text.specs.Parties.{super_grant};
 ghost use Rattle.kob_policy_text.specs.Quoted.{name_text};
-ghost use Rattle.kob_policy_text.specs.Review.{target_at, who_text};
+ghost use Rattle.kob_policy_text.specs.Remarks.{or_none, taking_text};
+ghost use Rattle.kob_policy_text.specs.Review.{target_at, who_list, who_text};
 ghost use Rattle.kob_policy_text.specs.Review.{consumers_text, grants_text, right_line};
 
 use crate::asked::Asked;
@@ -16,6 +17,7 @@ use crate::judge::Judge;
 use crate::printed::push_reason;
 use crate::question::{Asker, Right};
 use crate::quoted::push_name;
+use crate::remarks::{push_below_line, push_no_taker, push_none, push_taking};
 use kob_names::{Host, Operation, PlainValue, Principal, ResourceKind, Text};
 use kob_policy_review::{Answer, Names, Target, names_all, who};
 use kob_words::{operation_name, resource_name};
@@ -164,6 +166,56 @@ fn push_granted(
     push_grants(out, judge, found.as_slice())
 }
 
+/// The same, or that there are none.
+#[tactic(auto, using(kob_words::proofs::Appending::appending, crate::proofs::Remarking::empty_since))]
+fn push_granted_or_none(
+    alloc: Global,
+    out: &mut Vec<u8>,
+    judge: &Judge,
+    right: &Right,
+) -> Result<(), AllocError>
+    ensures { OnOk result
+        (out.new.items ≡ out.old.items ++ or_none (granted_text judge.now right.now)) }
+{
+    let start = out.len();
+    push_granted(alloc, out, judge, right)?;
+    let is_empty = out.len() == start;
+    push_none(out, is_empty)
+}
+
+/// The same, and what is remarked below it.
+#[tactic(auto, using(kob_words::proofs::Appending::appending))]
+fn push_who_list(
+    alloc: Global,
+    out: &mut Vec<u8>,
+    judge: &Judge,
+    right: &Right,
+) -> Result<(), AllocError>
+    ensures { OnOk result (out.new.items ≡ out.old.items ++ who_list judge.now right.now) }
+{
+    if judge.is_name_taken(right.resource, right.name.as_str()) {
+        return push_granted_or_none(alloc, out, judge, right);
+    }
+    push_granted(alloc, out, judge, right)?;
+    push_no_taker(alloc, out, judge, right)
+}
+
+/// The answer from one host, and what is remarked below it.
+#[tactic(auto, using(kob_words::proofs::Appending::appending))]
+fn push_from_one(
+    alloc: Global,
+    out: &mut Vec<u8>,
+    judge: &Judge,
+    right: &Right,
+    host: &Host,
+) -> Result<(), AllocError>
+    ensures { OnOk result (out.new.items ≡ out.old.items
+        ++ (from_text judge.now right.now host.now ++ taking_text judge.now right.now)) }
+{
+    push_from(alloc, out, judge, right, host)?;
+    push_taking(alloc, out, judge, right)
+}
+
 /// Prints who may do this: from every host, or the answer from one host to each principal.
 #[tactic(auto, using(kob_words::proofs::Appending::appending))]
 pub fn push_who(
@@ -177,8 +229,8 @@ pub fn push_who(
         (out.new.items ≡ out.old.items ++ who_text judge.now right.now host.now) }
 {
     match host {
-        Some(host) => push_from(alloc, out, judge, right, host),
-        None => push_granted(alloc, out, judge, right),
+        Some(host) => push_from_one(alloc, out, judge, right, host),
+        None => push_who_list(alloc, out, judge, right),
     }
 }
 
@@ -205,7 +257,7 @@ fn push_grants_of(
     ensures { OnOk result (out.new.items ≡ out.old.items ++ grants_text judge.now right.now) }
 {
     push_right_line(out, right)?;
-    push_granted(alloc, out, judge, right)
+    push_who_list(alloc, out, judge, right)
 }
 
 /// Prints who may read a topic, and then who may read as a group, each below the right.
@@ -270,7 +322,7 @@ fn push_asked(
     asker: &Asker,
 ) -> Result<(), AllocError>
     ensures { OnOk result (out.new.items ≡ out.old.items
-        ++ flat_map (seen_text judge.now asker.now) (topics_asked judge.now topics.now)) }
+        ++ seen_texts judge.now topics.now asker.now) }
 {
     match topics {
         [] => {
@@ -282,7 +334,7 @@ fn push_asked(
 }
 
 /// Which of the given topics an asker may describe, or of those that bindings name.
-#[tactic(auto, using(kob_words::proofs::Appending::appending))]
+#[tactic(auto, using(kob_words::proofs::Appending::appending, crate::proofs::Remarking::empty_since))]
 pub fn push_sees(
     alloc: Global,
     out: &mut Vec<u8>,
@@ -294,6 +346,9 @@ pub fn push_sees(
         ++ sees_text judge.now topics.now asker.now) }
 {
     out.extend_from_slice(b"  topics")?;
+    let start = out.len();
     push_asked(alloc, out, judge, topics, asker)?;
-    out.extend_from_slice(b"\n")
+    let is_empty = out.len() == start;
+    out.extend_from_slice(b"\n")?;
+    push_below_line(out, judge, &asker.principal, is_empty)
 }

@@ -1,0 +1,86 @@
+//! The nearest of the names of patterns to a name that no pattern takes.
+
+ghost use Rattle.std.specs.Prelude.{◌≡◌, IfOk, OnOk, fold};
+ghost use Rattle.kob_policy_text.specs.Nearest.{distance, is_compared, nearest_of, none_near};
+ghost use Rattle.kob_policy_text.specs.Nearest.{with_nearer};
+
+use kob_names::{PlainValue, Text};
+use std::alloc::{AllocError, Global};
+use strsim::osa_distance;
+
+/// The nearest of some names, and how many changes it needs; without one, the fewest changes that
+/// are too many.
+#[derive(Drop)]
+struct Nearest {
+    found: Option<Text>,
+    least: usize,
+}
+
+fn is_compared(name: &str) -> bool
+    ensures { result ≡ is_compared name.now }
+{
+    name.len() <= 64
+}
+
+#[tactic(auto, unfolding(crate::specs::Nearest::distance))]
+fn distance(alloc: Global, name: &str, other: &str) -> Result<usize, AllocError>
+    ensures { IfOk result (λ changes. changes ≡ distance name.now other.now) }
+{
+    osa_distance(alloc, name, other)
+}
+
+impl Nearest {
+    /// None yet.
+    fn new(name: &str) -> Nearest
+        ensures { result ≡ none_near name.now }
+    {
+        Nearest {
+            found: None,
+            least: (name.len() / 3).max(1) + 1,
+        }
+    }
+
+    /// Takes another name into account.
+    fn add(&mut self, alloc: Global, name: &str, other: &Text) -> Result<(), AllocError>
+        ensures { OnOk result (self.new ≡ with_nearer name.now self.old other.now) }
+    {
+        if !is_compared(other.as_str()) {
+            return Ok(());
+        }
+        let changes = distance(alloc, name, other.as_str())?;
+        if changes < self.least {
+            self.found = Some(other.copy(alloc)?);
+            self.least = changes;
+        }
+        Ok(())
+    }
+
+    #[tactic(auto, using(std::proofs::lemmas::List::Sums::fold_more))]
+    fn add_all(&mut self, alloc: Global, name: &str, others: &[Text]) -> Result<(), AllocError>
+        ensures { OnOk result (self.new ≡ fold (with_nearer name.now) self.old others.now) }
+    {
+        for other in others {
+            self.add(alloc, name, other)?;
+        }
+        Ok(())
+    }
+}
+
+/// The name among others that the fewest changes make of a name: one, or no more than a third of its
+/// bytes. The first of several. A change is a character more, less or another, or two side by side
+/// the other way round. Names of more than 64 bytes are not compared.
+pub fn nearest_of(alloc: Global, name: &str, others: &[Text]) -> Result<Option<Text>, AllocError>
+    ensures { IfOk result (λ found. found ≡ nearest_of name.now others.now) }
+{
+    if !is_compared(name) {
+        return Ok(None);
+    }
+    let mut nearest = Nearest::new(name);
+    match nearest.add_all(alloc, name, others) {
+        Ok(()) => Ok(nearest.found),
+        Err(refused) => {
+            drop(nearest);
+            Err(refused)
+        }
+    }
+}
