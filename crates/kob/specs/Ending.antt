@@ -1,5 +1,9 @@
 -- The exit status: 0 where all was done, 1 for a fault, 2 out of memory, 3 where answers differ.
-use Rattle.std.specs.Prelude.{ℕ, Bool, true, false, List, [], ◌∷◌, Result, Ok, Err}
+use Rattle.std.specs.Prelude.{◌≡◌, ◌≢◌, ◌⊎◌, ℕ, Bool, true, false, List, [], ◌∷◌, Result, Ok, Err}
+use Rattle.std.specs.IoError.{Error, error_kind}
+use Rattle.std.specs.declared.io.ErrorKind.TheVariants as kind
+use Rattle.kob.specs.declared.input.InputFault.{InputFault}
+use Rattle.kob.specs.declared.input.InputFault.TheVariants as input
 use Rattle.kob.specs.declared.ending.Ending.{Ending}
 use Rattle.kob.specs.declared.ending.Ending.TheVariants.{Whole, Differs, Failed, OutOfMemory}
 use Rattle.kob_scene_play.specs.declared.fault.PlayFault.{PlayFault}
@@ -52,3 +56,15 @@ ending_of_answers false = Whole
 abbrev pub ending_of_changes : {A : Type 0} → List A → Ending
 ending_of_changes [] = Whole
 ending_of_changes (first ∷ rest) = Differs
+
+-- What the system refused, for want of memory or not, ends so.
+abbrev pub EndsRefused : Error → Ending → Type 0
+EndsRefused error ending =
+    ((error_kind error ≡ kind.OutOfMemory) × (ending ≡ OutOfMemory))
+    ⊎ ((error_kind error ≢ kind.OutOfMemory) × (ending ≡ Failed))
+
+-- A text that was not read ends so.
+abbrev pub EndsUnread : InputFault → Ending → Type 0
+EndsUnread (input.Failed error) ending = EndsRefused error ending
+EndsUnread input.SceneTooLong ending = ending ≡ Failed
+EndsUnread input.ListTooLong ending = ending ≡ Failed

@@ -4,4 +4,5 @@ pub mod Connect
 pub mod Ending
 pub mod Export
 pub mod Input
+pub mod Options
 pub mod Standing

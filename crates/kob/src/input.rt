@@ -1,7 +1,7 @@
 //! A text, read whole from a file or from standard input, which is called `-`.
 
-ghost use Rattle.std.specs.Prelude.{◌≡◌, ◌≤◌, length, IfOk, IfSome};
-ghost use Rattle.kob.specs.Input.{limit_of};
+ghost use Rattle.std.specs.Prelude.{◌≡◌, ◌≤◌, ◌↔◌, length, true, IfOk, IfSome};
+ghost use Rattle.kob.specs.Input.{IsMissing, limit_of, too_long};
 
 use std::alloc::Global;
 use std::fs;
@@ -29,7 +29,9 @@ impl Kind {
         }
     }
 
-    fn too_long(self) -> InputFault {
+    fn too_long(self) -> InputFault
+        ensures { result ≡ too_long self }
+    {
         match self {
             Kind::Scene => InputFault::SceneTooLong,
             Kind::List => InputFault::ListTooLong,
@@ -50,7 +52,9 @@ pub enum InputFault {
 
 impl InputFault {
     /// Whether there is no such file.
-    pub fn is_missing(&self) -> bool {
+    pub fn is_missing(&self) -> bool
+        ensures { (result ≡ true) ↔ IsMissing self.now }
+    {
         match self {
             InputFault::Failed(error) => error.kind() == ErrorKind::NotFound,
             InputFault::SceneTooLong | InputFault::ListTooLong => false,

@@ -1,5 +1,9 @@
 //! The words of the command line, read by `clap`.
 
+ghost use Rattle.std.specs.Prelude.{◌≡◌};
+ghost use Rattle.std.specs.Option.{option_map};
+ghost use Rattle.kob.specs.Options.{database_named, export_form_by, form_by};
+
 use crate::connect::Database;
 use crate::help::{HELP, HELP_EXPORT, HELP_PLAY, HELP_TOPIC};
 use crate::policy_options::command as policy_command;
@@ -151,27 +155,41 @@ fn task_in(alloc: Global, matches: &ArgMatches<'_>) -> Result<Task, AllocError> 
 
 /// The form of the answers that is asked for.
 fn form_in(matches: &ArgMatches<'_>) -> Option<Form> {
-    if matches.get_flag("json") {
-        Some(Form::Json)
-    } else if matches.get_flag("trace") {
-        Some(Form::Trace)
-    } else {
-        None
+    form_by(matches.get_flag("json"), matches.get_flag("trace"))
+}
+
+/// The form by the options that are given, of which not both can be.
+fn form_by(is_json: bool, is_traced: bool) -> Option<Form>
+    ensures { result ≡ form_by is_json is_traced }
+{
+    match (is_json, is_traced) {
+        (true, _) => Some(Form::Json),
+        (false, true) => Some(Form::Trace),
+        (false, false) => None,
     }
 }
 
 /// What an export is to print.
 fn export_form_in(matches: &ArgMatches<'_>) -> ExportForm {
-    if let Some(name) = matches.get_str("connect") {
-        ExportForm::Connect(database_named(name))
-    } else if let Some(name) = matches.get_str("table") {
-        ExportForm::Table(database_named(name))
-    } else {
-        ExportForm::Commands
+    export_form_by(matches.get_str("connect"), matches.get_str("table"))
+}
+
+/// What is printed by the databases that the options name, of which not both can be given.
+fn export_form_by(connect: Option<&str>, table: Option<&str>) -> ExportForm
+    ensures { result ≡ export_form_by (option_map (λ name. name.now) connect.entry)
+        (option_map (λ name. name.now) table.entry) }
+{
+    match (connect, table) {
+        (Some(name), _) => ExportForm::Connect(database_named(name)),
+        (None, Some(name)) => ExportForm::Table(database_named(name)),
+        (None, None) => ExportForm::Commands,
     }
 }
 
-fn database_named(name: &str) -> Database {
+/// `clap` takes no other name than these two.
+fn database_named(name: &str) -> Database
+    ensures { result ≡ database_named name.now }
+{
     if name == "mysql" {
         Database::Mysql
     } else {

@@ -131,26 +131,29 @@ fn report_play<R: AllocGlobal + Eprint>(
 }
 
 /// Says which name has quotes that a shell would have removed.
-fn say_quotes(rt: &impl Eprint, name: &str, text: &[u8]) {
+fn say_quotes<R: AllocGlobal + Eprint>(rt: &R, name: &str, text: &[u8]) {
     if let Some((line, word)) = quoted_name(text) {
-        if let Ok(word) = str::from_utf8(word) {
-            report::quoted(rt, name, line, word);
-        }
+        report::quoted(rt, name, line, word);
     }
 }
 
 /// Says which record has a state that is the word of a variant.
-fn say_state(rt: &impl Eprint, name: &str, text: &[u8]) {
-    if let Some((line, word)) = doubtful_state(text) {
+fn say_state<R: AllocGlobal + Eprint>(rt: &R, name: &str, text: &[u8]) {
+    if let Ok(Some((line, word))) = doubtful_state(rt.alloc(), text) {
         report::doubtful(rt, name, line, word);
     }
 }
 
 /// Says which line has a fault, which word of it is wrong, and what was expected.
 fn say_fault<R: AllocGlobal + Eprint>(rt: &R, name: &str, text: &[u8], fault: SceneFault) {
-    let _ = eprintln!(rt; "kob: {name}: {fault}");
-    if let Ok(mistake) = mistake_in(rt.alloc(), text, fault) {
-        let _ = report::mistake(rt, &mistake);
+    match mistake_in(rt.alloc(), text, fault) {
+        Ok(mistake) => {
+            report::fault(rt, name, fault, &mistake);
+            let _ = report::mistake(rt, &mistake);
+        }
+        Err(_) => {
+            let _ = eprintln!(rt; "kob: {name}: {fault}");
+        }
     }
 }
 

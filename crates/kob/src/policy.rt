@@ -1,6 +1,9 @@
 //! Questions about lists of bindings: one list with its questions, or two lists and what changes
 //! from one to the other.
 
+ghost use Rattle.std.specs.Prelude.{◌≡◌};
+ghost use Rattle.kob.specs.Options.{table_asked, tables_asked};
+
 use crate::ending::Ending;
 use crate::logs::answer_logs;
 use crate::policy_answers::{lead, push_answers, push_heading, push_review};
@@ -11,7 +14,7 @@ use crate::running::say;
 use crate::source::questions_in;
 use crate::stages::Stages;
 use kob_policy_rows::is_table;
-use kob_policy_text::{Judge, Questions, read_questions, read_topics};
+use kob_policy_text::{Judge, Query, Question, Questions, read_questions, read_topics};
 use std::alloc::AllocError;
 use std::io::{self, Write};
 use std::rt::{Clock, Files};
@@ -49,10 +52,12 @@ fn answer_parts<R: AllocGlobal + Clock + Files + Input + Print + Eprint>(
     }
 }
 
-fn reported(rt: &impl Eprint, ending: Ending) -> Ending {
+fn reported(rt: &impl Eprint, ending: Ending) -> Ending
+    ensures { result ≡ ending }
+{
     match ending {
         Ending::OutOfMemory => report::out_of_memory(rt, "policy"),
-        _ => ending,
+        Ending::Whole | Ending::Differs | Ending::Failed => ending,
     }
 }
 
@@ -103,16 +108,46 @@ fn unless_one_table<R: AllocGlobal + Eprint>(
     options: &Options,
     questions: &Questions,
 ) -> Result<(), Stop> {
-    match questions.asked() {
-        [] if !options.before.is_empty() => Ok(()),
-        [query] if options.before.is_empty() => {
-            if is_table(&query.question) {
-                Ok(())
-            } else {
-                Err(Stop(report::no_table(rt, query.text.as_slice())))
-            }
+    let asked = questions.asked();
+    match tables_asked(asked, !options.before.is_empty()) {
+        Tables::One => Ok(()),
+        Tables::Not => {
+            let text = asked
+                .first()
+                .map_or(b"".as_slice(), |query| query.text.as_slice());
+            Err(Stop(report::no_table(rt, text)))
         }
-        _ => Err(Stop(report::several_tables(rt))),
+        Tables::Several => Err(Stop(report::several_tables(rt))),
+    }
+}
+
+/// What is asked beside `--csv`.
+#[derive(Clone, Copy, Debug, PartialEq, Eq)]
+enum Tables {
+    One,
+    /// An answer that is no table.
+    Not,
+    Several,
+}
+
+/// One question has a table, or none; what changes is a table, beside which nothing is asked.
+fn tables_asked(asked: &[Query], is_compared: bool) -> Tables
+    ensures { result ≡ tables_asked asked.now is_compared }
+{
+    match asked {
+        [] if is_compared => Tables::One,
+        [query] if !is_compared => table_asked(&query.question),
+        _ => Tables::Several,
+    }
+}
+
+fn table_asked(question: &Question) -> Tables
+    ensures { result ≡ table_asked question.now }
+{
+    if is_table(question) {
+        Tables::One
+    } else {
+        Tables::Not
     }
 }
 

@@ -8,7 +8,7 @@ use crate::report;
 use crate::source::{Source, say_fault};
 use crate::stages::Stages;
 use kob_authorizer::CreateFault;
-use kob_mistakes::{Lines, begins_question, nearest_question};
+use kob_mistakes::{Lines, Meant, meant_by};
 use kob_names::Text;
 use kob_policy_text::{Judge, Policy, read_file};
 use kob_script::ScriptError;
@@ -33,22 +33,20 @@ pub(crate) fn list_of<R: AllocGlobal + Files + Input + Eprint>(
 ) -> Result<Vec<u8>, Stop> {
     match text_of(rt, Kind::List, file) {
         Ok(text) => Ok(text),
-        Err(fault) => {
-            let ending = report::unread(rt, file, &fault);
-            say_question(rt, file, &fault);
-            Err(Stop(ending))
-        }
+        Err(fault) => Err(Stop(say_unread(rt, file, &fault))),
     }
 }
 
-/// Says which question the name of a file that was not read may be.
-fn say_question<R: AllocGlobal + Eprint>(rt: &R, file: &str, fault: &InputFault) {
-    if begins_question(file.as_bytes()) || file == "log" {
-        report::unquoted(rt, file);
-    } else if fault.is_missing() {
-        if let Ok(Some((name, is_alone))) = nearest_question(rt.alloc(), file) {
-            report::misspelt(rt, name, is_alone);
+/// Reports a file that was not read, or the question that its name may be.
+fn say_unread<R: AllocGlobal + Eprint>(rt: &R, file: &str, fault: &InputFault) -> Ending {
+    match meant_by(rt.alloc(), file, fault.is_missing()) {
+        Ok(Meant::Misspelt(kind)) => report::misspelt(rt, file, kind),
+        Ok(Meant::Words) => {
+            let ending = report::unread(rt, file, fault);
+            report::unquoted(rt, file);
+            ending
         }
+        Ok(Meant::File) | Err(_) => report::unread(rt, file, fault),
     }
 }
 

@@ -1,5 +1,8 @@
 //! The options of `kob policy`, read by `clap`.
 
+ghost use Rattle.std.specs.Prelude.{◌≡◌};
+ghost use Rattle.kob.specs.Options.{answer_form_by, is_alone, is_question};
+
 use crate::help::HELP_POLICY;
 use crate::options::{values_of, with_arg};
 use clap::{Arg, ArgAction, ArgMatches, Command, Error};
@@ -151,17 +154,30 @@ fn options_in(alloc: Global, matches: &ArgMatches<'_>) -> Result<Options, AllocE
 }
 
 fn form_in(matches: &ArgMatches<'_>) -> AnswerForm {
-    if matches.get_flag("json") {
-        AnswerForm::Json
-    } else if matches.get_flag("csv") {
-        AnswerForm::Csv
-    } else {
-        AnswerForm::Words
+    answer_form_by(matches.get_flag("json"), matches.get_flag("csv"))
+}
+
+/// The form by the options that are given, of which not both can be.
+fn answer_form_by(is_json: bool, is_csv: bool) -> AnswerForm
+    ensures { result ≡ answer_form_by is_json is_csv }
+{
+    match (is_json, is_csv) {
+        (true, _) => AnswerForm::Json,
+        (false, true) => AnswerForm::Csv,
+        (false, false) => AnswerForm::Words,
     }
 }
 
 /// Whether a word of the command line is a question: it has a blank, or is a question of one word.
 /// Any other word names a list.
-fn is_question(word: &str) -> bool {
-    word.contains(' ') || matches!(word, "unused" | "shadowed" | "removable" | "summary")
+fn is_question(word: &str) -> bool
+    ensures { result ≡ is_question word.now }
+{
+    word.as_bytes().contains(&b' ') || is_alone(word)
+}
+
+fn is_alone(word: &str) -> bool
+    ensures { result ≡ is_alone word.now }
+{
+    word == "unused" || word == "shadowed" || word == "removable" || word == "summary"
 }

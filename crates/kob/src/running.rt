@@ -1,6 +1,6 @@
 //! What the command line asks for, done.
 
-ghost use Rattle.std.specs.Prelude.{◌≡◌};
+ghost use Rattle.std.specs.Prelude.{◌≡◌, ◌≢◌, ◌↔◌, true};
 ghost use Rattle.kob.specs.Input.{default_form};
 
 use crate::ending::Ending;
@@ -99,8 +99,17 @@ fn show<R: Print + Eprint>(rt: &R, text: &str) -> Ending {
 /// Prints the help, or what is wrong with the words.
 pub fn say<R: Print + Eprint>(rt: &R, refused: &Error) -> Ending {
     let printed = refused.print(rt);
-    match refused.kind() {
-        ErrorKind::DisplayHelp if printed.is_ok() => Ending::Whole,
+    ending_of_words(refused.kind(), printed.is_ok())
+}
+
+/// How words end that name no task: with the page of help that they ask for, if it was printed.
+fn ending_of_words(kind: ErrorKind, is_printed: bool) -> Ending
+    ensures help { (result ≡ Ending.Whole) ↔ ((kind ≡ ErrorKind.DisplayHelp) × (is_printed ≡ true)) }
+    ensures memory { (result ≡ Ending.OutOfMemory) ↔ (kind ≡ ErrorKind.OutOfMemory) }
+    ensures others { result ≢ Ending.Differs }
+{
+    match kind {
+        ErrorKind::DisplayHelp if is_printed => Ending::Whole,
         ErrorKind::OutOfMemory => Ending::OutOfMemory,
         _ => Ending::Failed,
     }

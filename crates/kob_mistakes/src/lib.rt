@@ -3,22 +3,29 @@
 #![tactic(auto)]
 
 mod hint;
+mod kinds;
 mod listed;
 mod mistake;
+mod misused;
 mod option;
 mod place;
 mod question;
+mod question_place;
 mod quotes;
 mod record;
 mod rows;
 mod spelling;
+mod told;
 mod usage;
 mod words;
 mod worker;
 
 pub use hint::{hint_on, quoted_name};
+pub use kinds::{Kind, Meant, begins_question, meant_by};
 pub use mistake::{Mistake, mistake_in};
+pub use misused::push_misused;
 pub use place::word_place;
-pub use question::{Lines, begins_question, line_mistake, nearest_question};
+pub use question::{Lines, line_mistake};
 pub use record::doubtful_state;
 pub use spelling::nearest;
+pub use told::{push_doubtful, push_misspelt, push_quoted, push_unquoted};

@@ -1,15 +1,19 @@
 //! A fault of a scene or a script, as a person is told of it.
 
+ghost use Rattle.std.specs.Prelude.{◌≡◌, IfOk, map};
+ghost use Rattle.kob_scene_text.specs.Misuses.{misuse_at};
+ghost use Rattle.kob_script.specs.Script.{line_words};
+
 use crate::hint::hint_on;
 use crate::place::word_place;
 use crate::record::{before_ending, hint_on_record};
-use crate::spelling::nearest;
-use crate::usage::{form_of, names_at};
+use crate::spelling::{nearest, unless_same};
+use crate::usage::{LAW_FORM, form_of, names_at};
 use crate::words::{escape_place, raw_words};
-use crate::worker::{WorkerKind, declared_by, hint_on_worker, stepping_at};
+use crate::worker::{WorkerKind, declared_by, stepping_at};
 use bstr::ByteSlice;
 use kob_names::Text;
-use kob_scene_text::{SceneFault, SceneFaultKind};
+use kob_scene_text::{Misuse, SceneFault, SceneFaultKind, misuse_at};
 use kob_script::{FaultKind, LineError, words_of};
 use std::alloc::{AllocError, Global};
 
@@ -24,6 +28,8 @@ pub struct Mistake<'a> {
     pub form: &'static str,
     /// The nearest word that exists, if the word is misspelt.
     pub nearest: Option<Text>,
+    /// What the word is, if its line means it otherwise.
+    pub misuse: Option<Misuse>,
     pub hint: Option<&'static str>,
 }
 
@@ -39,19 +45,42 @@ pub fn mistake_in<'a>(
     let place = place_of(alloc, before, line, &words, fault.kind)?;
     let stepping = stepping_at(alloc, before, &words, place)?;
     let nearest = nearest_at(alloc, text, &words, place, fault.kind, stepping)?;
-    let hint = match words.get(place) {
-        Some(word) => hint_on_worker(alloc, before, word, fault.kind)?,
-        None => None,
-    };
+    let misuse = misuse_in(alloc, before, line, place, fault.kind)?;
     Ok(Mistake {
-        form: form_of(&words, stepping),
-        hint: hint
-            .or(hint_on_record(&words, place))
-            .or(hint_on(text, line, words.len())),
+        form: form_by(fault.kind, &words, stepping),
+        hint: hint_on_record(&words, place).or(hint_on(text, line, words.len())),
+        misuse,
         words,
         place,
         nearest,
     })
+}
+
+/// What the word at a place is, if its line means it otherwise.
+fn misuse_in(
+    alloc: Global,
+    before: &[&[u8]],
+    line: &[u8],
+    place: usize,
+    kind: SceneFaultKind,
+) -> Result<Option<Misuse>, AllocError>
+    ensures { IfOk result (λ misuse. misuse
+        ≡ misuse_at (map (λ line. line.now) before.now) (line_words line.now) kind place) }
+{
+    match words_of(alloc, line) {
+        Ok(words) => misuse_at(alloc, before, &words, kind, place),
+        Err(LineError::Memory(refused)) => Err(refused),
+        Err(LineError::Fault(_)) => Ok(None),
+    }
+}
+
+/// The form of a line with a fault of this kind. Of a law that does not speak of a worker it says of
+/// which workers it does.
+fn form_by(kind: SceneFaultKind, words: &[&[u8]], stepping: Option<WorkerKind>) -> &'static str {
+    match kind {
+        SceneFaultKind::NoLaw => LAW_FORM,
+        _ => form_of(words, stepping),
+    }
 }
 
 /// The lines of a text up to that of a number, counted from 1.
@@ -129,10 +158,7 @@ fn nearest_at(
         SceneFaultKind::UnknownWorker => workers_of(alloc, text)?,
         _ => names_at(alloc, words, place, stepping)?,
     };
-    match nearest(alloc, word, &names)? {
-        Some(name) if name != word => Ok(Some(Text::copied(alloc, name)?)),
-        _ => Ok(None),
-    }
+    Ok(unless_same(nearest(alloc, word, &names)?, word))
 }
 
 /// The names of the workers that a text declares.

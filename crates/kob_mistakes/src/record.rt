@@ -1,7 +1,15 @@
 //! Records of which a word is missing.
 
-use crate::words::is_blank;
-use bstr::ByteSlice;
+ghost use Rattle.std.specs.Prelude.{◌≡◌, IfOk, codes, map};
+ghost use Rattle.std.specs.List.{list_any};
+ghost use Rattle.std.specs.Option.{option_map};
+ghost use Rattle.kob_mistakes.specs.Lines.{line_where};
+ghost use Rattle.kob_mistakes.specs.Records.{are_of_variant, are_with_state, doubtful_line};
+ghost use Rattle.kob_mistakes.specs.Records.{doubtful_state, ending_named, ending_word};
+ghost use Rattle.kob_mistakes.specs.Records.{is_of_variant, is_with_state, variant_word, word_is};
+
+use crate::words::{lines_of, raw_words};
+use std::alloc::{AllocError, Global};
 
 /// What is missing of a record that has so many words behind `record`.
 static MISSING: [&str; 8] = [
@@ -16,28 +24,52 @@ static MISSING: [&str; 8] = [
 ];
 
 /// A word that may stand behind the state of a record, where its service is a variant.
-struct Ending {
-    word: &'static str,
-    /// The first word of the variant in the service's declaration.
-    variant: &'static str,
-    hint: &'static str,
+#[derive(Clone, Copy, Debug, PartialEq, Eq)]
+enum Ending {
+    /// Of a service that is declared `separate`.
+    Crash,
+    /// Of a service that is declared `visible late`.
+    Late,
 }
 
-static ENDINGS: [Ending; 2] = [
-    Ending {
-        word: "crash",
-        variant: "separate",
-        hint: "crash needs a service that is declared separate",
-    },
-    Ending {
-        word: "late",
-        variant: "visible",
-        hint: "late needs a service that is declared visible late",
-    },
-];
+impl Ending {
+    fn word(self) -> &'static str
+        ensures { result.now ≡ ending_word self }
+    {
+        match self {
+            Ending::Crash => "crash",
+            Ending::Late => "late",
+        }
+    }
 
-fn ending_named(word: &[u8]) -> Option<&'static Ending> {
-    ENDINGS.iter().find(|ending| ending.word.as_bytes() == word)
+    /// The first word of the variant in the service's declaration.
+    fn variant(self) -> &'static str
+        ensures { result.now ≡ variant_word self }
+    {
+        match self {
+            Ending::Crash => "separate",
+            Ending::Late => "visible",
+        }
+    }
+
+    fn hint(self) -> &'static str {
+        match self {
+            Ending::Crash => "crash needs a service that is declared separate",
+            Ending::Late => "late needs a service that is declared visible late",
+        }
+    }
+}
+
+fn ending_named(word: &[u8]) -> Option<Ending>
+    ensures { result ≡ ending_named word.now }
+{
+    if word == b"crash".as_slice() {
+        Some(Ending::Crash)
+    } else if word == b"late".as_slice() {
+        Some(Ending::Late)
+    } else {
+        None
+    }
 }
 
 /// The place of the word that is wrong, if it is one of a record. Where the last words are missing,
@@ -69,48 +101,89 @@ pub(crate) fn hint_on_record(words: &[&[u8]], place: usize) -> Option<&'static s
 
 fn missing_before(word: &[u8], missing: Option<&'static str>) -> Option<&'static str> {
     let ending = ending_named(word)?;
-    missing.or(Some(ending.hint))
+    missing.or(Some(ending.hint()))
 }
 
 /// The first line of a scene, counted from 1, with a record whose state is a word that services of
 /// the scene may have behind the state, and this word: a word before it may be missing. It is no
 /// fault.
-pub fn doubtful_state(text: &[u8]) -> Option<(u64, &'static str)> {
-    for ending in ENDINGS.iter() {
-        if text.lines().any(|line| declares(line, ending.variant)) {
-            if let Some(number) = line_with_state(text, ending.word) {
-                return Some((number, ending.word));
-            }
-        }
+pub fn doubtful_state(alloc: Global, text: &[u8]) -> Result<Option<(u64, &'static str)>, AllocError>
+    ensures { IfOk result (λ found. option_map (λ one. (one.0, one.1.now)) found
+        ≡ doubtful_state text.now) }
+{
+    let lines = lines_of(alloc, text)?;
+    if let Some(number) = doubtful_line(alloc, &lines, Ending::Crash)? {
+        return Ok(Some((number, "crash")));
     }
-    None
+    match doubtful_line(alloc, &lines, Ending::Late)? {
+        Some(number) => Ok(Some((number, "late"))),
+        None => Ok(None),
+    }
 }
 
-fn line_with_state(text: &[u8], state: &str) -> Option<u64> {
-    let mut number: u64 = 0;
-    for line in text.lines() {
-        number = number.saturating_add(1);
-        if ends_with_state(line, state) {
-            return Some(number);
-        }
+/// The number of the first line with a record whose state may be meant as this word behind it.
+fn doubtful_line(alloc: Global, lines: &[&[u8]], ending: Ending) -> Result<Option<u64>, AllocError>
+    ensures { IfOk result (λ number.
+        number ≡ doubtful_line (map (λ line. line.now) lines.now) ending) }
+{
+    if !have_variant(alloc, lines, ending.variant())? {
+        return Ok(None);
     }
-    None
-}
-
-/// Whether a line is a record whose last word is this state.
-fn ends_with_state(line: &[u8], state: &str) -> bool {
-    let mut words = line
-        .split(|byte| is_blank(*byte))
-        .filter(|word| !word.is_empty());
-    words.nth(1) == Some(b"record".as_slice())
-        && words.nth(7) == Some(state.as_bytes())
-        && words.next().is_none()
+    line_with_state(alloc, lines, ending.word())
 }
 
 /// Whether a line declares a service that is such a variant.
-fn declares(line: &[u8], variant: &str) -> bool {
-    let mut words = line
-        .split(|byte| is_blank(*byte))
-        .filter(|word| !word.is_empty());
-    words.next() == Some(b"service".as_slice()) && words.nth(5) == Some(variant.as_bytes())
+fn have_variant(alloc: Global, lines: &[&[u8]], variant: &str) -> Result<bool, AllocError>
+    ensures { IfOk result (λ have.
+        have ≡ list_any (is_of_variant variant.now) (map (λ line. line.now) lines.now)) }
+{
+    for line in lines {
+        let words = raw_words(alloc, line)?;
+        if are_of_variant(&words, variant) {
+            return Ok(true);
+        }
+    }
+    Ok(false)
+}
+
+#[tactic(auto, using(crate::proofs::Walking::goes_on, crate::proofs::Walking::stops, crate::proofs::Walking::ends))]
+fn line_with_state(alloc: Global, lines: &[&[u8]], state: &str) -> Result<Option<u64>, AllocError>
+    ensures { IfOk result (λ number.
+        number ≡ line_where (is_with_state state.now) 1 (map (λ line. line.now) lines.now)) }
+{
+    let mut number: u64 = 1;
+    for line in lines {
+        let words = raw_words(alloc, line)?;
+        if are_with_state(&words, state) {
+            return Ok(Some(number));
+        }
+        number += 1;
+    }
+    Ok(None)
+}
+
+/// Whether a word stands at a place.
+#[tactic(auto, using(crate::proofs::Walking::lent_at))]
+fn word_is(words: &[&[u8]], place: usize, text: &[u8]) -> bool
+    ensures { result ≡ word_is (map (λ word. word.now) words.now) place text.now }
+{
+    match words.get(place) {
+        Some(word) => *word == text,
+        None => false,
+    }
+}
+
+/// Whether words are a record whose last word is this state.
+#[tactic(auto, using(crate::proofs::Walking::lent_length))]
+fn are_with_state(words: &[&[u8]], state: &str) -> bool
+    ensures { result ≡ are_with_state state.now (map (λ word. word.now) words.now) }
+{
+    words.len() == 10 && word_is(words, 1, b"record") && word_is(words, 9, state.as_bytes())
+}
+
+/// Whether words declare a service that is such a variant.
+fn are_of_variant(words: &[&[u8]], variant: &str) -> bool
+    ensures { result ≡ are_of_variant variant.now (map (λ word. word.now) words.now) }
+{
+    word_is(words, 0, b"service") && word_is(words, 6, variant.as_bytes())
 }

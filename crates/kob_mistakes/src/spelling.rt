@@ -1,45 +1,111 @@
 //! The nearest name to a misspelt word.
 
-use std::alloc::{AllocError, Global};
-use strsim::damerau_levenshtein;
+ghost use Rattle.std.specs.Prelude.{◌≡◌, IfOk, OnOk, fold, map};
+ghost use Rattle.std.specs.Char.{to_ascii_lowercase};
+ghost use Rattle.std.specs.String.{string_bytes};
+ghost use Rattle.kob_mistakes.specs.Spelling.{changes_to, distance, is_compared, nearest};
+ghost use Rattle.kob_mistakes.specs.Spelling.{none_near, unless_same, with_nearer};
 
-/// Words of more bytes have no nearest name.
-const LONGEST: usize = 64;
+use kob_names::Text;
+use std::alloc::{AllocError, Global};
+use strsim::osa_distance;
+
+fn is_compared(word: &str) -> bool
+    ensures { result ≡ is_compared word.now }
+{
+    word.len() <= 64
+}
+
+fn lowered(alloc: Global, text: &str) -> Result<String, AllocError>
+    ensures { IfOk result (λ made. string_bytes made ≡ map to_ascii_lowercase text.now) }
+{
+    text.to_ascii_lowercase(alloc)
+}
+
+#[tactic(auto, unfolding(crate::specs::Spelling::distance))]
+fn distance(alloc: Global, word: &str, other: &str) -> Result<usize, AllocError>
+    ensures { IfOk result (λ changes. changes ≡ distance word.now other.now) }
+{
+    osa_distance(alloc, word, other)
+}
+
+fn changes_to(alloc: Global, word: &str, name: &str) -> Result<usize, AllocError>
+    ensures { IfOk result (λ changes. changes ≡ changes_to word.now name.now) }
+{
+    let word = lowered(alloc, word)?;
+    let name = lowered(alloc, name)?;
+    distance(alloc, word.as_str(), name.as_str())
+}
+
+/// The nearest of some names, and how many changes it needs; without one, the fewest changes that
+/// are too many.
+#[derive(Drop)]
+struct Found {
+    name: Option<Text>,
+    least: usize,
+}
+
+impl Found {
+    fn new(word: &str) -> Found
+        ensures { result ≡ none_near word.now }
+    {
+        Found {
+            name: None,
+            least: (word.len() / 3).max(1) + 1,
+        }
+    }
+
+    /// Takes another name into account.
+    fn add(&mut self, alloc: Global, word: &str, name: &str) -> Result<(), AllocError>
+        ensures { OnOk result (self.new ≡ with_nearer word.now self.old name.now) }
+    {
+        if !is_compared(name) {
+            return Ok(());
+        }
+        let changes = changes_to(alloc, word, name)?;
+        if changes < self.least {
+            self.name = Some(Text::copied(alloc, name)?);
+            self.least = changes;
+        }
+        Ok(())
+    }
+
+    fn add_all(&mut self, alloc: Global, word: &str, names: &[&str]) -> Result<(), AllocError>
+        ensures { OnOk result (self.new
+            ≡ fold (with_nearer word.now) self.old (map (λ name. name.now) names.now)) }
+    {
+        for name in names {
+            self.add(alloc, word, name)?;
+        }
+        Ok(())
+    }
+}
 
 /// The name that is nearest to a word in any ASCII case, the first of several. None if none is near:
 /// if more than a third of the word's bytes, and more than one, have to be changed, added, taken out
-/// or swapped.
-pub fn nearest<'a>(
-    alloc: Global,
-    word: &str,
-    names: &[&'a str],
-) -> Result<Option<&'a str>, AllocError> {
-    if word.len() > LONGEST {
+/// or swapped. Words of more than 64 bytes are not compared.
+pub fn nearest(alloc: Global, word: &str, names: &[&str]) -> Result<Option<Text>, AllocError>
+    ensures { IfOk result (λ name. name ≡ nearest word.now (map (λ name. name.now) names.now)) }
+{
+    if !is_compared(word) {
         return Ok(None);
     }
-    let lowered = lowered(alloc, word)?;
-    let mut found = None;
-    let mut least = (word.len() / 3).max(1);
-    for name in names {
-        if name.len() > LONGEST {
-            continue;
-        }
-        let distance = distance(alloc, lowered.as_str(), name)?;
-        if distance < least || distance == least && found.is_none() {
-            least = distance;
-            found = Some(*name);
+    let mut nearest = Found::new(word);
+    match nearest.add_all(alloc, word, names) {
+        Ok(()) => Ok(nearest.name),
+        Err(refused) => {
+            drop(nearest);
+            Err(refused)
         }
     }
-    Ok(found)
 }
 
-fn distance(alloc: Global, word: &str, name: &str) -> Result<usize, AllocError> {
-    let name = lowered(alloc, name)?;
-    damerau_levenshtein(alloc, word, name.as_str())
-}
-
-fn lowered(alloc: Global, text: &str) -> Result<String, AllocError> {
-    let mut made = String::from_str(alloc, text)?;
-    made.make_ascii_lowercase();
-    Ok(made)
+/// A name, unless it is the word itself, which is then not misspelt.
+pub(crate) fn unless_same(name: Option<Text>, word: &str) -> Option<Text>
+    ensures { result ≡ unless_same name word.now }
+{
+    match name {
+        Some(name) if name.as_str() == word => None,
+        found => found,
+    }
 }

@@ -50,6 +50,10 @@ static REQUESTS: [(&str, &str); 16] = [
     ("acl", "PRINCIPAL HOST acl --add|--remove|--list OPTION .."),
 ];
 
+/// The form of a law, where its line names a variant.
+pub(crate) const LAW_FORM: &str =
+    "law SERVICE CONSUMER, of the proved ones: for a variant (retries new, deletes first, not idempotent, separate, visible late, start latest, commits before, no dedup) no law is proved; check and expect take it";
+
 /// The lines that begin with a word of their own.
 static LINES: [(&str, &str); 8] = [
     ("super", "super PRINCIPAL"),

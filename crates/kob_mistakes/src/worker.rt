@@ -1,7 +1,6 @@
 //! The workers that lines declare.
 
 use crate::words::raw_words;
-use kob_scene_text::SceneFaultKind;
 use std::alloc::{AllocError, Global};
 
 /// What a worker is.
@@ -51,21 +50,4 @@ pub(crate) fn stepping_at(
         Some(name) if place == 1 => kind_named(alloc, before, name),
         _ => Ok(None),
     }
-}
-
-/// A hint on a name that is that of a worker, but of one of the other kind.
-pub(crate) fn hint_on_worker(
-    alloc: Global,
-    before: &[&[u8]],
-    name: &[u8],
-    kind: SceneFaultKind,
-) -> Result<Option<&'static str>, AllocError> {
-    let SceneFaultKind::UnknownWorker = kind else {
-        return Ok(None);
-    };
-    Ok(match kind_named(alloc, before, name)? {
-        Some(WorkerKind::Service) => Some("this is a service, not a consumer"),
-        Some(WorkerKind::Consumer) => Some("this is a consumer, not a service"),
-        None => None,
-    })
 }

@@ -1,4 +1,5 @@
 pub mod ConsumerForms
+pub mod Misuses
 pub mod Places
 pub mod PrintedRequest
 pub mod PrintedRows

@@ -7,6 +7,7 @@ mod fault;
 mod forms;
 mod laws;
 mod line;
+mod misuse;
 mod name;
 mod place;
 mod printed_bindings;
@@ -25,6 +26,7 @@ mod workers_before;
 
 pub use fault::{SceneError, SceneFault, SceneFaultKind};
 pub use laws::{entries_read_back, scripts_are_scenes};
+pub use misuse::{Misuse, misuse_at};
 pub use place::fault_place;
 pub use printed_fault::print_scene_fault;
 pub use printed_request::print_entry;

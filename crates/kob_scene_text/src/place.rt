@@ -114,7 +114,7 @@ fn is_of(kind: SceneFaultKind, fault: Option<SceneFaultKind>) -> bool
     }
 }
 
-fn same_kind(one: SceneFaultKind, other: SceneFaultKind) -> bool
+pub(crate) fn same_kind(one: SceneFaultKind, other: SceneFaultKind) -> bool
     ensures { result ≡ same_kind one other }
 {
     match (one, other) {

@@ -1,0 +1,96 @@
+//! What is told on standard error beside the answers, as text.
+
+ghost use Rattle.std.specs.Prelude.{◌≡◌, ◌++◌, OnOk};
+ghost use Rattle.kob_mistakes.specs.Told.{doubtful_text, head_text, misspelt_text, neither_text};
+ghost use Rattle.kob_mistakes.specs.Told.{quoted_text, quotes_text, state_text, unquoted_text, unquoted_unless};
+
+use crate::kinds::Kind;
+use kob_words::push_number;
+use std::alloc::AllocError;
+
+#[tactic(auto, using(kob_words::proofs::Appending::appending), unfolding(crate::specs::Told::head_text))]
+pub(crate) fn push_head(out: &mut Vec<u8>, name: &str, line: u64) -> Result<(), AllocError>
+    ensures { OnOk result (out.new.items ≡ out.old.items ++ head_text name.now line) }
+{
+    out.extend_from_slice(b"kob: ")?;
+    out.extend_from_slice(name.as_bytes())?;
+    out.extend_from_slice(b": line ")?;
+    push_number(out, line)?;
+    out.extend_from_slice(b": ")
+}
+
+#[tactic(auto, unfolding(crate::specs::Told::quotes_text))]
+fn quotes_text() -> &'static str
+    ensures { result.now ≡ quotes_text }
+{
+    "  hint: quotes make a question of words, as in '"
+}
+
+#[tactic(auto, unfolding(crate::specs::Told::neither_text))]
+fn neither_text() -> &'static str
+    ensures { result.now ≡ neither_text }
+{
+    ": no such question, and no such file\n  nearest: "
+}
+
+#[tactic(auto, unfolding(crate::specs::Told::state_text))]
+fn state_text() -> &'static str
+    ensures { result.now ≡ state_text }
+{
+    " is the STATE here; a word before it may be missing\n"
+}
+
+/// Appends that quotes make a question of a word and those behind it. The error of this and the
+/// others is out of memory; `out` has then grown by a part of the text.
+#[tactic(auto, using(kob_words::proofs::Appending::appending))]
+pub fn push_unquoted(out: &mut Vec<u8>, word: &str) -> Result<(), AllocError>
+    ensures { OnOk result (out.new.items ≡ out.old.items ++ unquoted_text word.now) }
+{
+    out.extend_from_slice(quotes_text().as_bytes())?;
+    out.extend_from_slice(word.as_bytes())?;
+    out.extend_from_slice(b" ..'\n")
+}
+
+fn push_unquoted_unless(out: &mut Vec<u8>, is_alone: bool, word: &str) -> Result<(), AllocError>
+    ensures { OnOk result (out.new.items ≡ out.old.items ++ unquoted_unless is_alone word.now) }
+{
+    if is_alone {
+        Ok(())
+    } else {
+        push_unquoted(out, word)
+    }
+}
+
+/// Appends that a word is neither a question nor a file, and the question that is near.
+#[tactic(auto, using(kob_words::proofs::Appending::appending))]
+pub fn push_misspelt(out: &mut Vec<u8>, word: &str, kind: Kind) -> Result<(), AllocError>
+    ensures { OnOk result (out.new.items ≡ out.old.items ++ misspelt_text word.now kind) }
+{
+    out.extend_from_slice(b"kob: ")?;
+    out.extend_from_slice(word.as_bytes())?;
+    out.extend_from_slice(neither_text().as_bytes())?;
+    out.extend_from_slice(kind.name().as_bytes())?;
+    out.extend_from_slice(b"\n")?;
+    push_unquoted_unless(out, kind.is_alone(), kind.name())
+}
+
+/// Appends that the state of a record may be meant as the word behind it.
+#[tactic(auto, using(kob_words::proofs::Appending::appending))]
+pub fn push_doubtful(out: &mut Vec<u8>, name: &str, line: u64, word: &str) -> Result<(), AllocError>
+    ensures { OnOk result (out.new.items ≡ out.old.items ++ doubtful_text name.now line word.now) }
+{
+    push_head(out, name, line)?;
+    out.extend_from_slice(word.as_bytes())?;
+    out.extend_from_slice(state_text().as_bytes())
+}
+
+/// Appends that quotes are a part of a name.
+#[tactic(auto, using(kob_words::proofs::Appending::appending))]
+pub fn push_quoted(out: &mut Vec<u8>, name: &str, line: u64, word: &[u8]) -> Result<(), AllocError>
+    ensures { OnOk result (out.new.items ≡ out.old.items ++ quoted_text name.now line word.now) }
+{
+    push_head(out, name, line)?;
+    out.extend_from_slice(b"quotes are a part of the name ")?;
+    out.extend_from_slice(word)?;
+    out.extend_from_slice(b"\n")
+}
