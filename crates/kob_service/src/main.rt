@@ -12,8 +12,10 @@ mod orders;
 
 use crate::journals::HandedOut;
 use crate::orders::{Delivered, Worked, broker, order_event, print, script};
-use kob_embedding::{ConsumerEnd, RunningConsumer, RunningService, ServiceEnd, SharedService};
-use kob_embedding::{judged_in_turn, rotating_session_of};
+use kob_embedding::{
+    ConsumerEnd, RunningConsumer, RunningService, ServiceEnd, SharedService, judged_in_turn,
+    rotating_session_of,
+};
 use kob_inbox::{Inbox, Subscription};
 use kob_lines::{AsWorker, IntoCalls, Loss, Lossy, ProgramFault, SessionLine};
 use kob_names::PlainValue;
@@ -116,7 +118,9 @@ fn serve_over<R: Threads + Wait + Sync, L: IntoCalls + AsWorker + Send + Drop>(
 {
     let placed = record_and_send(rt, alloc, shared, handed, &service, [1, 3], "placed");
     let changed = match next {
-        Ok(line) => service.change_line(rt, line).map_err(|refused| ProgramFault::from(refused)),
+        Ok(line) => service
+            .change_line(rt, line)
+            .map_err(|refused| ProgramFault::from(refused)),
         Err(fault) => Err(fault),
     };
     service.restart(rt);

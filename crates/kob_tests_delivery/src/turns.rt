@@ -181,16 +181,25 @@ fn changed_lines_and_journals_in_turn_reach_the_inbox(rt: HostRuntime) {
 #[test]
 fn a_first_journal_that_is_left_out_is_noticed(rt: HostRuntime) {
     let said = said_without(&rt, rt.alloc(), 0);
-    assert!(rt; matches!(said,
-        Some((Err(DeliveryFault::Service), Err(JudgeFault::Stranger(0))))));
+    assert!(rt;
+        matches!(
+            said,
+            Some((Err(DeliveryFault::Service), Err(JudgeFault::Stranger(0))))
+        )
+    );
 }
 
 // Without the last journal some of the consumer's calls have no entry.
 #[test]
 fn a_last_journal_that_is_left_out_is_noticed(rt: HostRuntime) {
     let said = said_without(&rt, rt.alloc(), 2);
-    assert!(rt; matches!(said, Some((
-        Err(DeliveryFault::Consumer),
-        Err(JudgeFault::Delivery(DeliveryFault::Consumer)),
-    ))));
+    assert!(rt;
+        matches!(
+            said,
+            Some((
+                Err(DeliveryFault::Consumer),
+                Err(JudgeFault::Delivery(DeliveryFault::Consumer)),
+            ))
+        )
+    );
 }
