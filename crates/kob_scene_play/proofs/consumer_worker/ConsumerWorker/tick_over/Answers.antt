@@ -1,4 +1,7 @@
-use Rattle.kob_scene_play.proofs.Words.{Call, Consumer, LosesFirst, List, Record, Tick, ap, refl, rules, subst, sym, ◌≡◌}
+use Rattle.kob_scene_play.proofs.Words.{Call, Consumer, LosesFirst, List, Record, Tick, ap, refl, rules, subst, sym, ◌∙◌, ◌≡◌}
+use Rattle.kob_inbox.specs.Contents.{Contents}
+use Rattle.kob_scene_text.specs.declared.scene.Taking.{Taking}
+use Rattle.kob_scene_text.specs.declared.scene.Taking.TheVariants as takings
 use Rattle.kob_scene_play.proofs.Ticking.{consumer_ticked, journaled_below}
 use Rattle.kob_scene_play.specs.Steps.{IsCalled}
 use Rattle.kob_scene_play.specs.Takings.{inbox_by}
@@ -57,5 +60,19 @@ returns-clause-called c =
     let is = c.in_ok-told.ensures.same in
     subst (λ (r : Record). IsCalled c.args.loss c.args.self.now new c.args.recorded.now r told.1.items told.0) ends
     (subst (λ (from : Consumer). IsCalled c.args.loss from new c.args.recorded.now after told.1.items told.0) c.self.view_is
-    (subst (λ (all : List Call). IsCalled c.args.loss old new c.args.recorded.now after all told.0) (sym (ap (λ t. t.1.items) is))
+    (subst (λ (all : List Call). IsCalled c.args.loss old new c.args.recorded.now after all told.0) (sym (ap (λ t. t.1.items) is ∙ c.close-below.ensures.calls))
     (subst (λ (tick : Tick). IsCalled c.args.loss old new c.args.recorded.now after calls tick) (sym (ap (λ t. t.0) is)) done)))
+
+-- what is noted of each record stays, whatever the inbox of the consumer itself becomes
+inbox_again : (taking : Taking) (was now every : Contents)
+    → inbox_by taking now every ≡ inbox_by taking now (inbox_by taking was every)
+inbox_again takings.Proved was now every = refl
+inbox_again takings.CommitsBefore was now every = refl
+inbox_again takings.NoDedup was now every = refl
+
+pub returns-in_err-told-clause-inbox : goal.returns-in_err-told-clause-inbox
+returns-in_err-told-clause-inbox c =
+    let was = c.self.inside in
+    let now = c.take_over-tick.new.receiver.inbox in
+    subst (λ (from : Consumer). inbox_by was.taking now was.every ≡ inbox_by from.taking now from.inbox) c.self.view_is
+    (inbox_again was.taking was.receiver.inbox now was.every)
