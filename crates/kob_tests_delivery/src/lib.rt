@@ -57,5 +57,3 @@ mod sessions;
 mod spared;
 #[cfg(test)]
 mod spared_sessions;
-#[cfg(test)]
-mod turns;
