@@ -1,6 +1,7 @@
 -- The exit status: 0 where all was done, 1 for a fault, 2 out of memory, 3 where answers differ.
 use Rattle.std.specs.Prelude.{◌≡◌, ◌≢◌, ◌⊎◌, ℕ, Bool, true, false, List, [], ◌∷◌, Result, Ok, Err}
-use Rattle.std.specs.IoError.{Error, error_kind}
+use Rattle.std.specs.IoError.{error_kind}
+use Rattle.std.specs.declared.io.Error.{Error}
 use Rattle.std.specs.declared.io.ErrorKind.TheVariants as kind
 use Rattle.kob.specs.declared.input.InputFault.{InputFault}
 use Rattle.kob.specs.declared.input.InputFault.TheVariants as input

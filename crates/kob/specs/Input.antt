@@ -1,5 +1,5 @@
 -- How long a text may be, in bytes, and how answers are written.
-use Rattle.std.specs.Prelude.{◌≡◌, ⊥, ℕ, Bool, true, false}
+use Rattle.std.specs.Prelude.{◌≡◌, ℕ, Bool, true, false}
 use Rattle.std.specs.IoError.{error_kind}
 use Rattle.std.specs.declared.io.ErrorKind.TheVariants.{NotFound}
 use Rattle.kob.specs.declared.input.InputFault.{InputFault}
