@@ -39,10 +39,15 @@ fn starts_again(alloc: Global, outbox: &mut Outbox, line: &mut BrokerLine<'_>) -
     Some(came && are_first_two(line.made_calls()) && line.unmade_calls() == 0)
 }
 
+fn starts_again_over(alloc: Global, outbox: &mut Outbox, line: BrokerLine<'_>) -> Option<bool> {
+    let mut line = line;
+    starts_again(alloc, outbox, &mut line)
+}
+
 fn router_starts_again(alloc: Global, outbox: &mut Outbox) -> Option<bool> {
     let mut broker = broker_of_orders(alloc)?;
     let again = match line_to(alloc, &mut broker) {
-        Some(mut line) => starts_again(alloc, outbox, &mut line),
+        Some(line) => starts_again_over(alloc, outbox, line),
         None => None,
     };
     drop(broker);
@@ -84,10 +89,15 @@ fn begins_again(alloc: Global, inbox: &mut Inbox, line: &mut BrokerLine<'_>) -> 
     Some(came && asked_and_fetched(line.made_calls()) && line.unmade_calls() == 0)
 }
 
+fn begins_again_over(alloc: Global, inbox: &mut Inbox, line: BrokerLine<'_>) -> Option<bool> {
+    let mut line = line;
+    begins_again(alloc, inbox, &mut line)
+}
+
 fn consumer_begins_again(alloc: Global, inbox: &mut Inbox) -> Option<bool> {
     let mut broker = broker_of_orders(alloc)?;
     let again = match line_to(alloc, &mut broker) {
-        Some(mut line) => begins_again(alloc, inbox, &mut line),
+        Some(line) => begins_again_over(alloc, inbox, line),
         None => None,
     };
     drop(broker);
