@@ -3,6 +3,7 @@
 
 use crate::making::{ORDERS, broker_of_orders, default_route, line_to, outbox, spare};
 use crate::refused::{Came, consumer_tick, router_tick};
+use kob_broker::Broker;
 use kob_inbox::{Consumer, Inbox, Subscription};
 use kob_lines::BrokerLine;
 use kob_outbox::Outbox;
@@ -39,17 +40,16 @@ fn starts_again(alloc: Global, outbox: &mut Outbox, line: &mut BrokerLine<'_>) -
     Some(came && are_first_two(line.made_calls()) && line.unmade_calls() == 0)
 }
 
-fn starts_again_over(alloc: Global, outbox: &mut Outbox, line: BrokerLine<'_>) -> Option<bool> {
-    let mut line = line;
-    starts_again(alloc, outbox, &mut line)
+fn starts_again_over(alloc: Global, outbox: &mut Outbox, broker: &mut Broker) -> Option<bool> {
+    let mut line = line_to(alloc, broker)?;
+    let again = starts_again(alloc, outbox, &mut line);
+    drop(line);
+    again
 }
 
 fn router_starts_again(alloc: Global, outbox: &mut Outbox) -> Option<bool> {
     let mut broker = broker_of_orders(alloc)?;
-    let again = match line_to(alloc, &mut broker) {
-        Some(line) => starts_again_over(alloc, outbox, line),
-        None => None,
-    };
+    let again = starts_again_over(alloc, outbox, &mut broker);
     drop(broker);
     again
 }
@@ -89,17 +89,16 @@ fn begins_again(alloc: Global, inbox: &mut Inbox, line: &mut BrokerLine<'_>) -> 
     Some(came && asked_and_fetched(line.made_calls()) && line.unmade_calls() == 0)
 }
 
-fn begins_again_over(alloc: Global, inbox: &mut Inbox, line: BrokerLine<'_>) -> Option<bool> {
-    let mut line = line;
-    begins_again(alloc, inbox, &mut line)
+fn begins_again_over(alloc: Global, inbox: &mut Inbox, broker: &mut Broker) -> Option<bool> {
+    let mut line = line_to(alloc, broker)?;
+    let again = begins_again(alloc, inbox, &mut line);
+    drop(line);
+    again
 }
 
 fn consumer_begins_again(alloc: Global, inbox: &mut Inbox) -> Option<bool> {
     let mut broker = broker_of_orders(alloc)?;
-    let again = match line_to(alloc, &mut broker) {
-        Some(line) => begins_again_over(alloc, inbox, line),
-        None => None,
-    };
+    let again = begins_again_over(alloc, inbox, &mut broker);
     drop(broker);
     again
 }
