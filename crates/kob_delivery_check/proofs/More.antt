@@ -1,12 +1,12 @@
 -- What one item more adds to what a loop has made.
-use Rattle.std.proofs.Common.{Bool, List, Some, [], ap, cond, false, get_or, length, map, refl, sym, take, true, ℕ, ◌++◌, ◌+◌, ◌<◌, ◌==◌, ◌||◌, ◌∙◌, ◌∷◌, ◌≡◌}
+use Rattle.std.proofs.Common.{Bool, List, Some, [], ap, cond, false, get_or, length, map, refl, sym, take, true, ℕ, ◌++◌, ◌+◌, ◌<◌, ◌==◌, ◌&&◌, ◌||◌, ◌∙◌, ◌∷◌, ◌≡◌}
 use Rattle.std.proofs.lemmas.List.{flat_map_more, map-append, take_more}
 use Rattle.std.proofs.lemmas.List.Elements.{filter-append}
 use Rattle.std.proofs.lemmas.List.Sums.{fold_more}
 use Rattle.std.proofs.lemmas.List.Folds.{list_any-append}
 use Rattle.std.proofs.lemmas.Option.{get_or_from_slice_get}
 use Rattle.std.specs.List.{filter, flat_map, fold, list_any}
-use Rattle.std.specs.Prelude.{slice_get}
+use Rattle.std.specs.Prelude.{not, slice_get}
 
 -- to a fold
 pub fold_to : {A B : Type 0} (f : B → A → B) (from : B) (xs : List A) (k : ℕ) (x : A) (mid now : B)
@@ -35,6 +35,30 @@ number_to f xs k x id other was is below at_k named now so_far =
     ∙ either (list_any (λ y. f y == other) (take k xs)) (f x == other)
     ∙ sym (list_any-append (λ y. f y == other) (take k xs) (x ∷ []))
     ∙ ap (list_any (λ y. f y == other)) (sym (next xs k x below at_k))
+
+either_in : (was one out : Bool) → cond out was (cond one true was) ≡ (was || ((one && not out) || false))
+either_in true true true = refl
+either_in true true false = refl
+either_in true false true = refl
+either_in true false false = refl
+either_in false true true = refl
+either_in false true false = refl
+either_in false false true = refl
+either_in false false false = refl
+
+-- to the numbers of a set that leaves some items out
+pub number_in : {A : Type 0} (f : A → ℕ) (p : A → Bool) (xs : List A) (k : ℕ) (x : A) (id other : ℕ) (out was is : Bool)
+    → k < length xs → x ≡ get_or xs k x → id ≡ f x → out ≡ p x
+    → is ≡ cond out was (cond (id == other) true was)
+    → was ≡ list_any (λ y. f y == other && not (p y)) (take k xs)
+    → is ≡ list_any (λ y. f y == other && not (p y)) (take (k + 1) xs)
+number_in f p xs k x id other out was is below at_k named left now so_far =
+    now ∙ ap (λ n. cond out was (cond (n == other) true was)) named
+    ∙ ap (λ o. cond o was (cond (f x == other) true was)) left
+    ∙ ap (λ w. cond (p x) w (cond (f x == other) true w)) so_far
+    ∙ either_in (list_any (λ y. f y == other && not (p y)) (take k xs)) (f x == other) (p x)
+    ∙ sym (list_any-append (λ y. f y == other && not (p y)) (take k xs) (x ∷ []))
+    ∙ ap (list_any (λ y. f y == other && not (p y))) (sym (next xs k x below at_k))
 
 -- to a list that is made of two maps
 pub mapped_to : {A B C : Type 0} (f : B → C) (g : A → B) (xs : List A) (k : ℕ) (x : A) (y : C) (mid now : List C)

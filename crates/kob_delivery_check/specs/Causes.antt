@@ -1,5 +1,5 @@
 -- Why an event is lost to a consumer.
-use Rattle.std.specs.Prelude.{ℕ, ◌-◌, ◌+◌, ◌&&◌, ◌||◌, Bool, true, false, not, List, [], ◌∷◌, Option, None, Some, if◌then◌else◌, length, max, nat_le, nat_lt, slice_get, take, unwrap_or}
+use Rattle.std.specs.Prelude.{ℕ, ◌==◌, ◌-◌, ◌+◌, ◌&&◌, ◌||◌, Bool, true, false, not, List, [], ◌∷◌, Option, None, Some, if◌then◌else◌, length, max, nat_le, nat_lt, slice_get, take, unwrap_or}
 use Rattle.std.specs.List.{enumerate_from, find, flat_map, position}
 use Rattle.std.specs.Option.{option_or}
 use Rattle.kob_delivery_check.specs.Fates.{is_lost}
@@ -7,10 +7,11 @@ use Rattle.kob_delivery_check.specs.Journaled.{log_by}
 use Rattle.kob_delivery_check.specs.Logs.{Log, is_on, number_of}
 use Rattle.kob_delivery_check.specs.Sent.{is_number, sent_at}
 use Rattle.kob_delivery_check.specs.declared.cause.Cause.{Cause}
-use Rattle.kob_delivery_check.specs.declared.cause.Cause.TheVariants.{Unknown, Unsent, Unread, OutOfReach}
+use Rattle.kob_delivery_check.specs.declared.cause.Cause.TheVariants.{Unknown, Unsent, Unread, OutOfReach, KeptOut}
 use Rattle.kob_delivery_check.specs.declared.cause.Loss.{Loss}
 use Rattle.kob_delivery_check.specs.declared.fate.Fate.{Fate}
 use Rattle.kob_inbox.specs.declared.fetcher.Subscription.{Subscription}
+use Rattle.kob_inbox.specs.declared.inbox_row.InboxRow.{InboxRow}
 use Rattle.kob_names.specs.Same.{same_text}
 use Rattle.kob_outbox.specs.declared.event.OutboxEvent.{OutboxEvent}
 use Rattle.kob_rights.specs.declared.reply.Reply.{Reply}
@@ -92,16 +93,29 @@ cause_sent reader journal event (Some sent) =
 abbrev pub cause_of : Subscription → List Entry → ℕ → Cause
 cause_of reader journal event = cause_sent reader journal event (sent_at event journal)
 
-abbrev pub loss_by : Subscription → List Entry → ℕ → Option OutboxEvent → List Loss
-loss_by reader journal place None = []
-loss_by reader journal place (Some event) =
-    record { event = place; cause = cause_of reader journal (number_of event.id) } ∷ []
+-- a row of the inbox has the event's id and is not the event's, or else the journal says why
+abbrev pub cause_beside : Subscription → List Entry → ℕ → Option InboxRow → Cause
+cause_beside reader journal event (Some row) = KeptOut row.place
+cause_beside reader journal event None = cause_of reader journal event
 
-abbrev pub loss_at : Subscription → List Entry → List OutboxEvent → ℕ × Fate → List Loss
-loss_at reader journal events (place, fate) =
-    if is_lost fate then loss_by reader journal place (slice_get events place) else []
+-- the first row of the inbox with this id
+abbrev pub row_with : ℕ → List InboxRow → Option InboxRow
+row_with id rows = find (λ row. number_of row.id == id) rows
 
--- the events that are lost, each with its cause
-abbrev pub losses_by : Subscription → List Entry → List OutboxEvent → List Fate → List Loss
-losses_by reader journal events fates =
-    flat_map (λ x. loss_at reader journal events x) (enumerate_from 0 fates)
+abbrev pub loss_by : Subscription → List InboxRow → List Entry → ℕ → Option OutboxEvent → List Loss
+loss_by reader rows journal place None = []
+loss_by reader rows journal place (Some event) =
+    record {
+      event = place;
+      cause = cause_beside reader journal (number_of event.id) (row_with (number_of event.id) rows);
+    } ∷ []
+
+abbrev pub loss_at : Subscription → List InboxRow → List Entry → List OutboxEvent → ℕ × Fate → List Loss
+loss_at reader rows journal events (place, fate) =
+    if is_lost fate then loss_by reader rows journal place (slice_get events place) else []
+
+-- the events that are lost to a consumer whose inbox has these rows, each with its cause
+abbrev pub losses_by : Subscription → List InboxRow → List Entry → List OutboxEvent → List Fate
+    → List Loss
+losses_by reader rows journal events fates =
+    flat_map (λ x. loss_at reader rows journal events x) (enumerate_from 0 fates)

@@ -5,7 +5,7 @@ use Rattle.kob_delivery_check.specs.Logs.{number_of}
 use Rattle.kob_delivery_check.specs.PrintedPieces.{counted, event_text, place_text, spaced}
 use Rattle.kob_delivery_check.specs.Sent.{put_at, sent_at}
 use Rattle.kob_delivery_check.specs.declared.cause.Cause.{Cause}
-use Rattle.kob_delivery_check.specs.declared.cause.Cause.TheVariants.{Unknown, Unsent, Unread, OutOfReach}
+use Rattle.kob_delivery_check.specs.declared.cause.Cause.TheVariants.{Unknown, Unsent, Unread, OutOfReach, KeptOut}
 use Rattle.kob_delivery_check.specs.declared.cause.Loss.{Loss}
 use Rattle.kob_delivery_check.specs.declared.reach.Stored.{Stored}
 use Rattle.kob_names.specs.declared.batch.Idem.{Idem}
@@ -64,6 +64,8 @@ cause_text journal assignment Unsent = codes ", no entry sent it"
 cause_text journal assignment (Unread sent) = unread_at (slice_get journal sent)
 cause_text journal assignment (OutOfReach assigned offset by) =
     place_text offset (slice_get assignment assigned) ++ by_text journal by
+cause_text journal assignment (KeptOut row) =
+    codes ", row" ++ counted row ++ codes " of the inbox has its id"
 
 -- the line of an event that is lost
 abbrev pub lost_line : List Entry → List Place → Loss → Option OutboxEvent → List ℕ

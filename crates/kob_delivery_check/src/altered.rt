@@ -35,7 +35,7 @@ pub fn altered_row(
 }
 
 /// Whether a row has another key or value than the event with its id, if there is one.
-fn is_altered(recorded: &HashMap<u128, &OutboxEvent>, row: &InboxRow) -> bool
+pub(crate) fn is_altered(recorded: &HashMap<u128, &OutboxEvent>, row: &InboxRow) -> bool
     ensures { (events : List OutboxEvent)
         → ((id : ℕ) → option_copied (get nat_eq recorded.now id) ≡ event_with id (reverse events))
         → result ≡ is_altered events row.now }
@@ -44,7 +44,7 @@ fn is_altered(recorded: &HashMap<u128, &OutboxEvent>, row: &InboxRow) -> bool
 }
 
 /// Each event by its id.
-fn events_by_id<'e>(
+pub(crate) fn events_by_id<'e>(
     alloc: Global,
     events: &[&'e OutboxEvent],
 ) -> Result<HashMap<u128, &'e OutboxEvent>, AllocError>

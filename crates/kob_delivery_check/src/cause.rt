@@ -1,18 +1,20 @@
 //! Why an event is lost to a consumer.
 
-ghost use Rattle.std.specs.Prelude.{◌≡◌, ◌<◌, ◌++◌, IfOk, OnOk, Some, length, map, slice_get};
+ghost use Rattle.std.specs.Prelude.{◌≡◌, ◌==◌, ◌<◌, ◌++◌, IfOk, OnOk, Some, length, map, slice_get};
 ghost use Rattle.kob_delivery_check.specs.Logs.{is_on};
-ghost use Rattle.std.specs.List.{position};
+ghost use Rattle.std.specs.List.{find, position};
 ghost use Rattle.std.specs.Option.{option_copied};
-ghost use Rattle.kob_delivery_check.specs.Causes.{assigned_to, cause_at, cause_by, cause_in, cause_of};
-ghost use Rattle.kob_delivery_check.specs.Causes.{cause_to, loss_at, loss_by, losses_by};
+ghost use Rattle.kob_delivery_check.specs.Causes.{assigned_to, cause_at, cause_beside, cause_by};
+ghost use Rattle.kob_delivery_check.specs.Causes.{cause_in, cause_of, cause_to, loss_at, loss_by};
+ghost use Rattle.kob_delivery_check.specs.Causes.{losses_by, row_with};
+ghost use Rattle.kob_delivery_check.specs.Logs.{number_of};
 
 use crate::fate::Fate;
 use crate::journaled::log_until;
 use crate::obstacle::{obstacle_of, obstacles};
 use crate::partition_log::is_on;
 use crate::sent::{offset_of, sent_at};
-use kob_inbox::Subscription;
+use kob_inbox::{InboxRow, Subscription};
 use kob_names::Text;
 use kob_outbox::OutboxEvent;
 use kob_rights::Request;
@@ -39,6 +41,11 @@ pub enum Cause {
         offset: u64,
         by: Option<usize>,
     },
+    /// The row of the inbox at this place has its id, with another key or value: a consumer takes
+    /// each id in once.
+    KeptOut {
+        row: u64,
+    },
 }
 
 /// A lost event, by its place among the events that the service recorded, from 0, and its cause.
@@ -48,16 +55,17 @@ pub struct Loss {
     pub cause: Cause,
 }
 
-/// The events that are lost to a consumer, each with its cause. `fates` has where each event is, in
-/// the order of the events. The error is out of memory.
+/// The events that are lost to a consumer whose inbox has these rows, each with its cause. `fates`
+/// has where each event is, in the order of the events. The error is out of memory.
 pub fn losses_of(
     alloc: Global,
     reader: &Subscription,
+    rows: &[InboxRow],
     journal: &Journal,
     events: &[&OutboxEvent],
     fates: &[Fate],
 ) -> Result<Vec<Loss>, AllocError>
-    ensures { IfOk result (λ losses. losses.items ≡ losses_by reader.now journal.now
+    ensures { IfOk result (λ losses. losses.items ≡ losses_by reader.now rows.now journal.now
         (map (λ event. event.now) events.now) fates.now) }
 {
     let mut losses = Vec::new(alloc);
@@ -66,6 +74,7 @@ pub fn losses_of(
             alloc,
             &mut losses,
             reader,
+            rows,
             journal,
             events,
             place,
@@ -79,19 +88,21 @@ fn push_loss(
     alloc: Global,
     losses: &mut Vec<Loss>,
     reader: &Subscription,
+    rows: &[InboxRow],
     journal: &Journal,
     events: &[&OutboxEvent],
     place: usize,
     fate: Fate,
 ) -> Result<(), AllocError>
     ensures { OnOk result (losses.new.items ≡ losses.old.items
-        ++ loss_at reader.now journal.now (map (λ event. event.now) events.now) (place, fate)) }
+        ++ loss_at reader.now rows.now journal.now (map (λ event. event.now) events.now) (place, fate)) }
 {
     if fate.is_lost() {
         push_lost(
             alloc,
             losses,
             reader,
+            rows,
             journal,
             place,
             event_at(events, place),
@@ -105,17 +116,19 @@ fn push_lost(
     alloc: Global,
     losses: &mut Vec<Loss>,
     reader: &Subscription,
+    rows: &[InboxRow],
     journal: &Journal,
     place: usize,
     event: Option<&OutboxEvent>,
 ) -> Result<(), AllocError>
     ensures { OnOk result (losses.new.items ≡ losses.old.items
-        ++ loss_by reader.now journal.now place (option_copied event.entry)) }
+        ++ loss_by reader.now rows.now journal.now place (option_copied event.entry)) }
 {
     let Some(event) = event else {
         return Ok(());
     };
-    let cause = cause_of(alloc, reader, journal, event.id.as_u128())?;
+    let id = event.id.as_u128();
+    let cause = cause_beside(alloc, reader, journal, id, row_with(id, rows))?;
     losses.push(Loss {
         event: place,
         cause,
@@ -133,7 +146,31 @@ pub(crate) fn event_at<'e>(events: &[&'e OutboxEvent], place: usize) -> Option<&
     }
 }
 
-/// Why an event that is lost to a consumer is lost. The error is out of memory.
+/// The first row of an inbox with an id.
+fn row_with(id: u128, rows: &[InboxRow]) -> Option<&InboxRow>
+    ensures { option_copied result ≡ row_with id rows.now }
+{
+    rows.iter().find(|row| row.id.as_u128() == id)
+}
+
+/// Why an event that is lost to a consumer is lost, by the row of its inbox with the event's id.
+fn cause_beside(
+    alloc: Global,
+    reader: &Subscription,
+    journal: &Journal,
+    event: u128,
+    row: Option<&InboxRow>,
+) -> Result<Cause, AllocError>
+    ensures { IfOk result (λ cause. cause
+        ≡ cause_beside reader.now journal.now event (option_copied row.entry)) }
+{
+    match row {
+        Some(row) => Ok(Cause::KeptOut { row: row.place }),
+        None => cause_of(alloc, reader, journal, event),
+    }
+}
+
+/// Why an event that is lost to a consumer is lost, by the journal. The error is out of memory.
 fn cause_of(
     alloc: Global,
     reader: &Subscription,

@@ -13,7 +13,7 @@ use std::collections::HashSet;
 /// Where an event is.
 #[derive(Clone, Copy, Debug)]
 pub enum Fate {
-    /// In the inbox.
+    /// In the inbox, with its key and value.
     Delivered,
     /// In a partition of the consumer, at or after the consumer's position: the number of the
     /// partition in the assignment, and the record's offset.

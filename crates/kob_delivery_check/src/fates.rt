@@ -1,11 +1,12 @@
 //! Where each event of a service is.
 
-ghost use Rattle.std.specs.Prelude.{◌≡◌, ◌==◌, ℕ, IfOk, map, nat_eq};
+ghost use Rattle.std.specs.Prelude.{◌≡◌, ◌==◌, ℕ, IfOk, OnOk, cond, map, nat_eq, true};
 ghost use Rattle.std.specs.HashSet.{contains};
 ghost use Rattle.std.specs.List.{list_any};
 ghost use Rattle.kob_delivery_check.specs.Fates.{fates_by, is_in_inbox, is_in_outbox};
 ghost use Rattle.kob_delivery_check.specs.Logs.{number_of};
 
+use crate::altered::{events_by_id, is_altered};
 use crate::fate::{Fate, fate_by};
 use crate::reach::Stored;
 use kob_inbox::InboxRow;
@@ -15,7 +16,8 @@ use std::collections::HashSet;
 
 /// Where each of a service's events is, in their order: by the rows of the consumer's inbox, by the
 /// records that the consumer has before it, and by the rows of the service's outbox after the mark.
-/// The error is out of memory.
+/// A row of the inbox with an event's id and another key or value is not the event's. The error is
+/// out of memory.
 pub fn fates_of(
     alloc: Global,
     events: &[&OutboxEvent],
@@ -26,7 +28,7 @@ pub fn fates_of(
     ensures { IfOk result (λ fates. fates.items
         ≡ fates_by taken.now ahead.now waiting.now (map (λ event. event.now) events.now)) }
 {
-    let taken = ids_of_inbox(alloc, taken)?;
+    let taken = ids_of_inbox(alloc, events, taken)?;
     let waiting = ids_of_outbox(alloc, waiting)?;
     let mut fates = Vec::new(alloc);
     for event in events {
@@ -35,15 +37,32 @@ pub fn fates_of(
     Ok(fates)
 }
 
-/// The ids of the rows of an inbox.
-fn ids_of_inbox(alloc: Global, rows: &[InboxRow]) -> Result<HashSet<u128>, AllocError>
-    ensures { IfOk result (λ set. (id : ℕ) → contains nat_eq set id ≡ is_in_inbox rows.now id) }
+/// The ids of the rows of an inbox but those that have another key or value than their event.
+fn ids_of_inbox(
+    alloc: Global,
+    events: &[&OutboxEvent],
+    rows: &[InboxRow],
+) -> Result<HashSet<u128>, AllocError>
+    ensures { IfOk result (λ set. (id : ℕ) → contains nat_eq set id
+        ≡ is_in_inbox (map (λ event. event.now) events.now) rows.now id) }
 {
+    let recorded = events_by_id(alloc, events)?;
     let mut set = HashSet::new(alloc);
     for row in rows {
-        set.insert(row.id.as_u128())?;
+        insert_unless(&mut set, is_altered(&recorded, row), row.id.as_u128())?;
     }
     Ok(set)
+}
+
+fn insert_unless(set: &mut HashSet<u128>, is_out: bool, id: u128) -> Result<(), AllocError>
+    ensures { OnOk result ((other : ℕ) → contains nat_eq set.new other
+        ≡ cond is_out (contains nat_eq set.old other)
+        (cond (id == other) true (contains nat_eq set.old other))) }
+{
+    if !is_out {
+        set.insert(id)?;
+    }
+    Ok(())
 }
 
 /// The ids of the rows of an outbox.

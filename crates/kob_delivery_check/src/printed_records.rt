@@ -139,6 +139,10 @@ fn push_cause(
             push_assigned(out, assignment, assigned, offset)?;
             push_by(out, journal, by)
         }
+        Cause::KeptOut { row } => {
+            push_labelled(out, b", row", row)?;
+            out.extend_from_slice(b" of the inbox has its id")
+        }
     }
 }
 

@@ -10,6 +10,7 @@ use Rattle.kob_delivery_check.specs.Printed.{check_text}
 use Rattle.kob_delivery_check.specs.Reaches.{records_ahead}
 use Rattle.kob_delivery_check.specs.Repeats.{records_of, repeats_of}
 use Rattle.kob_delivery_check.specs.Unrecorded.{unrecorded_of}
+use Rattle.kob_delivery_check.specs.declared.cause.Loss.{Loss}
 use Rattle.kob_delivery_check.specs.declared.fate.Fate.{Fate}
 use Rattle.kob_delivery_check.specs.declared.order.Early.{Early}
 use Rattle.kob_delivery_check.specs.declared.record_order.EarlyRecord.{EarlyRecord}
@@ -55,6 +56,14 @@ AreFates service consumer journal fates =
     ≡ first_after service.outbox.mark 4294967295 service.outbox.events)
     × (fates ≡ fates_by taken (ahead_of journal consumer) waiting service.recorded)
 
+-- the events that are lost by these fates, each with its cause, by the rows of the consumer's inbox and
+-- by the journal
+abbrev pub AreLosses : Service → Consumer → List Entry → List Fate → List Loss → Type 0
+AreLosses service consumer journal fates losses =
+    (taken : List InboxRow)
+    × (map placed_intake taken ≡ enumerate_from 1 consumer.inbox)
+    × (losses ≡ losses_by consumer.fetcher.subscription taken journal service.recorded fates)
+
 -- the rows of its inbox whose event has an earlier row
 abbrev pub AreDoubled : Consumer → List DoubledRow → Type 0
 AreDoubled consumer doubled =
@@ -84,7 +93,7 @@ early_in_topics service consumer journal =
 abbrev pub IsFound : Service → Consumer → List Entry → Found → Type 0
 IsFound service consumer journal found =
     AreFates service consumer journal found.fates.items
-    × (found.losses.items ≡ losses_by consumer.fetcher.subscription journal service.recorded found.fates.items)
+    × AreLosses service consumer journal found.fates.items found.losses.items
     × (found.repeats.items ≡ repeats_in journal consumer)
     × AreDoubled consumer found.doubled_rows.items
     × AreEarly service consumer found.early_rows.items

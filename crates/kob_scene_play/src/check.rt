@@ -3,7 +3,8 @@
 ghost use Rattle.std.specs.Prelude.{◌≡◌, ◌++◌, IfOk, OnOk, map};
 ghost use Rattle.kob_delivery_check.specs.Printed.{check_text};
 ghost use Rattle.kob_router.specs.Line.{one_more};
-ghost use Rattle.kob_scene_play.specs.Checks.{AreDoubled, AreEarly, AreFates, IsChecked, IsFound};
+ghost use Rattle.kob_scene_play.specs.Checks.{AreDoubled, AreEarly, AreFates, AreLosses};
+ghost use Rattle.kob_scene_play.specs.Checks.{IsChecked, IsFound};
 ghost use Rattle.kob_scene_play.specs.Checks.{ahead_of};
 ghost use Rattle.kob_scene_play.specs.Checks.{early_in_topics, reaches_of, repeats_in};
 ghost use Rattle.kob_scene_play.specs.Checks.{unrecorded_by};
@@ -15,7 +16,7 @@ use crate::output::Output;
 use crate::service_worker::ServiceWorker;
 use crate::stage::Stage;
 use kob_delivery_check::{
-    DoubledRow, Early, EarlyRecord, Fate, Found, Reach, Stored, doubled_rows, early_records,
+    DoubledRow, Early, EarlyRecord, Fate, Found, Loss, Reach, Stored, doubled_rows, early_records,
     early_rows, fates_of, losses_of, print_check, reaches_by, records_ahead, records_of,
     repeats_of, unrecorded_of,
 };
@@ -79,13 +80,7 @@ fn found_at(
     let doubled_rows = doubled_at(alloc, taker)?;
     let early_rows = early_at(alloc, sender, taker)?;
     let fates = fates_at(alloc, journal, sender, taker)?;
-    let losses = losses_of(
-        alloc,
-        taker.subscription(),
-        journal,
-        sender.recorded(),
-        &fates,
-    )?;
+    let losses = losses_at(alloc, journal, sender, taker, &fates)?;
     Ok(Found {
         fates,
         losses,
@@ -94,6 +89,29 @@ fn found_at(
         early_rows,
         early_records,
     })
+}
+
+/// The events of the service that are lost, each with its cause.
+fn losses_at(
+    alloc: Global,
+    journal: &Journal,
+    sender: &ServiceWorker<'_>,
+    taker: &mut ConsumerWorker,
+    fates: &[Fate],
+) -> Result<Vec<Loss>, PlayFault>
+    ensures losses { IfOk result
+        (λ losses. AreLosses sender.now taker.old journal.now fates.now losses.items) }
+    ensures same { taker.new ≡ taker.old }
+{
+    let taken = taker.rows(alloc)?;
+    Ok(losses_of(
+        alloc,
+        taker.subscription(),
+        &taken,
+        journal,
+        sender.recorded(),
+        fates,
+    )?)
 }
 
 /// The rows of the consumer's inbox whose event has an earlier row.
