@@ -131,6 +131,9 @@ class Guide(unittest.TestCase):
         index = f"<!-- index -->\n{table}<!-- end of index -->\n"
         link = "[`Mark::next`](../crates/kob_low/src/lib.rt)"
         self.written(index.format("`Mark::next`"), index.format(link))
+        put(self.room, {"docs/PAGE.md": index.format("`Mark::next`, `gone`")})
+        text = "docs/PAGE.md quotes what is not there: no crate of its row in PAGE.md declares gone\n"
+        self.assertIn(text, self.guide()[1])
 
     def test_contents_list_the_headings(self) -> None:
         page = "<!-- contents -->\n{}<!-- end of contents -->\n\n## Its `first` part\n\n"
