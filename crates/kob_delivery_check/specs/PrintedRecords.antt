@@ -64,8 +64,7 @@ cause_text journal assignment Unsent = codes ", no entry sent it"
 cause_text journal assignment (Unread sent) = unread_at (slice_get journal sent)
 cause_text journal assignment (OutOfReach assigned offset by) =
     place_text offset (slice_get assignment assigned) ++ by_text journal by
-cause_text journal assignment (KeptOut row) =
-    codes ", row" ++ counted row ++ codes " of the inbox has its id"
+cause_text journal assignment (KeptOut row) = codes ", the inbox has its id at" ++ counted row
 
 -- the line of an event that is lost
 abbrev pub lost_line : List Entry → List Place → Loss → Option OutboxEvent → List ℕ

@@ -139,10 +139,7 @@ fn push_cause(
             push_assigned(out, assignment, assigned, offset)?;
             push_by(out, journal, by)
         }
-        Cause::KeptOut { row } => {
-            push_labelled(out, b", row", row)?;
-            out.extend_from_slice(b" of the inbox has its id")
-        }
+        Cause::KeptOut { row } => push_labelled(out, b", the inbox has its id at", row),
     }
 }
 
