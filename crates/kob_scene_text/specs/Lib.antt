@@ -7,5 +7,6 @@ pub mod Reading
 pub mod Rereading
 pub mod Scenes
 pub mod ServiceForms
+pub mod StepNames
 pub mod Steps
 pub mod Workers

@@ -1,5 +1,5 @@
 -- Which word of a line has the fault that its scene has.
-use Rattle.std.specs.Prelude.{◌≡◌, ℕ, nat_eq, Bool, true, false, not, is_none, ◌&&◌, ◌||◌, List, [], ◌∷◌, Option, Some, None, codes, map, unwrap_or, if◌then◌else◌}
+use Rattle.std.specs.Prelude.{◌≡◌, ℕ, nat_eq, Bool, true, false, not, is_none, ◌&&◌, ◌||◌, List, [], ◌∷◌, Option, Some, None, codes, drop, map, slice_get, unwrap_or, if◌then◌else◌}
 use Rattle.std.specs.List.{list_any, position}
 use Rattle.std.specs.Option.{option_map}
 use Rattle.std.specs.Result.{result_err}
@@ -12,7 +12,8 @@ use Rattle.kob_script.specs.declared.fault.FaultKind.{FaultKind}
 use Rattle.kob_scene_text.specs.ConsumerForms.{consumer_form}
 use Rattle.kob_scene_text.specs.Reading.{◌>>>◌, as_scripts, bad_line}
 use Rattle.kob_scene_text.specs.Scenes.{is_request, is_variant_sending}
-use Rattle.kob_scene_text.specs.ServiceForms.{bare_form, service_form, service_step_form, tick_form}
+use Rattle.kob_scene_text.specs.ServiceForms.{service_form, service_step_form, tick_form}
+use Rattle.kob_scene_text.specs.StepNames.{step_named}
 use Rattle.kob_scene_text.specs.Steps.{head_of, id_of}
 use Rattle.kob_scene_text.specs.Workers.{by_named, sending_first, start_named, is_name, max_of, partitions_of, place_of, route_of}
 use Rattle.kob_scene_text.specs.declared.fault.SceneFaultKind.{SceneFaultKind}
@@ -29,6 +30,8 @@ use Rattle.kob_scene_text.specs.declared.name.Worker.{Worker}
 use Rattle.kob_scene_text.specs.declared.name.Worker.TheVariants as workers
 use Rattle.kob_scene_text.specs.declared.scene.Sending.{Sending}
 use Rattle.kob_scene_text.specs.declared.scene.Sending.TheVariants.{Proved}
+use Rattle.kob_scene_text.specs.declared.step_names.StepName.{StepName}
+use Rattle.kob_scene_text.specs.declared.step_names.StepName.TheVariants as steps
 
 abbrev pub same_kind : SceneFaultKind → SceneFaultKind → Bool
 same_kind (Script one) (Script other) = nat_eq (rank one) (rank other)
@@ -53,7 +56,8 @@ is_of kind (Some fault) = same_kind fault kind
 abbrev pub are_of : List ℕ → List ℕ → List Word → Bool
 are_of first name (one ∷ other ∷ words) =
     bytes_eq one.decoded first && bytes_eq other.decoded name
-are_of first name _ = false
+are_of first name (one ∷ []) = false
+are_of first name [] = false
 
 abbrev pub is_declared : List ℕ → List (List ℕ) → List ℕ → Bool
 is_declared first lines name = list_any (λ line. are_of first name (line_words line)) lines
@@ -64,24 +68,21 @@ names_variant words = is_variant_sending (sending_first words).0
 
 -- words declare a service of this name that sends otherwise than the proved router
 abbrev pub are_of_variant_service : List ℕ → List Word → Bool
-are_of_variant_service name
-    (first ∷ own ∷ principal ∷ host ∷ keyword ∷ number ∷ words) =
-    bytes_eq first.decoded (codes "service") && bytes_eq own.decoded name && names_variant words
-are_of_variant_service name _ = false
+are_of_variant_service name words =
+    are_of (codes "service") name words && names_variant (drop 6 words)
 
--- the words that begin what makes a consumer a variant
-abbrev pub begins_variant : List ℕ → Bool
-begins_variant word =
-    bytes_eq word (codes "start") || bytes_eq word (codes "commits") || bytes_eq word (codes "no")
+-- the word that begins what makes a consumer a variant
+abbrev pub begins_variant : Option Word → Bool
+begins_variant None = false
+begins_variant (Some word) =
+    bytes_eq word.decoded (codes "start") || bytes_eq word.decoded (codes "commits")
+    || bytes_eq word.decoded (codes "no")
 
 -- words declare a consumer of this name that begins at the end, or takes in otherwise than the
 -- proved one
 abbrev pub are_of_variant_consumer : List ℕ → List Word → Bool
-are_of_variant_consumer name
-    (first ∷ own ∷ principal ∷ host ∷ group ∷ its ∷ max ∷ most ∷ keyword ∷ words) =
-    bytes_eq first.decoded (codes "consumer") && bytes_eq own.decoded name
-    && begins_variant keyword.decoded
-are_of_variant_consumer name _ = false
+are_of_variant_consumer name words =
+    are_of (codes "consumer") name words && begins_variant (slice_get words 8)
 
 -- words declare a worker of this name that is a variant
 abbrev pub are_of_variant : List ℕ → List Word → Bool
@@ -92,10 +93,8 @@ is_variant lines name = list_any (λ line. are_of_variant name (line_words line)
 
 -- how a service of this name sends, where words declare one
 unfoldable pub sending_of_words : List ℕ → List Word → Option Sending
-sending_of_words name (first ∷ own ∷ principal ∷ host ∷ keyword ∷ number ∷ words) =
-    if bytes_eq first.decoded (codes "service") && bytes_eq own.decoded name
-    then Some (sending_first words).0 else None
-sending_of_words name _ = None
+sending_of_words name words =
+    if are_of (codes "service") name words then Some (sending_first (drop 6 words)).0 else None
 
 -- how the service of this name sends, by the first line that declares one
 abbrev pub sending_in : List (List ℕ) → List ℕ → Sending
@@ -165,16 +164,26 @@ abbrev pub expect_form : List Word → List Part
 expect_form (service ∷ consumer ∷ what ∷ words) = expect_form_by what.decoded
 expect_form words = expect_form_by (codes "order")
 
-abbrev pub consumer_step_form : List ℕ → Option (List Part)
-consumer_step_form name =
-    if bytes_eq name (codes "tick") then Some tick_form
-    else bare_form (bytes_eq name (codes "run") || bytes_eq name (codes "restart")
-    || bytes_eq name (codes "inbox"))
+-- of a consumer, behind the name of a step; None if consumers have no such step
+abbrev pub consumer_step_form : StepName → Option (List Part)
+consumer_step_form steps.Record = None
+consumer_step_form steps.Tick = Some tick_form
+consumer_step_form steps.Run = Some []
+consumer_step_form steps.Restart = Some []
+consumer_step_form steps.Sweep = None
+consumer_step_form steps.Outbox = None
+consumer_step_form steps.Business = None
+consumer_step_form steps.Visible = None
+consumer_step_form steps.Inbox = Some []
+
+abbrev pub form_of_step : Sending → Worker → Option StepName → Option (List Part)
+form_of_step sending worker None = None
+form_of_step sending (workers.Service place) (Some step) = service_step_form sending step
+form_of_step sending (workers.Consumer place) (Some step) = consumer_step_form step
 
 -- the words behind a step's name, if the worker has such a step
 abbrev pub step_form : Sending → Worker → List ℕ → Option (List Part)
-step_form sending (workers.Service place) name = service_step_form sending name
-step_form sending (workers.Consumer place) name = consumer_step_form name
+step_form sending worker name = form_of_step sending worker (step_named name)
 
 -- The faults of words.
 
@@ -291,7 +300,14 @@ word_faults lines Request first rest = []
 -- scripts say which word of a request it is
 abbrev pub request_place : SceneFaultKind → List Word → Option ℕ
 request_place (Script kind) words = script_fault_place kind words
-request_place kind words = None
+request_place UnknownWorker words = None
+request_place BadWorkerName words = None
+request_place NameTaken words = None
+request_place BadPartitions words = None
+request_place BadMax words = None
+request_place BadRoute words = None
+request_place BadId words = None
+request_place NoLaw words = None
 
 abbrev pub place_by : List (List ℕ) → Head → SceneFaultKind → Word → List Word → Option ℕ
 place_by lines head kind first rest =

@@ -79,7 +79,8 @@ pub record IsFilter (filter : BindingFilter) : Type 0 where
 -- one binding
 abbrev pub IsOneDraft : List Draft → Type 0
 IsOneDraft (draft ∷ []) = IsDraft draft
-IsOneDraft _ = ⊥
+IsOneDraft (draft ∷ other ∷ drafts) = ⊥
+IsOneDraft [] = ⊥
 
 -- what a script can write, of each kind
 abbrev pub IsWritten : Request → Type 0

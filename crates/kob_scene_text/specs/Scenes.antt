@@ -33,7 +33,6 @@ use Rattle.std.specs.List.{list_all}
 use Rattle.kob_script.specs.declared.fault.Fault.{Fault}
 use Rattle.kob_script.specs.declared.fault.FaultKind.{FaultKind}
 use Rattle.kob_script.specs.declared.script.Script.{Script}
-use Rattle.kob_scene_text.specs.declared.line.Head.TheVariants.{Request}
 use Rattle.kob_scene_text.specs.declared.name.Worker.TheVariants as workers
 use Rattle.kob_scene_text.specs.declared.line.Head.TheVariants as heads
 use Rattle.kob_scene_text.specs.declared.scene.Step.TheVariants as step_forms
@@ -141,7 +140,8 @@ with_journal s (word ∷ words) = Err bad_line
 
 abbrev pub both_of : Option ℕ → Option ℕ → Result (ℕ × ℕ) SceneFaultKind
 both_of (Some service) (Some consumer) = Ok (service, consumer)
-both_of _ _ = Err kinds.UnknownWorker
+both_of (Some service) None = Err kinds.UnknownWorker
+both_of None consumer = Err kinds.UnknownWorker
 
 -- SERVICE CONSUMER, by their places
 abbrev pub pair_named : Seen → Word → Word → Result (ℕ × ℕ) SceneFaultKind
@@ -151,7 +151,9 @@ pair_named s service consumer =
 
 abbrev pub pair_of : Seen → List Word → Result (ℕ × ℕ) SceneFaultKind
 pair_of s (service ∷ consumer ∷ []) = pair_named s service consumer
-pair_of s _ = Err bad_line
+pair_of s (service ∷ consumer ∷ word ∷ words) = Err bad_line
+pair_of s (service ∷ []) = Err bad_line
+pair_of s [] = Err bad_line
 
 -- Variants, of which the laws of delivery do not speak.
 
@@ -210,7 +212,8 @@ abbrev pub with_expect : Seen → List Word → Result Seen SceneFaultKind
 with_expect s (service ∷ consumer ∷ rest) =
     pair_named s service consumer >>> λ pair. expected_of rest
     >>> λ what. Ok (with_steps s (Plain (step_forms.Expect pair.0 pair.1 what) ∷ []))
-with_expect s _ = Err bad_line
+with_expect s (service ∷ []) = Err bad_line
+with_expect s [] = Err bad_line
 
 abbrev pub sending_by_service : Option Service → Sending
 sending_by_service None = sendings.Proved
@@ -326,8 +329,16 @@ fault_at line (step_error.Fault kind) = scene_error.Fault (record { line = line;
 -- Scripts as scenes.
 
 abbrev pub is_request : Head → Bool
-is_request Request = true
-is_request _ = false
+is_request heads.Setting = false
+is_request heads.Service = false
+is_request heads.Consumer = false
+is_request heads.Journal = false
+is_request heads.Law = false
+is_request heads.Check = false
+is_request heads.Expect = false
+is_request (heads.Of worker) = false
+is_request heads.Unknown = false
+is_request heads.Request = true
 
 -- a line of a script: a setting, or no line of a worker where none is declared
 abbrev pub is_script_line : Result (List Word) FaultKind → Bool

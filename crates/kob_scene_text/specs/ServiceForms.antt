@@ -1,5 +1,5 @@
 -- The forms of lines of a service, behind their first words.
-use Rattle.std.specs.Prelude.{ℕ, Bool, true, false, ◌&&◌, ◌||◌, List, [], ◌∷◌, Option, Some, None, codes, if◌then◌else◌}
+use Rattle.std.specs.Prelude.{ℕ, List, [], ◌∷◌, Option, Some, None, codes, if◌then◌else◌}
 use Rattle.std.specs.Str.{bytes_eq}
 use Rattle.kob_script.specs.Words.{Word}
 use Rattle.kob_scene_text.specs.Steps.{hides_rows}
@@ -8,7 +8,9 @@ use Rattle.kob_scene_text.specs.declared.forms.Part.{Part}
 use Rattle.kob_scene_text.specs.declared.forms.Part.TheVariants.{One, After, OrEnd}
 use Rattle.kob_scene_text.specs.declared.forms.Slot.TheVariants as slot
 use Rattle.kob_scene_text.specs.declared.scene.Sending.{Sending}
-use Rattle.kob_scene_text.specs.declared.scene.Sending.TheVariants.{Separate, VisibleLate}
+use Rattle.kob_scene_text.specs.declared.scene.Sending.TheVariants.{Proved, RetriesNew, DeletesFirst, NotIdempotent, Separate, VisibleLate}
+use Rattle.kob_scene_text.specs.declared.step_names.StepName.{StepName}
+use Rattle.kob_scene_text.specs.declared.step_names.StepName.TheVariants as steps
 
 -- Declarations.
 
@@ -82,24 +84,24 @@ abbrev pub late_form : List Part
 late_form = record_words (OrEnd ∷ One (slot.Keyword keyword.Late) ∷ [])
 
 abbrev pub record_form_by : Sending → List Part
+record_form_by Proved = record_form
+record_form_by RetriesNew = record_form
+record_form_by DeletesFirst = record_form
+record_form_by NotIdempotent = record_form
 record_form_by Separate = crash_form
 record_form_by VisibleLate = late_form
-record_form_by sending = record_form
 
 abbrev pub tick_form : List Part
 tick_form = OrEnd ∷ One slot.Loss ∷ []
 
--- a step of one word
-abbrev pub bare_form : Bool → Option (List Part)
-bare_form true = Some []
-bare_form false = None
-
--- of a service that sends so
-abbrev pub service_step_form : Sending → List ℕ → Option (List Part)
-service_step_form sending name =
-    if bytes_eq name (codes "record") then Some (record_form_by sending)
-    else (if bytes_eq name (codes "tick") then Some tick_form
-    else (if bytes_eq name (codes "business") then Some (One slot.Text ∷ One slot.Text ∷ [])
-    else bare_form (bytes_eq name (codes "run") || bytes_eq name (codes "restart")
-    || bytes_eq name (codes "sweep") || bytes_eq name (codes "outbox")
-    || (bytes_eq name (codes "visible") && hides_rows sending))))
+-- of a service that sends so, behind the name of a step; None if services have no such step
+abbrev pub service_step_form : Sending → StepName → Option (List Part)
+service_step_form sending steps.Record = Some (record_form_by sending)
+service_step_form sending steps.Tick = Some tick_form
+service_step_form sending steps.Run = Some []
+service_step_form sending steps.Restart = Some []
+service_step_form sending steps.Sweep = Some []
+service_step_form sending steps.Outbox = Some []
+service_step_form sending steps.Business = Some (One slot.Text ∷ One slot.Text ∷ [])
+service_step_form sending steps.Visible = if hides_rows sending then Some [] else None
+service_step_form sending steps.Inbox = None

@@ -16,7 +16,7 @@ use Rattle.kob_scene_text.specs.declared.scene.Lost.{Lost}
 use Rattle.kob_scene_text.specs.declared.scene.Recording.{Recording}
 use Rattle.kob_scene_text.specs.declared.scene.Recording.TheVariants.{Whole, Crash, Late}
 use Rattle.kob_scene_text.specs.declared.scene.Sending.{Sending}
-use Rattle.kob_scene_text.specs.declared.scene.Sending.TheVariants.{Separate, VisibleLate}
+use Rattle.kob_scene_text.specs.declared.scene.Sending.TheVariants.{Proved, RetriesNew, DeletesFirst, NotIdempotent, Separate, VisibleLate}
 use Rattle.kob_scene_text.specs.declared.scene.ServiceStep.{ServiceStep}
 use Rattle.kob_scene_text.specs.Reading.{◌>>>◌, as_scripts, bad_line}
 use Rattle.std.specs.List.{list_any}
@@ -27,6 +27,9 @@ use Rattle.kob_scene_text.specs.declared.line.Head.TheVariants.{Setting, Service
 use Rattle.kob_scene_text.specs.declared.scene.ConsumerStep.TheVariants as consumer_steps
 use Rattle.kob_scene_text.specs.declared.scene.Lost.TheVariants as losses
 use Rattle.kob_scene_text.specs.declared.scene.ServiceStep.TheVariants as service_steps
+use Rattle.kob_scene_text.specs.declared.step_names.StepName.{StepName}
+use Rattle.kob_scene_text.specs.declared.step_names.StepName.TheVariants as steps
+use Rattle.kob_scene_text.specs.StepNames.{begins_step, step_named}
 
 -- a business row: its key and its state
 abbrev pub Written : Type 0
@@ -43,15 +46,13 @@ pub data ServiceTold : Type 0 where
 abbrev pub service_told : ServiceStep → ServiceTold
 service_told (service_steps.Record change event recording) =
     Recorded (written change) (stored_event 0 event) recording
-service_told step = Plain step
-
--- the words that begin a step
-abbrev pub begins_step : List ℕ → Bool
-begins_step word =
-    bytes_eq word (codes "record") || bytes_eq word (codes "tick") || bytes_eq word (codes "run")
-    || bytes_eq word (codes "restart") || bytes_eq word (codes "sweep")
-    || bytes_eq word (codes "outbox") || bytes_eq word (codes "business")
-    || bytes_eq word (codes "inbox") || bytes_eq word (codes "visible")
+service_told (service_steps.Tick lost) = Plain (service_steps.Tick lost)
+service_told service_steps.Run = Plain service_steps.Run
+service_told service_steps.Restart = Plain service_steps.Restart
+service_told service_steps.Sweep = Plain service_steps.Sweep
+service_told service_steps.Outbox = Plain service_steps.Outbox
+service_told (service_steps.Business kind key) = Plain (service_steps.Business kind key)
+service_told service_steps.Visible = Plain service_steps.Visible
 
 -- [lose-request|lose-reply]
 abbrev pub lost_of : List Word → Result (Option Lost) FaultKind
@@ -59,7 +60,7 @@ lost_of [] = Ok None
 lost_of (word ∷ []) =
     if bytes_eq word.decoded (codes "lose-request") then Ok (Some losses.Request)
     else (if bytes_eq word.decoded (codes "lose-reply") then Ok (Some losses.Reply) else Err BadLine)
-lost_of _ = Err BadLine
+lost_of (word ∷ other ∷ words) = Err BadLine
 
 -- a UUID in one of its forms
 abbrev pub id_in : Option (List ℕ) → Result (List ℕ) SceneFaultKind
@@ -77,22 +78,27 @@ written_by kind key state =
 
 -- `crash` is a word of a service with `separate`, and `late` one of a service with `visible late`
 abbrev pub recording_named : Sending → List ℕ → Result Recording FaultKind
+recording_named Proved word = Err BadLine
+recording_named RetriesNew word = Err BadLine
+recording_named DeletesFirst word = Err BadLine
+recording_named NotIdempotent word = Err BadLine
 recording_named Separate word = if bytes_eq word (codes "crash") then Ok Crash else Err BadLine
 recording_named VisibleLate word = if bytes_eq word (codes "late") then Ok Late else Err BadLine
-recording_named sending word = Err BadLine
 
 -- how an event is recorded, by the words behind its change
 abbrev pub recording_of : Sending → List Word → Result Recording FaultKind
 recording_of sending [] = Ok Whole
 recording_of sending (word ∷ []) = recording_named sending word.decoded
-recording_of sending _ = Err BadLine
+recording_of sending (word ∷ other ∷ words) = Err BadLine
 
 -- KIND KEY STATE [crash|late]
 abbrev pub change_of : Sending → List Word → Result (Written × Recording) FaultKind
 change_of sending (kind ∷ key ∷ state ∷ rest) =
     recording_of sending rest >>= λ recording. written_by kind key state
     >>= λ change. Ok (change, recording)
-change_of sending _ = Err BadLine
+change_of sending (kind ∷ key ∷ []) = Err BadLine
+change_of sending (kind ∷ []) = Err BadLine
+change_of sending [] = Err BadLine
 
 -- AGGREGATETYPE AGGREGATEID TYPE PAYLOAD
 abbrev pub event_of : List ℕ → Word → Word → Word → Word → Result Event FaultKind
@@ -124,60 +130,72 @@ record_of sending _ = Err bad_line
 abbrev pub business_of : List Word → Result ServiceTold FaultKind
 business_of (kind ∷ key ∷ []) =
     text_of kind >>= λ kind. text_of key >>= λ key. Ok (Plain (service_steps.Business kind key))
-business_of _ = Err BadLine
+business_of (kind ∷ key ∷ word ∷ words) = Err BadLine
+business_of (kind ∷ []) = Err BadLine
+business_of [] = Err BadLine
 
 -- a service with `visible late` has hidden rows, and the step `visible`
 abbrev pub hides_rows : Sending → Bool
+hides_rows Proved = false
+hides_rows RetriesNew = false
+hides_rows DeletesFirst = false
+hides_rows NotIdempotent = false
+hides_rows Separate = false
 hides_rows VisibleLate = true
-hides_rows sending = false
 
--- the steps of one word
-abbrev pub bare_service_step : Sending → List ℕ → Result ServiceTold FaultKind
-bare_service_step sending name =
-    if bytes_eq name (codes "run") then Ok (Plain service_steps.Run)
-    else (if bytes_eq name (codes "restart") then Ok (Plain service_steps.Restart)
-    else (if bytes_eq name (codes "sweep") then Ok (Plain service_steps.Sweep)
-    else (if bytes_eq name (codes "outbox") then Ok (Plain service_steps.Outbox)
-    else (if bytes_eq name (codes "visible") && hides_rows sending
-    then Ok (Plain service_steps.Visible) else Err BadLine))))
+-- a step that its name alone makes
+abbrev pub alone : {A : Type 0} → A → List Word → Result A FaultKind
+alone step [] = Ok step
+alone step (word ∷ words) = Err BadLine
 
-abbrev pub bare_service_line : Sending → List ℕ → List Word → Result ServiceTold FaultKind
-bare_service_line sending name [] = bare_service_step sending name
-bare_service_line sending name (word ∷ words) = Err BadLine
+abbrev pub visible_of : Bool → List Word → Result ServiceTold FaultKind
+visible_of true words = alone (Plain service_steps.Visible) words
+visible_of false words = Err BadLine
 
--- the steps but `record`
-abbrev pub service_line : Sending → List ℕ → List Word → Result ServiceTold FaultKind
-service_line sending name words =
-    if bytes_eq name (codes "tick")
-    then (lost_of words >>= λ lost. Ok (Plain (service_steps.Tick lost)))
-    else (if bytes_eq name (codes "business") then business_of words
-    else bare_service_line sending name words)
+-- a step of a service that sends so, by the words behind its name
+abbrev pub service_line : Sending → StepName → List Word → Result ServiceTold SceneFaultKind
+service_line sending steps.Record words = record_of sending words
+service_line sending steps.Tick words =
+    as_scripts (lost_of words >>= λ lost. Ok (Plain (service_steps.Tick lost)))
+service_line sending steps.Run words = as_scripts (alone (Plain service_steps.Run) words)
+service_line sending steps.Restart words = as_scripts (alone (Plain service_steps.Restart) words)
+service_line sending steps.Sweep words = as_scripts (alone (Plain service_steps.Sweep) words)
+service_line sending steps.Outbox words = as_scripts (alone (Plain service_steps.Outbox) words)
+service_line sending steps.Business words = as_scripts (business_of words)
+service_line sending steps.Visible words = as_scripts (visible_of (hides_rows sending) words)
+service_line sending steps.Inbox words = Err bad_line
 
--- a step of a service that sends so, by its words
+abbrev pub service_line_by : Sending → Option StepName → List Word
+    → Result ServiceTold SceneFaultKind
+service_line_by sending None words = Err bad_line
+service_line_by sending (Some step) words = service_line sending step words
+
+-- the same, by its words
 abbrev pub service_step_of : Sending → List Word → Result ServiceTold SceneFaultKind
 service_step_of sending [] = Err bad_line
-service_step_of sending (first ∷ words) =
-    if bytes_eq first.decoded (codes "record") then record_of sending words
-    else as_scripts (service_line sending first.decoded words)
+service_step_of sending (name ∷ words) =
+    service_line_by sending (step_named name.decoded) words
 
-abbrev pub bare_consumer_step : List ℕ → Result ConsumerStep FaultKind
-bare_consumer_step name =
-    if bytes_eq name (codes "run") then Ok consumer_steps.Run
-    else (if bytes_eq name (codes "restart") then Ok consumer_steps.Restart
-    else (if bytes_eq name (codes "inbox") then Ok consumer_steps.Inbox
-    else Err BadLine))
+-- a step of a consumer, by the words behind its name
+abbrev pub consumer_line : StepName → List Word → Result ConsumerStep FaultKind
+consumer_line steps.Record words = Err BadLine
+consumer_line steps.Tick words = lost_of words >>= λ lost. Ok (consumer_steps.Tick lost)
+consumer_line steps.Run words = alone consumer_steps.Run words
+consumer_line steps.Restart words = alone consumer_steps.Restart words
+consumer_line steps.Sweep words = Err BadLine
+consumer_line steps.Outbox words = Err BadLine
+consumer_line steps.Business words = Err BadLine
+consumer_line steps.Visible words = Err BadLine
+consumer_line steps.Inbox words = alone consumer_steps.Inbox words
 
-abbrev pub bare_consumer_line : List ℕ → List Word → Result ConsumerStep FaultKind
-bare_consumer_line name [] = bare_consumer_step name
-bare_consumer_line name (word ∷ words) = Err BadLine
+abbrev pub consumer_line_by : Option StepName → List Word → Result ConsumerStep FaultKind
+consumer_line_by None words = Err BadLine
+consumer_line_by (Some step) words = consumer_line step words
 
--- a step of a consumer, by its words
+-- the same, by its words
 abbrev pub consumer_step_of : List Word → Result ConsumerStep FaultKind
 consumer_step_of [] = Err BadLine
-consumer_step_of (first ∷ words) =
-    if bytes_eq first.decoded (codes "tick")
-    then (lost_of words >>= λ lost. Ok (consumer_steps.Tick lost))
-    else bare_consumer_line first.decoded words
+consumer_step_of (name ∷ words) = consumer_line_by (step_named name.decoded) words
 
 -- lost ID, or delivered all
 abbrev pub expected_by : List ℕ → Word → Result Expected SceneFaultKind
@@ -193,7 +211,8 @@ expected_alone word = if bytes_eq word (codes "order") then Ok expectations.Orde
 abbrev pub expected_of : List Word → Result Expected SceneFaultKind
 expected_of (word ∷ []) = expected_alone word.decoded
 expected_of (first ∷ second ∷ []) = expected_by first.decoded second
-expected_of _ = Err bad_line
+expected_of (first ∷ second ∷ word ∷ words) = Err bad_line
+expected_of [] = Err bad_line
 
 -- What a line begins with.
 

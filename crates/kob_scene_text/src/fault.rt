@@ -7,7 +7,7 @@ use thiserror::Error;
 /// What is wrong with a line. BadEscape is checked first, over the whole line. A line of a script
 /// has the kinds of scripts, in their order. The words of a worker's line are checked from left to
 /// right: the name, then each part after it.
-#[derive(Clone, Copy, Debug, Error)]
+#[derive(Clone, Copy, Debug, PartialEq, Eq, Error)]
 pub enum SceneFaultKind {
     /// One of the faults of scripts.
     #[error("{0}")]

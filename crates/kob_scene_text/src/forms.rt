@@ -5,11 +5,12 @@ ghost use Rattle.std.specs.Option.{option_map};
 ghost use Rattle.kob_scene_text.specs.Places.{consumer_step_form};
 ghost use Rattle.kob_scene_text.specs.Places.{expect_form, expect_form_by, law_form};
 ghost use Rattle.kob_scene_text.specs.Places.{keyword_text, pair_form, setting_form, step_form};
-ghost use Rattle.kob_scene_text.specs.ServiceForms.{bare_form, tick_form};
+ghost use Rattle.kob_scene_text.specs.ServiceForms.{tick_form};
 
 use crate::name::Worker;
 use crate::scene::Sending;
 use crate::service_forms::service_step_form;
+use crate::step_names::{StepName, step_named};
 use kob_script::{Word, is_super};
 
 /// What a word writes.
@@ -193,23 +194,18 @@ pub(crate) fn tick_form() -> &'static [Part]
     &[Part::OrEnd, Part::One(Slot::Loss)]
 }
 
-pub(crate) fn bare_form(is_step: bool) -> Option<&'static [Part]>
-    ensures { option_map (λ parts. parts.now) result ≡ bare_form is_step }
+/// The words behind a step's name, of a consumer; None if consumers have no such step.
+fn consumer_step_form(step: StepName) -> Option<&'static [Part]>
+    ensures { option_map (λ parts. parts.now) result ≡ consumer_step_form step }
 {
-    if is_step { Some(&[]) } else { None }
-}
-
-fn consumer_step_form(name: &[u8]) -> Option<&'static [Part]>
-    ensures { option_map (λ parts. parts.now) result ≡ consumer_step_form name.now }
-{
-    if name == b"tick".as_slice() {
-        Some(tick_form())
-    } else {
-        bare_form(
-            name == b"run".as_slice()
-                || name == b"restart".as_slice()
-                || name == b"inbox".as_slice(),
-        )
+    match step {
+        StepName::Tick => Some(tick_form()),
+        StepName::Run | StepName::Restart | StepName::Inbox => Some(&[]),
+        StepName::Record
+        | StepName::Sweep
+        | StepName::Outbox
+        | StepName::Business
+        | StepName::Visible => None,
     }
 }
 
@@ -217,8 +213,9 @@ fn consumer_step_form(name: &[u8]) -> Option<&'static [Part]>
 pub(crate) fn step_form(sending: Sending, worker: Worker, name: &[u8]) -> Option<&'static [Part]>
     ensures { option_map (λ parts. parts.now) result ≡ step_form sending worker name.now }
 {
-    match worker {
-        Worker::Service(_) => service_step_form(sending, name),
-        Worker::Consumer(_) => consumer_step_form(name),
+    match (step_named(name), worker) {
+        (Some(step), Worker::Service(_)) => service_step_form(sending, step),
+        (Some(step), Worker::Consumer(_)) => consumer_step_form(step),
+        (None, _) => None,
     }
 }

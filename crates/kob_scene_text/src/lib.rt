@@ -20,6 +20,7 @@ mod scene;
 mod service_forms;
 mod service_lines;
 mod step_lines;
+mod step_names;
 mod variants;
 mod word_faults;
 mod workers_before;

@@ -19,7 +19,8 @@ use crate::name::{Worker, consumer_named, new_name, service_named, worker_named}
 use crate::reading::Reading;
 use crate::scene::{Consumer, Service, Step};
 use crate::service_lines::{DeclaredService, service_of};
-use crate::step_lines::{begins_step, consumer_step, expected_of, service_step};
+use crate::step_lines::{consumer_step, expected_of, service_step};
+use crate::step_names::begins_step;
 use crate::variants::{has_variant, sending_at};
 use kob_acl_cli::CliArgs;
 use kob_names::{Text, sum_of};

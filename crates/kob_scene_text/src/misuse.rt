@@ -1,15 +1,13 @@
 //! What a word of a line is where its line means something else by it.
 
 ghost use Rattle.std.specs.Prelude.{◌≡◌, IfOk, map, option_map};
-ghost use Rattle.kob_scene_text.specs.Misuses.{is_consumer_step, is_service_step, misuse_at};
-ghost use Rattle.kob_scene_text.specs.Misuses.{misuse_behind, misuse_of_name, misuse_of_step};
-ghost use Rattle.kob_scene_text.specs.Misuses.{misuse_of_worker};
+ghost use Rattle.kob_scene_text.specs.Misuses.{misuse_at, misuse_behind, misuse_between};
+ghost use Rattle.kob_scene_text.specs.Misuses.{misuse_of_name, misuse_of_step, misuse_of_worker};
 
 use crate::fault::SceneFaultKind;
-use crate::forms::step_form;
 use crate::name::Worker;
 use crate::place::same_kind;
-use crate::scene::Sending;
+use crate::step_names::{StepName, step_named};
 use crate::workers_before::worker_in;
 use kob_script::{FaultKind, Word};
 use std::alloc::{AllocError, Global};
@@ -41,8 +39,8 @@ pub fn misuse_at(
 {
     if same_kind(kind, SceneFaultKind::UnknownWorker) {
         misuse_of_name(alloc, before, words.get(place))
-    } else if same_kind(kind, SceneFaultKind::Script(FaultKind::BadLine)) {
-        misuse_behind(alloc, before, words, place)
+    } else if same_kind(kind, SceneFaultKind::Script(FaultKind::BadLine)) && place == 1 {
+        misuse_behind(alloc, before, words)
     } else {
         Ok(None)
     }
@@ -74,42 +72,57 @@ fn misuse_of_worker(worker: Worker) -> Misuse
     }
 }
 
+/// What the second word of a line is.
 fn misuse_behind(
     alloc: Global,
     before: &[&[u8]],
     words: &[Word<'_>],
-    place: usize,
 ) -> Result<Option<Misuse>, AllocError>
     ensures { IfOk result (λ misuse. misuse
-        ≡ misuse_behind (map (λ line. line.now) before.now) words.now place) }
+        ≡ misuse_behind (map (λ line. line.now) before.now) words.now) }
 {
     match words {
-        [worker, step, ..] if place == 1 => {
+        [worker, step, ..] => {
             let worker = worker_in(alloc, before, worker.decoded())?;
-            Ok(misuse_of_step(worker, step.decoded()))
+            Ok(misuse_between(worker, step_named(step.decoded())))
         }
-        _ => Ok(None),
+        [_] | [] => Ok(None),
     }
 }
 
-fn misuse_of_step(worker: Option<Worker>, step: &[u8]) -> Option<Misuse>
-    ensures { result ≡ misuse_of_step worker step.now }
+fn misuse_between(worker: Option<Worker>, step: Option<StepName>) -> Option<Misuse>
+    ensures { result ≡ misuse_between worker step }
 {
-    match worker {
-        Some(Worker::Service(_)) if is_consumer_step(step) => Some(Misuse::ConsumerStep),
-        Some(Worker::Consumer(_)) if is_service_step(step) => Some(Misuse::ServiceStep),
-        Some(Worker::Service(_) | Worker::Consumer(_)) | None => None,
+    misuse_of_step(worker?, step?)
+}
+
+fn misuse_of_step(worker: Worker, step: StepName) -> Option<Misuse>
+    ensures { result ≡ misuse_of_step worker step }
+{
+    match (worker, step) {
+        (Worker::Service(_), StepName::Inbox) => Some(Misuse::ConsumerStep),
+        (
+            Worker::Consumer(_),
+            StepName::Record
+            | StepName::Sweep
+            | StepName::Outbox
+            | StepName::Business
+            | StepName::Visible,
+        ) => Some(Misuse::ServiceStep),
+        (
+            Worker::Service(_),
+            StepName::Record
+            | StepName::Tick
+            | StepName::Run
+            | StepName::Restart
+            | StepName::Sweep
+            | StepName::Outbox
+            | StepName::Business
+            | StepName::Visible,
+        ) => None,
+        (
+            Worker::Consumer(_),
+            StepName::Tick | StepName::Run | StepName::Restart | StepName::Inbox,
+        ) => None,
     }
-}
-
-fn is_service_step(name: &[u8]) -> bool
-    ensures { result ≡ is_service_step name.now }
-{
-    step_form(Sending::VisibleLate, Worker::Service(0), name).is_some()
-}
-
-fn is_consumer_step(name: &[u8]) -> bool
-    ensures { result ≡ is_consumer_step name.now }
-{
-    step_form(Sending::Proved, Worker::Consumer(0), name).is_some()
 }

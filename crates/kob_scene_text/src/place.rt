@@ -101,7 +101,14 @@ fn request_place(
 {
     match kind {
         SceneFaultKind::Script(kind) => kob_script::fault_place(alloc, words, kind),
-        _ => Ok(None),
+        SceneFaultKind::UnknownWorker
+        | SceneFaultKind::BadWorkerName
+        | SceneFaultKind::NameTaken
+        | SceneFaultKind::BadPartitions
+        | SceneFaultKind::BadMax
+        | SceneFaultKind::BadRoute
+        | SceneFaultKind::BadId
+        | SceneFaultKind::NoLaw => Ok(None),
     }
 }
 
@@ -117,18 +124,7 @@ fn is_of(kind: SceneFaultKind, fault: Option<SceneFaultKind>) -> bool
 pub(crate) fn same_kind(one: SceneFaultKind, other: SceneFaultKind) -> bool
     ensures { result ≡ same_kind one other }
 {
-    match (one, other) {
-        (SceneFaultKind::Script(one), SceneFaultKind::Script(other)) => one == other,
-        (SceneFaultKind::UnknownWorker, SceneFaultKind::UnknownWorker)
-        | (SceneFaultKind::BadWorkerName, SceneFaultKind::BadWorkerName)
-        | (SceneFaultKind::NameTaken, SceneFaultKind::NameTaken)
-        | (SceneFaultKind::BadPartitions, SceneFaultKind::BadPartitions)
-        | (SceneFaultKind::BadMax, SceneFaultKind::BadMax)
-        | (SceneFaultKind::BadRoute, SceneFaultKind::BadRoute)
-        | (SceneFaultKind::BadId, SceneFaultKind::BadId)
-        | (SceneFaultKind::NoLaw, SceneFaultKind::NoLaw) => true,
-        _ => false,
-    }
+    one == other
 }
 
 /// The faults of the words of a line that begins so, in their order.

@@ -113,8 +113,12 @@ impl Sending {
         ensures { result ≡ hides_rows self }
     {
         match self {
+            Sending::Proved
+            | Sending::RetriesNew
+            | Sending::DeletesFirst
+            | Sending::NotIdempotent
+            | Sending::Separate => false,
             Sending::VisibleLate => true,
-            _ => false,
         }
     }
 }

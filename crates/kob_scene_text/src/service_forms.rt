@@ -8,8 +8,9 @@ ghost use Rattle.kob_scene_text.specs.ServiceForms.{retries_form, separate_form,
 ghost use Rattle.kob_scene_text.specs.ServiceForms.{service_form_by, service_step_form};
 ghost use Rattle.kob_scene_text.specs.ServiceForms.{visible_form};
 
-use crate::forms::{Keyword, Part, Slot, bare_form, tick_form};
+use crate::forms::{Keyword, Part, Slot, tick_form};
 use crate::scene::Sending;
+use crate::step_names::StepName;
 use kob_script::Word;
 
 /// The words behind `service`, of which the sixth says whether it is a variant.
@@ -194,29 +195,23 @@ fn record_form_by(sending: Sending) -> &'static [Part]
     ensures { result.now ≡ record_form_by sending }
 {
     match sending {
+        Sending::Proved | Sending::RetriesNew | Sending::DeletesFirst | Sending::NotIdempotent =>
+            record_form(),
         Sending::Separate => crash_form(),
         Sending::VisibleLate => late_form(),
-        _ => record_form(),
     }
 }
 
-/// The words behind a step's name, of a service that sends so.
-pub(crate) fn service_step_form(sending: Sending, name: &[u8]) -> Option<&'static [Part]>
-    ensures { option_map (λ parts. parts.now) result ≡ service_step_form sending name.now }
+/// The words behind a step's name, of a service that sends so; None if services have no such step.
+pub(crate) fn service_step_form(sending: Sending, step: StepName) -> Option<&'static [Part]>
+    ensures { option_map (λ parts. parts.now) result ≡ service_step_form sending step }
 {
-    if name == b"record".as_slice() {
-        Some(record_form_by(sending))
-    } else if name == b"tick".as_slice() {
-        Some(tick_form())
-    } else if name == b"business".as_slice() {
-        Some(&[Part::One(Slot::Text), Part::One(Slot::Text)])
-    } else {
-        bare_form(
-            name == b"run".as_slice()
-                || name == b"restart".as_slice()
-                || name == b"sweep".as_slice()
-                || name == b"outbox".as_slice()
-                || (name == b"visible".as_slice() && sending.hides_rows()),
-        )
+    match step {
+        StepName::Record => Some(record_form_by(sending)),
+        StepName::Tick => Some(tick_form()),
+        StepName::Run | StepName::Restart | StepName::Sweep | StepName::Outbox => Some(&[]),
+        StepName::Business => Some(&[Part::One(Slot::Text), Part::One(Slot::Text)]),
+        StepName::Visible if sending.hides_rows() => Some(&[]),
+        StepName::Visible | StepName::Inbox => None,
     }
 }

@@ -6,35 +6,20 @@ ghost use Rattle.kob_outbox.specs.Contents.{stored_event};
 ghost use Rattle.kob_script.specs.Words.{Gives as ScriptGives, GivesSeen as ScriptGivesSeen};
 ghost use Rattle.kob_script.specs.Words.{text_of};
 ghost use Rattle.kob_scene_text.specs.Reading.{Gives, GivesSeen};
-ghost use Rattle.kob_scene_text.specs.Steps.{bare_consumer_step, bare_service_line};
-ghost use Rattle.kob_scene_text.specs.Steps.{bare_service_step, begins_step, business_of};
+ghost use Rattle.kob_scene_text.specs.Steps.{business_of, change_of, consumer_line};
 ghost use Rattle.kob_scene_text.specs.Steps.{consumer_step_of, event_of, id_of, lost_of};
 ghost use Rattle.kob_scene_text.specs.Steps.{id_in, record_of, record_with, recording_named};
-ghost use Rattle.kob_scene_text.specs.Steps.{change_of, recording_of, service_line, written_by};
+ghost use Rattle.kob_scene_text.specs.Steps.{recording_of, service_line, written_by};
 ghost use Rattle.kob_scene_text.specs.Steps.{expected_alone, expected_by, expected_of};
 ghost use Rattle.kob_scene_text.specs.Steps.{service_step_of, service_told, written};
 
 use crate::fault::{SceneFaultKind, StepError};
 use crate::scene::{ConsumerStep, Expected, Lost, Recording, Sending, ServiceStep};
+use crate::step_names::{StepName, step_named};
 use kob_outbox::{Change, OutboxEvent};
 use kob_script::{FaultKind, LineError, Word, lent_text_of, text_of};
 use std::alloc::Global;
 use uuid::Uuid;
-
-/// Whether a word begins a step.
-pub(crate) fn begins_step(word: &[u8]) -> bool
-    ensures { result ≡ begins_step word.now }
-{
-    word == b"record".as_slice()
-        || word == b"tick".as_slice()
-        || word == b"run".as_slice()
-        || word == b"restart".as_slice()
-        || word == b"sweep".as_slice()
-        || word == b"outbox".as_slice()
-        || word == b"business".as_slice()
-        || word == b"inbox".as_slice()
-        || word == b"visible".as_slice()
-}
 
 /// Which message a tick loses, by the words after `tick`.
 fn lost_of(words: &[Word<'_>]) -> Result<Option<Lost>, LineError>
@@ -57,53 +42,41 @@ pub(crate) fn service_step(
     ensures { GivesSeen service_told result (service_step_of sending words.now) }
 {
     match words {
-        [first, rest @ ..] => {
-            if first.decoded() == b"record".as_slice() {
-                record_step(alloc, sending, rest)
-            } else {
-                Ok(service_line(alloc, sending, first.decoded(), rest)?)
-            }
-        }
+        [name, words @ ..] => match step_named(name.decoded()) {
+            Some(step) => service_line(alloc, sending, step, words),
+            None => Err(StepError::Fault(SceneFaultKind::Script(FaultKind::BadLine))),
+        },
         [] => Err(StepError::Fault(SceneFaultKind::Script(FaultKind::BadLine))),
     }
 }
 
-/// A step that is no record.
+/// A step of a service that sends so, by the words behind its name.
 fn service_line(
     alloc: Global,
     sending: Sending,
-    name: &[u8],
+    step: StepName,
     words: &[Word<'_>],
-) -> Result<ServiceStep, LineError>
-    ensures { ScriptGivesSeen service_told result (service_line sending name.now words.now) }
+) -> Result<ServiceStep, StepError>
+    ensures { GivesSeen service_told result (service_line sending step words.now) }
 {
-    if name == b"tick".as_slice() {
-        return Ok(ServiceStep::Tick(lost_of(words)?));
-    }
-    if name == b"business".as_slice() {
-        return business_step(alloc, words);
-    }
-    match words {
-        [] => bare_service_step(sending, name),
-        _ => Err(LineError::Fault(FaultKind::BadLine)),
-    }
-}
-
-fn bare_service_step(sending: Sending, name: &[u8]) -> Result<ServiceStep, LineError>
-    ensures { ScriptGivesSeen service_told result (bare_service_step sending name.now) }
-{
-    if name == b"run".as_slice() {
-        Ok(ServiceStep::Run)
-    } else if name == b"restart".as_slice() {
-        Ok(ServiceStep::Restart)
-    } else if name == b"sweep".as_slice() {
-        Ok(ServiceStep::Sweep)
-    } else if name == b"outbox".as_slice() {
-        Ok(ServiceStep::Outbox)
-    } else if name == b"visible".as_slice() && sending.hides_rows() {
-        Ok(ServiceStep::Visible)
-    } else {
-        Err(LineError::Fault(FaultKind::BadLine))
+    match (step, words) {
+        (StepName::Record, _) => record_step(alloc, sending, words),
+        (StepName::Tick, _) => Ok(ServiceStep::Tick(lost_of(words)?)),
+        (StepName::Run, []) => Ok(ServiceStep::Run),
+        (StepName::Restart, []) => Ok(ServiceStep::Restart),
+        (StepName::Sweep, []) => Ok(ServiceStep::Sweep),
+        (StepName::Outbox, []) => Ok(ServiceStep::Outbox),
+        (StepName::Business, _) => Ok(business_step(alloc, words)?),
+        (StepName::Visible, []) if sending.hides_rows() => Ok(ServiceStep::Visible),
+        (
+            StepName::Run
+            | StepName::Restart
+            | StepName::Sweep
+            | StepName::Outbox
+            | StepName::Visible
+            | StepName::Inbox,
+            _,
+        ) => Err(StepError::Fault(SceneFaultKind::Script(FaultKind::BadLine))),
     }
 }
 
@@ -112,25 +85,34 @@ pub(crate) fn consumer_step(words: &[Word<'_>]) -> Result<ConsumerStep, LineErro
     ensures { ScriptGives result (consumer_step_of words.now) }
 {
     match words {
-        [first, rest @ ..] if first.decoded() == b"tick".as_slice() => {
-            Ok(ConsumerStep::Tick(lost_of(rest)?))
-        }
-        [first] => bare_consumer_step(first.decoded()),
-        _ => Err(LineError::Fault(FaultKind::BadLine)),
+        [name, words @ ..] => match step_named(name.decoded()) {
+            Some(step) => consumer_line(step, words),
+            None => Err(LineError::Fault(FaultKind::BadLine)),
+        },
+        [] => Err(LineError::Fault(FaultKind::BadLine)),
     }
 }
 
-fn bare_consumer_step(name: &[u8]) -> Result<ConsumerStep, LineError>
-    ensures { ScriptGives result (bare_consumer_step name.now) }
+/// A step of a consumer, by the words behind its name.
+fn consumer_line(step: StepName, words: &[Word<'_>]) -> Result<ConsumerStep, LineError>
+    ensures { ScriptGives result (consumer_line step words.now) }
 {
-    if name == b"run".as_slice() {
-        Ok(ConsumerStep::Run)
-    } else if name == b"restart".as_slice() {
-        Ok(ConsumerStep::Restart)
-    } else if name == b"inbox".as_slice() {
-        Ok(ConsumerStep::Inbox)
-    } else {
-        Err(LineError::Fault(FaultKind::BadLine))
+    match (step, words) {
+        (StepName::Tick, _) => Ok(ConsumerStep::Tick(lost_of(words)?)),
+        (StepName::Run, []) => Ok(ConsumerStep::Run),
+        (StepName::Restart, []) => Ok(ConsumerStep::Restart),
+        (StepName::Inbox, []) => Ok(ConsumerStep::Inbox),
+        (
+            StepName::Record
+            | StepName::Run
+            | StepName::Restart
+            | StepName::Sweep
+            | StepName::Outbox
+            | StepName::Business
+            | StepName::Visible
+            | StepName::Inbox,
+            _,
+        ) => Err(LineError::Fault(FaultKind::BadLine)),
     }
 }
 
@@ -316,7 +298,12 @@ fn recording_named(sending: Sending, word: &[u8]) -> Result<Recording, LineError
     match sending {
         Sending::Separate if word == b"crash".as_slice() => Ok(Recording::Crash),
         Sending::VisibleLate if word == b"late".as_slice() => Ok(Recording::Late),
-        _ => Err(LineError::Fault(FaultKind::BadLine)),
+        Sending::Proved
+        | Sending::RetriesNew
+        | Sending::DeletesFirst
+        | Sending::NotIdempotent
+        | Sending::Separate
+        | Sending::VisibleLate => Err(LineError::Fault(FaultKind::BadLine)),
     }
 }
 

@@ -1,6 +1,6 @@
 //! Which workers the lines before declare.
 
-ghost use Rattle.std.specs.Prelude.{◌≡◌, IfOk, map};
+ghost use Rattle.std.specs.Prelude.{◌≡◌, IfOk, map, option_map};
 ghost use Rattle.kob_script.specs.Script.{line_words};
 ghost use Rattle.kob_scene_text.specs.Places.{are_of, are_of_variant, is_declared, is_variant};
 ghost use Rattle.kob_scene_text.specs.Places.{are_of_variant_consumer, are_of_variant_service};
@@ -79,14 +79,7 @@ fn are_of_variant(name: &[u8], words: &[Word<'_>]) -> bool
 fn are_of_variant_service(name: &[u8], words: &[Word<'_>]) -> bool
     ensures { result ≡ are_of_variant_service name.now words.now }
 {
-    match words {
-        [first, own, _, _, _, _, words @ ..] => {
-            first.decoded() == b"service".as_slice()
-                && own.decoded() == name
-                && names_variant(words)
-        }
-        _ => false,
-    }
+    are_of(b"service", name, words) && names_variant(words.get(6..).unwrap_or(&[]))
 }
 
 /// Whether words begin with the name of a variant of a service.
@@ -131,34 +124,32 @@ fn sending_of_line(alloc: Global, line: &[u8], name: &[u8]) -> Result<Option<Sen
 fn sending_of_words(name: &[u8], words: &[Word<'_>]) -> Option<Sending>
     ensures { result ≡ sending_of_words name.now words.now }
 {
-    match words {
-        [first, own, _, _, _, _, words @ ..]
-            if first.decoded() == b"service".as_slice() && own.decoded() == name => {
-            let (sending, _) = sending_first(words);
-            Some(sending)
-        }
-        _ => None,
+    if are_of(b"service", name, words) {
+        let (sending, _) = sending_first(words.get(6..).unwrap_or(&[]));
+        Some(sending)
+    } else {
+        None
     }
 }
 
 fn are_of_variant_consumer(name: &[u8], words: &[Word<'_>]) -> bool
     ensures { result ≡ are_of_variant_consumer name.now words.now }
 {
-    match words {
-        [first, own, _, _, _, _, _, _, keyword, ..] => {
-            first.decoded() == b"consumer".as_slice()
-                && own.decoded() == name
-                && begins_variant(keyword.decoded())
-        }
-        _ => false,
-    }
+    are_of(b"consumer", name, words) && begins_variant(words.get(8))
 }
 
 /// Whether a word behind the number of records is one of a variant of a consumer.
-fn begins_variant(word: &[u8]) -> bool
-    ensures { result ≡ begins_variant word.now }
+fn begins_variant(word: Option<&Word<'_>>) -> bool
+    ensures { result ≡ begins_variant (option_map (λ word. word.now) word.entry) }
 {
-    word == b"start".as_slice() || word == b"commits".as_slice() || word == b"no".as_slice()
+    match word {
+        Some(word) => {
+            word.decoded() == b"start".as_slice()
+                || word.decoded() == b"commits".as_slice()
+                || word.decoded() == b"no".as_slice()
+        }
+        None => false,
+    }
 }
 
 fn is_of(alloc: Global, keyword: &[u8], line: &[u8], name: &[u8]) -> Result<bool, AllocError>
@@ -176,6 +167,6 @@ fn are_of(keyword: &[u8], name: &[u8], words: &[Word<'_>]) -> bool
 {
     match words {
         [one, other, ..] => one.decoded() == keyword && other.decoded() == name,
-        _ => false,
+        [_] | [] => false,
     }
 }
