@@ -8,7 +8,7 @@ _kob() {
     elif [ "$task" = play ] && [[ $word == -* ]]; then
         mapfile -t COMPREPLY < <(compgen -W "--trace --json --help" -- "$word")
     elif [ "$task" = export ] && [[ $word == -* ]]; then
-        mapfile -t COMPREPLY < <(compgen -W "--connect --table --help" -- "$word")
+        mapfile -t COMPREPLY < <(compgen -W "--connect --service --table --help" -- "$word")
     elif [ "$task" = topic ] && [[ $word == -* ]]; then
         mapfile -t COMPREPLY < <(compgen -W "--help" -- "$word")
     elif [ "$task" = policy ] && [[ $word == -* ]]; then

@@ -11,6 +11,8 @@ use Rattle.kob_scene_play.specs.declared.fault.PlayFault.{PlayFault}
 use Rattle.kob_scene_play.specs.declared.fault.PlayFault.TheVariants as play
 use Rattle.kob_scene_play.specs.declared.text.Ended.{Ended}
 use Rattle.kob_scene_play.specs.declared.text.Ended.TheVariants as ended
+use Rattle.kob_topic_check.specs.declared.reading.ReadError.{ReadError}
+use Rattle.kob_topic_check.specs.declared.reading.ReadError.TheVariants as list
 
 abbrev pub status_of : Ending → ℕ
 status_of Whole = 0
@@ -47,6 +49,11 @@ ending_of_play (Ok ended.Unmet) = Differs
 ending_of_play (Ok (ended.Fault fault)) = Failed
 ending_of_play (Ok (ended.Stopped fault)) = ending_of_fault fault
 ending_of_play (Err fault) = ending_of_fault fault
+
+-- a list for a topic that was not read
+abbrev pub ending_of_list : ReadError → Ending
+ending_of_list (list.Memory refused) = OutOfMemory
+ending_of_list (list.Line line) = Failed
 
 -- an answer that is not the one that was expected
 abbrev pub ending_of_answers : Bool → Ending

@@ -2,7 +2,15 @@ pub mod Answers
 pub mod Commands
 pub mod Connect
 pub mod Ending
+pub mod Expected
 pub mod Export
+pub mod Exporting
+pub mod Headings
 pub mod Input
+pub mod Lists
 pub mod Options
+pub mod Pages
+pub mod Reports
+pub mod Stages
 pub mod Standing
+pub mod Unmet

@@ -2,6 +2,8 @@
 use Rattle.std.specs.Prelude.{ℕ, Bool, true, false, ◌||◌, ◌==◌, List, [], ◌∷◌, Option, Some, None, codes, if◌then◌else◌}
 use Rattle.std.specs.List.{list_any}
 use Rattle.std.specs.Str.{bytes_eq}
+use Rattle.clap.specs.Words.{raw_values}
+use Rattle.clap.specs.declared.parser.matches.MatchedArg.{MatchedArg}
 use Rattle.kob.specs.declared.connect.Database.{Database}
 use Rattle.kob.specs.declared.connect.Database.TheVariants.{Mysql, Postgresql}
 use Rattle.kob.specs.declared.options.ExportForm.{ExportForm}
@@ -15,6 +17,11 @@ use Rattle.kob_policy_text.specs.declared.question.Query.{Query}
 use Rattle.kob_policy_text.specs.declared.question.Question.{Question}
 use Rattle.kob_scene_play.specs.declared.form.Form.{Form}
 use Rattle.kob_scene_play.specs.declared.form.Form.TheVariants as form
+
+-- the values that clap found of an argument
+abbrev pub values_of : Option MatchedArg → List (List ℕ)
+values_of None = []
+values_of (Some found) = raw_values found
 
 -- by --json and --trace
 abbrev pub form_by : Bool → Bool → Option Form

@@ -1,13 +1,14 @@
 //! A service's router as a document for Kafka Connect, and its table.
 
-ghost use Rattle.std.specs.Prelude.{◌≡◌, ◌++◌, OnOk, codes, flat_map};
+ghost use Rattle.std.specs.List.{list_all};
+ghost use Rattle.std.specs.Prelude.{◌≡◌, ◌++◌, OnOk, codes, slice_get};
 ghost use Rattle.kob.specs.Connect.{by_id_text, by_property, closing_text, config_text};
-ghost use Rattle.kob.specs.Connect.{connect_text, connector_of, connects_text, default_replacement};
-ghost use Rattle.kob.specs.Connect.{mysql_table_text};
-ghost use Rattle.kob.specs.Connect.{mysql_text, opening_text, placement_key_text};
-ghost use Rattle.kob.specs.Connect.{postgresql_table_text, postgresql_text, property_unless};
-ghost use Rattle.kob.specs.Connect.{replacement_key_text, route_properties, table_of};
-ghost use Rattle.kob.specs.Connect.{transform_text};
+ghost use Rattle.kob.specs.Connect.{connect_text, connector_at, connector_of, default_replacement};
+ghost use Rattle.kob.specs.Connect.{is_slot_byte, is_slot_name, mysql_table_text, mysql_text};
+ghost use Rattle.kob.specs.Connect.{opening_text, placement_key_text, postgresql_table_text};
+ghost use Rattle.kob.specs.Connect.{postgresql_text, prefix_key_text, property_unless};
+ghost use Rattle.kob.specs.Connect.{publication_key_text, replacement_key_text, route_properties};
+ghost use Rattle.kob.specs.Connect.{slot_key_text, slot_name, slot_text, table_of, transform_text};
 ghost use Rattle.kob_scene_play.specs.Json.{json_string};
 
 use kob_names::Text;
@@ -17,26 +18,28 @@ use kob_scene_text::Service;
 use std::alloc::AllocError;
 
 /// A database whose outbox table a connector reads.
-#[derive(Clone, Copy, Debug, PartialEq, Eq)]
+#[derive(Clone, Copy)]
 pub enum Database {
     Postgresql,
     Mysql,
 }
 
-/// Adds a document for each service, as Kafka Connect's REST interface takes it: `POST /connectors`.
-/// What a user has to fill in stands in angle brackets. A property that has Debezium's default is
-/// left out. The error is out of memory.
-pub fn push_connects(
+/// Adds the document for the service at a place, as Kafka Connect's REST interface takes it:
+/// `POST /connectors`. What a user has to fill in stands in angle brackets. A property that has
+/// Debezium's default is left out. The error is out of memory.
+pub fn push_connector(
     out: &mut Vec<u8>,
     database: Database,
     services: &[Service],
+    place: usize,
 ) -> Result<(), AllocError>
-    ensures { OnOk result (out.new.items ≡ out.old.items ++ connects_text database services.now) }
+    ensures { OnOk result (out.new.items
+        ≡ out.old.items ++ connector_at database (slice_get services.now place)) }
 {
-    for service in services {
-        push_connect(out, database, service)?;
+    match services.get(place) {
+        Some(service) => push_connect(out, database, service),
+        None => Ok(()),
     }
-    Ok(())
 }
 
 #[tactic(auto, using(kob_words::proofs::Appending::appending))]
@@ -47,10 +50,59 @@ fn push_connect(out: &mut Vec<u8>, database: Database, service: &Service) -> Res
     push_json_string(out, service.name.as_str().as_bytes())?;
     out.extend_from_slice(config_text().as_bytes())?;
     out.extend_from_slice(connector_of(database).as_bytes())?;
+    push_slot(out, database, &service.name)?;
+    out.extend_from_slice(prefix_key_text().as_bytes())?;
     push_json_string(out, service.name.as_str().as_bytes())?;
     out.extend_from_slice(transform_text().as_bytes())?;
     push_route(out, &service.settings)?;
     out.extend_from_slice(closing_text().as_bytes())
+}
+
+/// The replication slot and the publication of the connector, of which each needs its own.
+#[tactic(auto, using(kob_words::proofs::Appending::appending))]
+fn push_slot(out: &mut Vec<u8>, database: Database, name: &Text) -> Result<(), AllocError>
+    ensures { OnOk result (out.new.items ≡ out.old.items ++ slot_text database name.now) }
+{
+    match database {
+        Database::Postgresql => {
+            push_property(out, slot_key_text(), slot_name(name, "<SLOT_NAME>"))?;
+            push_property(
+                out,
+                publication_key_text(),
+                slot_name(name, "<PUBLICATION_NAME>"),
+            )
+        }
+        Database::Mysql => Ok(()),
+    }
+}
+
+/// The name, if PostgreSQL takes it for a slot.
+fn slot_name<'a>(name: &'a Text, other: &'a str) -> &'a str
+    ensures { result.now ≡ slot_name name.now other.now }
+{
+    if is_slot_name(name.as_str().as_bytes()) {
+        name.as_str()
+    } else {
+        other
+    }
+}
+
+fn is_slot_name(name: &[u8]) -> bool
+    ensures { result ≡ is_slot_name name.now }
+{
+    name.len() <= 63 && has_slot_bytes(name)
+}
+
+fn has_slot_bytes(name: &[u8]) -> bool
+    ensures { result ≡ list_all is_slot_byte name.now }
+{
+    name.iter().all(|byte| is_slot_byte(*byte))
+}
+
+fn is_slot_byte(byte: u8) -> bool
+    ensures { result ≡ is_slot_byte byte }
+{
+    byte.is_ascii_lowercase() || byte.is_ascii_digit() || byte == b'_'
 }
 
 fn connector_of(database: Database) -> &'static str
@@ -93,17 +145,17 @@ fn push_unless(out: &mut Vec<u8>, default: &str, name: &str, value: &Text) -> Re
     if value.as_str() == default {
         Ok(())
     } else {
-        push_property(out, name, value)
+        push_property(out, name, value.as_str())
     }
 }
 
 #[tactic(auto, using(kob_words::proofs::Appending::appending))]
-fn push_property(out: &mut Vec<u8>, name: &str, value: &Text) -> Result<(), AllocError>
+fn push_property(out: &mut Vec<u8>, name: &str, value: &str) -> Result<(), AllocError>
     ensures { OnOk result (out.new.items
         ≡ out.old.items ++ (name.now ++ json_string value.now ++ codes ",\n")) }
 {
     out.extend_from_slice(name.as_bytes())?;
-    push_json_string(out, value.as_str().as_bytes())?;
+    push_json_string(out, value.as_bytes())?;
     out.extend_from_slice(b",\n")
 }
 
@@ -138,7 +190,7 @@ fn config_text() -> &'static str
 fn postgresql_text() -> &'static str
     ensures { result.now ≡ postgresql_text }
 {
-    "    \"connector.class\": \"io.debezium.connector.postgresql.PostgresConnector\",\n    \"plugin.name\": \"pgoutput\",\n    \"database.hostname\": \"<DATABASE_HOST>\",\n    \"database.user\": \"<DATABASE_USER>\",\n    \"database.password\": \"<DATABASE_PASSWORD>\",\n    \"database.dbname\": \"<DATABASE_NAME>\",\n    \"table.include.list\": \"public.outbox\",\n    \"topic.prefix\": "
+    "    \"connector.class\": \"io.debezium.connector.postgresql.PostgresConnector\",\n    \"plugin.name\": \"pgoutput\",\n    \"database.hostname\": \"<DATABASE_HOST>\",\n    \"database.user\": \"<DATABASE_USER>\",\n    \"database.password\": \"<DATABASE_PASSWORD>\",\n    \"database.dbname\": \"<DATABASE_NAME>\",\n    \"table.include.list\": \"public.outbox\",\n"
 }
 
 /// Debezium's connector for MySQL.
@@ -146,7 +198,31 @@ fn postgresql_text() -> &'static str
 fn mysql_text() -> &'static str
     ensures { result.now ≡ mysql_text }
 {
-    "    \"connector.class\": \"io.debezium.connector.mysql.MySqlConnector\",\n    \"database.hostname\": \"<DATABASE_HOST>\",\n    \"database.user\": \"<DATABASE_USER>\",\n    \"database.password\": \"<DATABASE_PASSWORD>\",\n    \"database.server.id\": \"<A_NUMBER_THAT_NO_OTHER_REPLICA_HAS>\",\n    \"schema.history.internal.kafka.bootstrap.servers\": \"<BOOTSTRAP_SERVERS>\",\n    \"schema.history.internal.kafka.topic\": \"<SCHEMA_HISTORY_TOPIC>\",\n    \"table.include.list\": \"<DATABASE_NAME>.outbox\",\n    \"topic.prefix\": "
+    "    \"connector.class\": \"io.debezium.connector.mysql.MySqlConnector\",\n    \"database.hostname\": \"<DATABASE_HOST>\",\n    \"database.user\": \"<DATABASE_USER>\",\n    \"database.password\": \"<DATABASE_PASSWORD>\",\n    \"database.server.id\": \"<A_NUMBER_THAT_NO_OTHER_REPLICA_HAS>\",\n    \"schema.history.internal.kafka.bootstrap.servers\": \"<BOOTSTRAP_SERVERS>\",\n    \"schema.history.internal.kafka.topic\": \"<A_TOPIC_THAT_NO_OTHER_CONNECTOR_HAS>\",\n    \"table.include.list\": \"<DATABASE_NAME>.outbox\",\n"
+}
+
+/// The name of a property.
+#[tactic(auto, unfolding(crate::specs::Connect::slot_key_text))]
+fn slot_key_text() -> &'static str
+    ensures { result.now ≡ slot_key_text }
+{
+    "    \"slot.name\": "
+}
+
+/// The name of a property.
+#[tactic(auto, unfolding(crate::specs::Connect::publication_key_text))]
+fn publication_key_text() -> &'static str
+    ensures { result.now ≡ publication_key_text }
+{
+    "    \"publication.name\": "
+}
+
+/// The name of a property.
+#[tactic(auto, unfolding(crate::specs::Connect::prefix_key_text))]
+fn prefix_key_text() -> &'static str
+    ensures { result.now ≡ prefix_key_text }
+{
+    "    \"topic.prefix\": "
 }
 
 /// The outbox event router.

@@ -6,7 +6,7 @@ ghost use Rattle.kob.specs.Ending.{ending_of_fault, ending_of_play, status_of, w
 use kob_scene_play::{Ended, PlayFault};
 
 /// The ends of a piece of work, and of all of it, from the best to the worst.
-#[derive(Clone, Copy, Debug, PartialEq, Eq)]
+#[derive(Clone, Copy, PartialEq, Eq)]
 pub enum Ending {
     /// All was played, exported or answered.
     Whole,
@@ -43,7 +43,8 @@ impl Ending {
     }
 }
 
-fn ending_of_fault(fault: PlayFault) -> Ending
+/// The end of a scene that a fault stopped.
+pub fn ending_of_fault(fault: PlayFault) -> Ending
     ensures { result ≡ ending_of_fault fault }
 {
     match fault {

@@ -1,5 +1,9 @@
 //! The pages of help.
 
+ghost use Rattle.std.specs.Prelude.{◌≡◌};
+ghost use Rattle.std.specs.Option.{option_map};
+ghost use Rattle.kob.specs.Pages.{page_on};
+
 /// The general page.
 pub static HELP: &str = "\
 Kafka's access rules and the transactional outbox, tried with a proved broker.
@@ -31,7 +35,7 @@ usage: kob play [--trace | --json] [FILE]...
 
 Each answer has its number. A text with a fault prints only fault line LINE KIND; standard error has
 the line and the word. Status: 0 all was played, 1 a fault, or a read or a write failed, 2 out of
-memory, 3 something that a scene expects is not so.
+memory, 3 something that a scene expects is not so; standard error then has the line of the first.
 ";
 
 /// The page on `kob export`.
@@ -39,15 +43,22 @@ pub static HELP_EXPORT: &str = "\
 Prints the final state of scenes: the settings, topics and bindings that the requests leave, as
 server.properties, kafka-topics and kafka-acls, and the route of each service for Debezium.
 
-usage: kob export [--connect DATABASE | --table DATABASE] [FILE]...
+usage: kob export [--connect DATABASE [--service NAME] | --table DATABASE] [FILE]...
 
   FILE              exports FILE; - or none: standard input. With several, == FILE comes before each
-  --connect DATABASE    prints a document for Kafka Connect for each service, and nothing else;
-                    DATABASE is postgresql or mysql
+  --connect DATABASE    prints a document for Kafka Connect for the service of a scene, and nothing
+                    else; DATABASE is postgresql or mysql
+  --service NAME    with --connect: of several services this one; one call for each
   --table DATABASE  prints the CREATE TABLE of the outbox table, and nothing else
   -h, --help        prints this page
 
-Status: 0 all was exported, 1 a fault, or a read or a write failed, 2 out of memory.
+A document has the service's name as the name of its connector, of its topics' prefix, and in
+PostgreSQL of its slot and publication, or <SLOT_NAME> where PostgreSQL takes no such name. Services
+of one database also need a table each: change table.include.list.
+A variant of a service is not exported; standard error names it.
+
+Status: 0 all was exported, 1 a fault, several services and no --service, or a read or a write
+failed, 2 out of memory.
 ";
 
 /// The page on `kob policy`.
@@ -153,7 +164,9 @@ hexadecimal digits stand for a byte. A line that begins with # is a comment.
 ";
 
 /// The page on a subject, the general one for none.
-pub fn help_on(subject: &str) -> Option<&'static str> {
+pub fn help_on(subject: &str) -> Option<&'static str>
+    ensures { option_map (λ page. page.now) result ≡ page_on subject.now }
+{
     match subject {
         "" => Some(HELP),
         "play" => Some(HELP_PLAY),

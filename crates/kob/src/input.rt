@@ -10,7 +10,7 @@ use std::rt::Files;
 use thiserror::Error;
 
 /// What a text is for, which says how long it may be.
-#[derive(Clone, Copy, Debug, PartialEq, Eq)]
+#[derive(Clone, Copy)]
 pub enum Kind {
     /// A scene or a script: 16,777,216 bytes.
     Scene,

@@ -5,7 +5,9 @@
 mod commands;
 mod connect;
 mod ending;
+mod expected;
 mod export;
+mod exporting;
 mod help;
 mod input;
 mod logs;
@@ -21,6 +23,7 @@ mod source;
 mod stages;
 mod standing;
 mod topic;
+mod unmet;
 mod version;
 mod watched;
 

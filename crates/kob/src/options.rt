@@ -1,8 +1,9 @@
 //! The words of the command line, read by `clap`.
 
-ghost use Rattle.std.specs.Prelude.{◌≡◌};
+ghost use Rattle.std.specs.Prelude.{◌≡◌, ◌++◌, ◌∷◌, [], IfOk, IsErr, OnOk, map, string_bytes};
 ghost use Rattle.std.specs.Option.{option_map};
-ghost use Rattle.kob.specs.Options.{database_named, export_form_by, form_by};
+ghost use Rattle.clap.specs.Words.{AddsArg, first_value, found_of, matched_of};
+ghost use Rattle.kob.specs.Options.{database_named, export_form_by, form_by, values_of};
 
 use crate::connect::Database;
 use crate::help::{HELP, HELP_EXPORT, HELP_PLAY, HELP_TOPIC};
@@ -17,8 +18,9 @@ pub enum Task {
     /// Plays scenes and scripts, and writes the answers in a form that is asked for; without a file,
     /// standard input.
     Play(Option<Form>, Vec<String>),
-    /// Exports the final state of scenes, or their services, in a form that is asked for.
-    Export(ExportForm, Vec<String>),
+    /// Exports the final state of scenes, or the connector of the service with this name, in a form
+    /// that is asked for.
+    Export(ExportForm, Option<String>, Vec<String>),
     /// Answers questions about lists of bindings, by the words after `policy`.
     Policy,
     /// Compares the rows of an outbox with the records of a topic, in two files.
@@ -29,11 +31,11 @@ pub enum Task {
 }
 
 /// What an export prints.
-#[derive(Clone, Copy, Debug, PartialEq, Eq)]
+#[derive(Clone, Copy)]
 pub enum ExportForm {
     /// The final state, as commands and properties of Kafka and Debezium.
     Commands,
-    /// A document for Kafka Connect for each service.
+    /// A document for Kafka Connect for a service.
     Connect(Database),
     /// The statement that creates the outbox table.
     Table(Database),
@@ -85,7 +87,10 @@ fn with_subcommand<'a>(
 pub fn with_arg<'a>(
     made: Command<'a>,
     arg: Result<Arg<'a>, AllocError>,
-) -> Result<Command<'a>, AllocError> {
+) -> Result<Command<'a>, AllocError>
+    ensures added { IfOk result (λ grown. IfOk arg.entry (λ given. AddsArg made.entry given grown)) }
+    ensures refused { IsErr arg.entry → IsErr result }
+{
     match arg {
         Ok(arg) => made.arg(arg),
         Err(refused) => {
@@ -102,7 +107,16 @@ fn play_command<'a>(alloc: Global) -> Result<Command<'a>, AllocError> {
 
 fn export_command<'a>(alloc: Global) -> Result<Command<'a>, AllocError> {
     let made = files_command(alloc, "export", HELP_EXPORT)?.arg(database(alloc, "connect"))?;
-    with_arg(made, database(alloc, "table").conflicts_with("connect"))
+    let made = with_arg(made, database(alloc, "table").conflicts_with("connect"))?;
+    with_arg(made, service(alloc).requires_arg("connect"))
+}
+
+/// An option that takes the name of a service.
+fn service<'a>(alloc: Global) -> Arg<'a> {
+    Arg::new(alloc, "service")
+        .long("service")
+        .value_name("NAME")
+        .action(ArgAction::Set)
 }
 
 fn help_command<'a>(alloc: Global) -> Result<Command<'a>, AllocError> {
@@ -140,14 +154,18 @@ fn task_in(alloc: Global, matches: &ArgMatches<'_>) -> Result<Task, AllocError> 
     match matches.subcommand() {
         Some(("play", used)) => Ok(Task::Play(form_in(used), values_of(alloc, used, "FILE")?)),
         Some(("export", used)) => {
-            Ok(Task::Export(export_form_in(used), values_of(alloc, used, "FILE")?))
+            let files = values_of(alloc, used, "FILE")?;
+            match value_of(alloc, used, "service") {
+                Ok(service) => Ok(Task::Export(export_form_in(used), service, files)),
+                Err(refused) => {
+                    drop(files);
+                    Err(refused)
+                }
+            }
         }
         Some(("policy", _)) => Ok(Task::Policy),
         Some(("topic", used)) => Ok(Task::Topic(values_of(alloc, used, "FILE")?)),
-        Some((_, used)) => match used.get_str("SUBJECT") {
-            Some(subject) => Ok(Task::Help(Some(String::from_str(alloc, subject)?))),
-            None => Ok(Task::Help(None)),
-        },
+        Some((_, used)) => Ok(Task::Help(value_of(alloc, used, "SUBJECT")?)),
         None if matches.get_flag("version") => Ok(Task::Version),
         None => Ok(Task::Help(None)),
     }
@@ -197,17 +215,55 @@ fn database_named(name: &str) -> Database
     }
 }
 
+/// The value of an argument, if it is given.
+fn value_of(
+    alloc: Global,
+    matches: &ArgMatches<'_>,
+    name: &str,
+) -> Result<Option<String>, AllocError>
+    ensures { IfOk result (λ value. option_map string_bytes value
+        ≡ first_value (found_of matches.now) name.now) }
+{
+    match matches.get_str(name) {
+        Some(text) => Ok(Some(String::from_str(alloc, text)?)),
+        None => Ok(None),
+    }
+}
+
 /// The values of an argument, in the order given.
 pub fn values_of(
     alloc: Global,
     matches: &ArgMatches<'_>,
     name: &str,
-) -> Result<Vec<String>, AllocError> {
-    let mut values = Vec::new(alloc);
-    if let Some(texts) = matches.get_strs(name) {
-        for text in texts {
-            values.push(String::from_str(alloc, text)?)?;
+) -> Result<Vec<String>, AllocError>
+    ensures { IfOk result (λ values. map string_bytes values.items
+        ≡ values_of (matched_of (found_of matches.now) name.now)) }
+{
+    match matches.get_strs(name) {
+        Some(texts) => copies_of(alloc, texts),
+        None => Ok(Vec::new(alloc)),
+    }
+}
+
+fn copies_of(alloc: Global, texts: &[&str]) -> Result<Vec<String>, AllocError>
+    ensures { IfOk result (λ made. map string_bytes made.items
+        ≡ map (λ text. text.now) texts.now) }
+{
+    let mut made = Vec::new(alloc);
+    for text in texts {
+        if let Err(refused) = push_copy(alloc, &mut made, text) {
+            drop(made);
+            return Err(refused);
         }
     }
-    Ok(values)
+    Ok(made)
+}
+
+fn push_copy(alloc: Global, made: &mut Vec<String>, text: &str) -> Result<(), AllocError>
+    ensures { OnOk result (map string_bytes made.new.items
+        ≡ map string_bytes made.old.items ++ text.now ∷ []) }
+{
+    let copy = String::from_str(alloc, text)?;
+    made.push(copy)?;
+    Ok(())
 }

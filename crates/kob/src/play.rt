@@ -1,35 +1,37 @@
 //! Texts that are played or exported.
 
-ghost use Rattle.std.specs.Prelude.{◌≡◌, ◌↔◌, ◌++◌, IsOk, OnOk};
-ghost use Rattle.kob.specs.Connect.{export_by};
+ghost use Rattle.std.specs.Prelude.{◌≡◌, ◌++◌, OnOk, map};
+ghost use Rattle.kob.specs.Ending.{ending_of_play};
+ghost use Rattle.kob.specs.Headings.{heading_text, word_at};
 
-use crate::connect::{push_connects, table_of};
 use crate::ending::{Ending, ending_of_play};
-use crate::export::export_scene;
+use crate::expected::{Expected, line_of};
+use crate::exporting::export;
 use crate::input::{Kind, text_of};
 use crate::options::ExportForm;
-use crate::report;
+use crate::report::{self, Report, push_mistake, tell, tell_lines, write};
 use crate::watched::Watched;
-use kob_broker::OpenFault;
-use kob_mistakes::{doubtful_state, mistake_in, quoted_name};
+use kob_mistakes::{
+    Mistake, doubtful_state, mistake_in, push_doubtful, push_misused, push_quoted, quoted_name,
+};
 use kob_scene_play::{Ended, Form, PlayFault, play_text, push_json_string};
-use kob_scene_text::{Scene, SceneError, SceneFault, print_scene_fault, read_scene};
+use kob_scene_text::{SceneFault, read_scene};
 use std::alloc::{AllocError, Global};
-use std::io::{self, Write};
 use std::rt::{Clock, Files};
 
 /// What is done with a text.
 #[derive(Clone, Copy)]
-pub enum Work {
+pub enum Work<'a> {
     /// Plays it. The answers have this form, and long work is reported if it is watched.
     Play { form: Form, is_watched: bool },
-    Export(ExportForm),
+    /// Exports it in this form; of several services, the connector of the one with this name.
+    Export(ExportForm, Option<&'a str>),
 }
 
 /// Does the work on each file, or on standard input if none is named. Returns the worst end.
 pub fn do_files<R: AllocGlobal + Clock + Files + Input + Print + Eprint>(
     rt: &R,
-    work: Work,
+    work: Work<'_>,
     files: &[String],
 ) -> Ending {
     if files.is_empty() {
@@ -45,12 +47,16 @@ pub fn do_files<R: AllocGlobal + Clock + Files + Input + Print + Eprint>(
 /// Plays or exports one of the files, after a line with its name if there are several.
 fn do_headed<R: AllocGlobal + Clock + Files + Input + Print + Eprint>(
     rt: &R,
-    work: Work,
+    work: Work<'_>,
     file: &str,
     headed: bool,
 ) -> Ending {
     if headed {
-        let heading = write_heading(rt, work, file);
+        let mut out = Vec::new(rt.alloc());
+        let heading = match push_heading(&mut out, work, file) {
+            Ok(()) => write(rt, file, &out),
+            Err(_) => tell(rt, Report::OutOfMemory(file)),
+        };
         if heading != Ending::Whole {
             return heading;
         }
@@ -59,15 +65,10 @@ fn do_headed<R: AllocGlobal + Clock + Files + Input + Print + Eprint>(
 }
 
 /// A line with the name of a file: `== FILE`, or an object of JSON.
-fn write_heading<R: AllocGlobal + Print + Eprint>(rt: &R, work: Work, file: &str) -> Ending {
-    let mut out = Vec::new(rt.alloc());
-    match push_heading(&mut out, work, file) {
-        Ok(()) => write(rt, file, &out),
-        Err(_) => report::out_of_memory(rt, file),
-    }
-}
-
-fn push_heading(out: &mut Vec<u8>, work: Work, file: &str) -> Result<(), AllocError> {
+#[tactic(auto, using(kob_words::proofs::Appending::appending))]
+fn push_heading(out: &mut Vec<u8>, work: Work<'_>, file: &str) -> Result<(), AllocError>
+    ensures { OnOk result (out.new.items ≡ out.old.items ++ heading_text work.entry file.now) }
+{
     match work {
         Work::Play {
             form: Form::Json,
@@ -87,154 +88,129 @@ fn push_heading(out: &mut Vec<u8>, work: Work, file: &str) -> Result<(), AllocEr
 
 fn do_file<R: AllocGlobal + Clock + Files + Input + Print + Eprint>(
     rt: &R,
-    work: Work,
+    work: Work<'_>,
     file: &str,
 ) -> Ending {
-    match text_of(rt, Kind::Scene, file) {
-        Ok(text) => do_text(rt, work, file, &text),
-        Err(fault) => report::unread(rt, file, &fault),
-    }
-}
-
-fn do_text<R: AllocGlobal + Clock + Print + Eprint>(
-    rt: &R,
-    work: Work,
-    name: &str,
-    text: &[u8],
-) -> Ending {
+    let text = match text_of(rt, Kind::Scene, file) {
+        Ok(text) => text,
+        Err(fault) => return report::unread(rt, file, &fault),
+    };
     match work {
         Work::Play { form, is_watched } => {
-            let mut writer = Watched::new(rt, name, is_watched);
-            let played = play_text(rt.alloc(), form, text, &mut writer);
-            report_play(rt, name, text, played)
+            let mut writer = Watched::new(rt, file, form, is_watched);
+            let played = play_text(rt.alloc(), form, &text, &mut writer);
+            report_play(rt, file, &text, played, writer.expected)
         }
-        Work::Export(form) => export(rt, form, name, text),
+        Work::Export(form, service) => export(rt, form, service, file, &text),
     }
 }
 
-/// Reports what went wrong with a scene, and returns how it ended.
+/// Reports what went wrong with a scene, or what was not as it was expected to be, and returns how it
+/// ended.
 fn report_play<R: AllocGlobal + Eprint>(
     rt: &R,
     name: &str,
     text: &[u8],
     played: Result<Ended, PlayFault>,
-) -> Ending {
+    expected: Expected,
+) -> Ending
+    ensures { result ≡ ending_of_play played }
+{
     match played {
-        Ok(Ended::Clean | Ended::Unmet) => {
-            say_quotes(rt, name, text);
-            say_state(rt, name, text);
+        Ok(Ended::Clean) => say_remarks(rt, name, text),
+        Ok(Ended::Unmet) => {
+            say_unmet(rt, name, text, expected);
+            say_remarks(rt, name, text);
         }
-        Ok(Ended::Fault(fault)) => say_fault(rt, name, text, fault),
-        Ok(Ended::Stopped(fault)) | Err(fault) => report::stopped(rt, name, fault),
+        Ok(Ended::Fault(fault)) => {
+            say_fault(rt, name, text, fault);
+        }
+        Ok(Ended::Stopped(fault)) | Err(fault) => {
+            report::stopped(rt, name, fault);
+        }
     }
     ending_of_play(played)
 }
 
-/// Says which name has quotes that a shell would have removed.
-fn say_quotes<R: AllocGlobal + Eprint>(rt: &R, name: &str, text: &[u8]) {
-    if let Some((line, word)) = quoted_name(text) {
-        report::quoted(rt, name, line, word);
+/// Says how many things are not as the scene expects them, and the line of the first.
+fn say_unmet<R: AllocGlobal + Eprint>(rt: &R, name: &str, text: &[u8], expected: Expected) {
+    if let Ok(scene) = read_scene(rt.alloc(), text) {
+        let line = line_of(&scene.steps, &scene.lines, expected.first);
+        let count = expected.unmet;
+        tell(rt, Report::Unmet { name, count, line });
     }
 }
 
-/// Says which record has a state that is the word of a variant.
-fn say_state<R: AllocGlobal + Eprint>(rt: &R, name: &str, text: &[u8]) {
-    if let Ok(Some((line, word))) = doubtful_state(rt.alloc(), text) {
-        report::doubtful(rt, name, line, word);
+/// Says which name has quotes that a shell would have removed, and which record has a state that is
+/// the word of a variant.
+fn say_remarks<R: AllocGlobal + Eprint>(rt: &R, name: &str, text: &[u8]) {
+    let mut out = Vec::new(rt.alloc());
+    let made = push_remarks(rt.alloc(), &mut out, name, text);
+    tell_lines(rt, made, &out);
+}
+
+fn push_remarks(
+    alloc: Global,
+    out: &mut Vec<u8>,
+    name: &str,
+    text: &[u8],
+) -> Result<(), AllocError> {
+    if let Some((line, word)) = quoted_name(text) {
+        push_quoted(out, name, line, word)?;
     }
+    if let Some((line, word)) = doubtful_state(alloc, text)? {
+        push_doubtful(out, name, line, word)?;
+    }
+    Ok(())
 }
 
 /// Says which line has a fault, which word of it is wrong, and what was expected.
-fn say_fault<R: AllocGlobal + Eprint>(rt: &R, name: &str, text: &[u8], fault: SceneFault) {
-    match mistake_in(rt.alloc(), text, fault) {
-        Ok(mistake) => {
-            report::fault(rt, name, fault, &mistake);
-            let _ = report::mistake(rt, &mistake);
-        }
-        Err(_) => {
-            let _ = eprintln!(rt; "kob: {name}: {fault}");
-        }
-    }
-}
-
-fn export<R: AllocGlobal + Print + Eprint>(
-    rt: &R,
-    form: ExportForm,
-    name: &str,
-    text: &[u8],
-) -> Ending {
-    match read_scene(rt.alloc(), text) {
-        Ok(scene) => export_read(rt, form, name, &scene),
-        Err(SceneError::Fault(fault)) => export_fault(rt, name, text, fault),
-        Err(SceneError::Memory(_)) => report::out_of_memory(rt, name),
-    }
-}
-
-fn export_read<R: AllocGlobal + Print + Eprint>(
-    rt: &R,
-    form: ExportForm,
-    name: &str,
-    scene: &Scene,
-) -> Ending {
-    let mut out = Vec::new(rt.alloc());
-    match push_export(rt.alloc(), &mut out, form, scene) {
-        Ok(()) => write(rt, name, &out),
-        Err(OpenFault::Memory(_)) => report::out_of_memory(rt, name),
-        Err(OpenFault::TooMany) => report::too_many(rt),
-    }
-}
-
-fn or_memory(done: Result<(), AllocError>) -> Result<(), OpenFault>
-    ensures { IsOk result ↔ IsOk done }
-{
-    match done {
-        Ok(()) => Ok(()),
-        Err(refused) => Err(OpenFault::Memory(refused)),
-    }
-}
-
-/// What an export prints.
-fn push_export(
-    alloc: Global,
-    out: &mut Vec<u8>,
-    form: ExportForm,
-    scene: &Scene,
-) -> Result<(), OpenFault>
-    ensures { OnOk result (out.new.items ≡ out.old.items ++ export_by form scene.now) }
-{
-    match form {
-        ExportForm::Commands => export_scene(alloc, out, scene),
-        ExportForm::Connect(database) => {
-            or_memory(push_connects(out, database, &scene.services))
-        }
-        ExportForm::Table(database) => {
-            or_memory(out.extend_from_slice(table_of(database).as_bytes()))
-        }
-    }
-}
-
-/// Prints the fault of a scene in the same form as playing.
-fn export_fault<R: AllocGlobal + Print + Eprint>(
+pub fn say_fault<R: AllocGlobal + Eprint>(
     rt: &R,
     name: &str,
     text: &[u8],
     fault: SceneFault,
-) -> Ending {
-    let mut out = Vec::new(rt.alloc());
-    if print_scene_fault(&mut out, fault).is_err() {
-        return report::out_of_memory(rt, name);
-    }
-    say_fault(rt, name, text, fault);
-    write(rt, name, &out).worse(Ending::Failed)
-}
-
-/// Writes a whole output.
-fn write<R: Print + Eprint>(rt: &R, name: &str, out: &[u8]) -> Ending {
-    match io::writer(rt).write_all(out) {
-        Ok(()) => Ending::Whole,
-        Err(_) => {
-            report::stopped(rt, name, PlayFault::WriteFailed);
+) -> Ending
+    ensures { result ≡ Ending.Failed }
+{
+    match mistake_in(rt.alloc(), text, fault) {
+        Ok(mistake) => {
+            let mut out = Vec::new(rt.alloc());
+            let made = push_fault(rt, &mut out, name, fault, &mistake);
+            tell_lines(rt, made, &out);
             Ending::Failed
         }
+        Err(_) => report::fault(rt, name, fault),
+    }
+}
+
+/// The fault of a scene, or what the word is that its line means otherwise, and what was expected.
+fn push_fault<R: AllocGlobal + Eprint>(
+    rt: &R,
+    out: &mut Vec<u8>,
+    name: &str,
+    fault: SceneFault,
+    mistake: &Mistake<'_>,
+) -> Result<(), AllocError> {
+    match mistake.misuse {
+        Some(misuse) => {
+            let word = word_at(&mistake.words, mistake.place);
+            let worker = word_at(&mistake.words, 0);
+            push_misused(out, name, fault.line, misuse, word, worker)?;
+        }
+        None => {
+            report::fault(rt, name, fault);
+        }
+    }
+    push_mistake(rt.alloc(), out, mistake)
+}
+
+/// The word at a place; empty if there is none.
+fn word_at<'w>(words: &[&'w [u8]], place: usize) -> &'w [u8]
+    ensures { result.now ≡ word_at (map (λ word. word.now) words.now) place }
+{
+    match words.get(place) {
+        Some(word) => word,
+        None => b"",
     }
 }

@@ -6,13 +6,14 @@ ghost use Rattle.kob.specs.Options.{table_asked, tables_asked};
 
 use crate::ending::Ending;
 use crate::logs::answer_logs;
-use crate::policy_answers::{lead, push_answers, push_heading, push_review};
-use crate::policy_lists::{Stop, judge_of, list_of, listed, unless_fault};
+use crate::policy_answers::{lead, push_answers, push_changes, push_heading};
+use crate::policy_lists::{Listed, Side, Stop, judge_of, list_of, unless_fault};
 use crate::policy_options::{AnswerForm, Options, parts_of};
-use crate::report;
+use crate::report::{self, Report, tell};
 use crate::running::say;
 use crate::source::questions_in;
-use crate::stages::Stages;
+use crate::stages::{Stage, Stages};
+use crate::unmet::{Asked, say_unmet};
 use kob_policy_rows::is_table;
 use kob_policy_text::{Judge, Query, Question, Questions, read_questions, read_topics};
 use std::alloc::AllocError;
@@ -56,7 +57,7 @@ fn reported(rt: &impl Eprint, ending: Ending) -> Ending
     ensures { result ≡ ending }
 {
     match ending {
-        Ending::OutOfMemory => report::out_of_memory(rt, "policy"),
+        Ending::OutOfMemory => tell(rt, Report::OutOfMemory("policy")),
         Ending::Whole | Ending::Differs | Ending::Failed => ending,
     }
 }
@@ -70,7 +71,7 @@ fn print_part<R: AllocGlobal + Clock + Files + Input + Eprint>(
 ) -> Result<Ending, Stop> {
     if headed {
         if options.form == AnswerForm::Csv {
-            return Ok(report::several_tables(rt));
+            return Ok(tell(rt, Report::SeveralTables));
         }
         push_heading(rt.alloc(), out, options)?;
     }
@@ -88,17 +89,30 @@ fn answer_part<R: AllocGlobal + Clock + Files + Input + Eprint>(
     options: &Options,
 ) -> Result<Ending, Stop> {
     if options.form == AnswerForm::Csv && !options.logs.is_empty() {
-        return Err(Stop(report::no_table(rt, b"log")));
+        return Err(Stop(tell(rt, Report::NoTable("log"))));
     }
     let mut questions = Questions::new(rt.alloc());
-    push_questions(rt, out, &mut questions, options)?;
+    let mut asked = Vec::new(rt.alloc());
+    answer_asked(rt, stages, out, options, &mut questions, &mut asked)
+}
+
+/// Reads the questions of a part and answers them.
+fn answer_asked<R: AllocGlobal + Clock + Files + Input + Eprint>(
+    rt: &R,
+    stages: Stages,
+    out: &mut Vec<u8>,
+    options: &Options,
+    questions: &mut Questions,
+    asked: &mut Vec<Asked>,
+) -> Result<Ending, Stop> {
+    push_questions(rt, out, questions, asked, options)?;
     if options.form == AnswerForm::Csv {
-        unless_one_table(rt, options, &questions)?;
+        unless_one_table(rt, options, questions)?;
     }
     if options.before.is_empty() {
-        answer_by_one(rt, stages, out, options, &questions)
+        answer_by_one(rt, stages, out, options, questions, asked)
     } else {
-        review(rt, stages, out, options, &questions)
+        review(rt, stages, out, options, questions, asked)
     }
 }
 
@@ -115,14 +129,15 @@ fn unless_one_table<R: AllocGlobal + Eprint>(
             let text = asked
                 .first()
                 .map_or(b"".as_slice(), |query| query.text.as_slice());
-            Err(Stop(report::no_table(rt, text)))
+            let text = str::from_utf8(text).unwrap_or("the question");
+            Err(Stop(tell(rt, Report::NoTable(text))))
         }
-        Tables::Several => Err(Stop(report::several_tables(rt))),
+        Tables::Several => Err(Stop(tell(rt, Report::SeveralTables))),
     }
 }
 
 /// What is asked beside `--csv`.
-#[derive(Clone, Copy, Debug, PartialEq, Eq)]
+#[derive(Clone, Copy)]
 enum Tables {
     One,
     /// An answer that is no table.
@@ -157,32 +172,49 @@ fn push_questions<R: AllocGlobal + Files + Input + Eprint>(
     rt: &R,
     out: &mut Vec<u8>,
     questions: &mut Questions,
+    asked: &mut Vec<Asked>,
     options: &Options,
 ) -> Result<(), Stop> {
-    let alloc = rt.alloc();
     for file in options.topics.as_slice() {
         let text = list_of(rt, file.as_str())?;
-        let read = read_topics(alloc, questions, &text);
+        let read = read_topics(rt.alloc(), questions, &text);
         let source = questions_in(file.as_str(), &text);
         unless_fault(rt, options.form, out, &source, read)?;
     }
     for file in options.questions.as_slice() {
         let text = list_of(rt, file.as_str())?;
-        let read = read_questions(alloc, questions, &text);
-        let source = questions_in(file.as_str(), &text);
-        unless_fault(rt, options.form, out, &source, read)?;
+        push_asked(rt, options.form, out, questions, asked, file.as_str(), text)?;
     }
     for word in options.words.as_slice() {
-        let text = word.as_str().as_bytes();
-        let read = read_questions(alloc, questions, text);
-        let source = questions_in(word.as_str(), text);
-        unless_fault(rt, options.form, out, &source, read)?;
+        let mut text = Vec::new(rt.alloc());
+        text.extend_from_slice(word.as_bytes())?;
+        push_asked(rt, options.form, out, questions, asked, word.as_str(), text)?;
     }
     if options.before.is_empty() && options.logs.is_empty() && questions.asked().is_empty() {
-        let read = read_questions(alloc, questions, b"summary");
+        let read = read_questions(rt.alloc(), questions, b"summary");
         let source = questions_in("summary", b"summary");
         unless_fault(rt, options.form, out, &source, read)?;
     }
+    Ok(())
+}
+
+/// The questions of a text.
+fn push_asked<R: AllocGlobal + Eprint>(
+    rt: &R,
+    form: AnswerForm,
+    out: &mut Vec<u8>,
+    questions: &mut Questions,
+    asked: &mut Vec<Asked>,
+    name: &str,
+    text: Vec<u8>,
+) -> Result<(), Stop> {
+    let read = read_questions(rt.alloc(), questions, &text);
+    if let Err(stop) = unless_fault(rt, form, out, &questions_in(name, &text), read) {
+        drop(text);
+        return Err(stop);
+    }
+    let made = Asked::new(rt.alloc(), name, text, questions.asked().len())?;
+    asked.push(made).map_err(AllocError::from)?;
     Ok(())
 }
 
@@ -192,24 +224,33 @@ fn answer_by_one<R: AllocGlobal + Clock + Files + Input + Eprint>(
     out: &mut Vec<u8>,
     options: &Options,
     questions: &Questions,
+    asked: &[Asked],
 ) -> Result<Ending, Stop> {
-    let judge = listed(rt, stages, out, options)?;
-    let answered = answer_about(rt, stages, out, options, questions, &judge);
-    drop(judge);
+    let listed = judge_of(rt, stages, out, options, Side::Only)?;
+    let bindings = listed.judge.policy().bindings().len();
+    let count = questions.asked().len();
+    stages.tell(
+        rt,
+        Stage::Answer {
+            questions: count,
+            bindings,
+        },
+    );
+    let answered = answer_about(rt, out, options, questions, asked, &listed.judge);
+    drop(listed);
     Ok(answered?)
 }
 
-fn answer_about<R: AllocGlobal + Clock + Files + Input + Eprint>(
+fn answer_about<R: AllocGlobal + Files + Input + Eprint>(
     rt: &R,
-    stages: Stages,
     out: &mut Vec<u8>,
     options: &Options,
     questions: &Questions,
+    asked: &[Asked],
     judge: &Judge,
 ) -> Result<Ending, AllocError> {
-    let bindings = judge.policy().bindings().len();
-    stages.answer(rt, questions.asked().len(), bindings);
     let ending = push_answers(rt.alloc(), options.form, out, judge, questions)?;
+    say_unmet(rt, judge, questions.asked(), asked);
     Ok(ending.worse(answer_logs(rt, out, options, questions, judge)?))
 }
 
@@ -221,15 +262,10 @@ fn review<R: AllocGlobal + Clock + Files + Input + Eprint>(
     out: &mut Vec<u8>,
     options: &Options,
     questions: &Questions,
+    asked: &[Asked],
 ) -> Result<Ending, Stop> {
-    let before = judge_of(
-        rt,
-        stages,
-        out,
-        options,
-        &[&options.policy, &options.before],
-    )?;
-    let reviewed = review_from(rt, stages, out, options, questions, &before);
+    let before = judge_of(rt, stages, out, options, Side::Before)?;
+    let reviewed = review_from(rt, stages, out, options, questions, asked, &before);
     drop(before);
     reviewed
 }
@@ -240,12 +276,20 @@ fn review_from<R: AllocGlobal + Clock + Files + Input + Eprint>(
     out: &mut Vec<u8>,
     options: &Options,
     questions: &Questions,
-    before: &Judge,
-) -> Result<Ending, Stop> {
-    let after = judge_of(rt, stages, out, options, &[&options.policy, &options.after])?;
-    let bindings = after.policy().bindings().len();
-    stages.compare(rt, before.policy().bindings().len(), bindings);
-    let reviewed = compare(rt, out, options, questions, before, &after);
+    asked: &[Asked],
+    before: &Listed,
+) -> Result<Ending, Stop>
+    requires { before.now.side ≡ Side.Before }
+{
+    let after = judge_of(rt, stages, out, options, Side::After)?;
+    stages.tell(
+        rt,
+        Stage::Compare {
+            before: before.judge.policy().bindings().len(),
+            after: after.judge.policy().bindings().len(),
+        },
+    );
+    let reviewed = compare(rt, out, options, questions, asked, before, &after);
     drop(after);
     Ok(reviewed?)
 }
@@ -255,15 +299,20 @@ fn compare<R: AllocGlobal + Files + Input + Eprint>(
     out: &mut Vec<u8>,
     options: &Options,
     questions: &Questions,
-    before: &Judge,
-    after: &Judge,
-) -> Result<Ending, AllocError> {
+    asked: &[Asked],
+    before: &Listed,
+    after: &Listed,
+) -> Result<Ending, AllocError>
+    requires before { before.now.side ≡ Side.Before }
+    requires after { after.now.side ≡ Side.After }
+{
+    let (before, after) = (&before.judge, &after.judge);
     if !options.commands {
-        let ending = push_review(rt.alloc(), options.form, out, questions, before, after)?;
-        Ok(ending.worse(answer_logs(rt, out, options, questions, after)?))
+        let ending = push_changes(rt.alloc(), options.form, out, before, after)?;
+        Ok(ending.worse(answer_about(rt, out, options, questions, asked, after)?))
     } else if options.logs.is_empty() {
         lead(rt, out, questions, before, after)
     } else {
-        Ok(report::asked_beside_commands(rt))
+        Ok(tell(rt, Report::BesideCommands))
     }
 }

@@ -14,7 +14,7 @@ ghost use Rattle.kob_policy_text.specs.Review.{changes_text};
 use crate::commands::push_commands;
 use crate::ending::Ending;
 use crate::policy_options::{AnswerForm, Options};
-use crate::report;
+use crate::report::{Report, tell, tell_lines};
 use bstr::ByteSlice;
 use kob_names::{Items, Text};
 use kob_policy_rows::{
@@ -114,7 +114,12 @@ pub(crate) fn push_omissions<R: AllocGlobal + Eprint>(
             let rows = omission_rows(rt.alloc(), policy.omissions())?;
             print_json(rt.alloc(), out, omission_columns(), &rows)
         }
-        AnswerForm::Csv => report::omissions(rt, policy),
+        AnswerForm::Csv => {
+            let mut told = Vec::new(rt.alloc());
+            print_omissions(&mut told, policy)?;
+            tell_lines(rt, Ok(()), &told);
+            Ok(())
+        }
     }
 }
 
@@ -169,32 +174,20 @@ pub(crate) fn lead<R: AllocGlobal + Eprint>(
 ) -> Result<Ending, AllocError> {
     let (old, new) = (before.policy(), after.policy());
     if !questions.asked().is_empty() {
-        return Ok(report::asked_beside_commands(rt));
+        return Ok(tell(rt, Report::BesideCommands));
     }
     if !old.omissions().is_empty() || !new.omissions().is_empty() {
-        return Ok(report::no_commands(rt));
+        return Ok(tell(rt, Report::NoCommands));
     }
     if old.supers() != new.supers() || old.everyone() != new.everyone() {
-        report::other_settings(rt);
+        tell(rt, Report::OtherSettings);
     }
     push_commands(rt.alloc(), out, before, after)?;
     Ok(Ending::Whole)
 }
 
-/// What changes, and then the answers about the second list.
-pub(crate) fn push_review(
-    alloc: Global,
-    form: AnswerForm,
-    out: &mut Vec<u8>,
-    questions: &Questions,
-    before: &Judge,
-    after: &Judge,
-) -> Result<Ending, AllocError> {
-    let ending = push_changes(alloc, form, out, before, after)?;
-    Ok(ending.worse(push_answers(alloc, form, out, after, questions)?))
-}
-
-fn push_changes(
+/// What changes from one list to the other.
+pub(crate) fn push_changes(
     alloc: Global,
     form: AnswerForm,
     out: &mut Vec<u8>,

@@ -1,14 +1,17 @@
 //! The lists that questions are about, read and in force.
 
+ghost use Rattle.std.specs.Prelude.{◌≡◌, [], IfOk, false};
+ghost use Rattle.kob.specs.Lists.{files_of};
+
 use crate::ending::Ending;
 use crate::input::{InputFault, Kind, text_of};
 use crate::policy_answers::{push_fault, push_omissions};
 use crate::policy_options::{AnswerForm, Options};
-use crate::report;
+use crate::report::{self, Report, tell, tell_lines};
 use crate::source::{Source, say_fault};
-use crate::stages::Stages;
+use crate::stages::{Stage, Stages};
 use kob_authorizer::CreateFault;
-use kob_mistakes::{Lines, Meant, meant_by};
+use kob_mistakes::{Lines, Meant, meant_by, push_misspelt, push_unquoted};
 use kob_names::Text;
 use kob_policy_text::{Judge, Policy, read_file};
 use kob_script::ScriptError;
@@ -17,7 +20,7 @@ use std::rt::{Clock, Files};
 
 /// Why no more questions of a part are answered: how the part ends, which was reported unless it is
 /// out of memory.
-#[derive(Clone, Copy, Debug)]
+#[derive(Clone, Copy)]
 pub(crate) struct Stop(pub(crate) Ending);
 
 impl From<AllocError> for Stop {
@@ -39,11 +42,17 @@ pub(crate) fn list_of<R: AllocGlobal + Files + Input + Eprint>(
 
 /// Reports a file that was not read, or the question that its name may be.
 fn say_unread<R: AllocGlobal + Eprint>(rt: &R, file: &str, fault: &InputFault) -> Ending {
+    let mut out = Vec::new(rt.alloc());
     match meant_by(rt.alloc(), file, fault.is_missing()) {
-        Ok(Meant::Misspelt(kind)) => report::misspelt(rt, file, kind),
+        Ok(Meant::Misspelt(kind)) => {
+            let made = push_misspelt(&mut out, file, kind);
+            tell_lines(rt, made, &out);
+            Ending::Failed
+        }
         Ok(Meant::Words) => {
             let ending = report::unread(rt, file, fault);
-            report::unquoted(rt, file);
+            let made = push_unquoted(&mut out, file);
+            tell_lines(rt, made, &out);
             ending
         }
         Ok(Meant::File) | Err(_) => report::unread(rt, file, fault),
@@ -65,28 +74,88 @@ pub(crate) fn unless_fault<R: AllocGlobal + Eprint>(
         Err(ScriptError::Fault(fault)) => {
             out.clear();
             push_fault(rt.alloc(), form, out, source.name, fault)?;
-            say_fault(rt, source, fault);
-            Err(Stop(Ending::Failed))
+            Err(Stop(say_fault(rt, source, fault)))
         }
     }
 }
 
-/// The policy of the files, in force. Prints what is left out of it, which is a fault without
-/// `--skip`.
+/// Which list it is: the only one, or the one that answers change from or to.
+#[derive(Clone, Copy)]
+pub(crate) enum Side {
+    Only,
+    Before,
+    After,
+}
+
+/// A list in force.
+#[derive(Drop)]
+pub(crate) struct Listed {
+    pub(crate) side: Side,
+    pub(crate) judge: Judge,
+}
+
+/// The files of a list, besides those of `--policy`.
+fn files_of(options: &Options, side: Side) -> &[String]
+    ensures { result.now ≡ files_of options.now side }
+{
+    match side {
+        Side::Only => &[],
+        Side::Before => options.before.as_slice(),
+        Side::After => options.after.as_slice(),
+    }
+}
+
+/// The policy of the files of a list, in force; without one, of standard input. Prints what is left
+/// out of it, which is a fault without `--skip`.
 pub(crate) fn judge_of<R: AllocGlobal + Clock + Files + Input + Eprint>(
     rt: &R,
     stages: Stages,
     out: &mut Vec<u8>,
     options: &Options,
-    files: &[&[String]],
-) -> Result<Judge, Stop> {
+    side: Side,
+) -> Result<Listed, Stop>
+    ensures side { IfOk result (λ listed. listed.side ≡ side) }
+    ensures whole { IfOk result (λ listed. options.now.skip ≡ false → listed.judge.omissions ≡ []) }
+{
     let mut policy = Policy::new(rt.alloc());
-    for group in files {
-        for file in *group {
-            read_list(rt, stages, options.form, out, &mut policy, file.as_str())?;
+    match read_lists(
+        rt,
+        stages,
+        out,
+        &mut policy,
+        options,
+        files_of(options, side),
+    ) {
+        Ok(()) => {
+            let judge = open_judge(rt, stages, out, options, policy)?;
+            Ok(Listed { side, judge })
+        }
+        Err(stop) => {
+            drop(policy);
+            Err(stop)
         }
     }
-    open_judge(rt, stages, out, options, policy)
+}
+
+/// Reads the files of `--policy`, and then the others of a list.
+fn read_lists<R: AllocGlobal + Clock + Files + Input + Eprint>(
+    rt: &R,
+    stages: Stages,
+    out: &mut Vec<u8>,
+    policy: &mut Policy,
+    options: &Options,
+    others: &[String],
+) -> Result<(), Stop> {
+    for file in options.policy.as_slice() {
+        read_list(rt, stages, options.form, out, policy, file.as_str())?;
+    }
+    for file in others {
+        read_list(rt, stages, options.form, out, policy, file.as_str())?;
+    }
+    if options.policy.is_empty() && options.before.is_empty() {
+        read_list(rt, stages, options.form, out, policy, "-")?;
+    }
+    read_releases(rt, options, out, policy)
 }
 
 fn open_judge<R: AllocGlobal + Clock + Eprint>(
@@ -94,20 +163,24 @@ fn open_judge<R: AllocGlobal + Clock + Eprint>(
     stages: Stages,
     out: &mut Vec<u8>,
     options: &Options,
-    mut policy: Policy,
-) -> Result<Judge, Stop> {
-    read_releases(rt, options, out, &mut policy)?;
+    policy: Policy,
+) -> Result<Judge, Stop>
+    ensures { IfOk result (λ judge. options.now.skip ≡ false → judge.omissions ≡ []) }
+{
     push_omissions(rt, options.form, out, &policy)?;
-    report::skipped(rt, policy.skipped().len());
-    if !options.skip && !policy.omissions().is_empty() {
-        report::left_out(rt, policy.omissions().len());
-        return Err(Stop(Ending::Failed));
+    if !policy.skipped().is_empty() {
+        tell(rt, Report::Skipped(policy.skipped().len()));
     }
-    stages.open(rt, policy.bindings().len());
+    if !options.skip && !policy.omissions().is_empty() {
+        return Err(Stop(tell(rt, Report::LeftOut(policy.omissions().len()))));
+    }
+    stages.tell(rt, Stage::Open(policy.bindings().len()));
     match Judge::open(rt.alloc(), policy) {
         Ok(judge) => Ok(judge),
         Err(CreateFault::Memory(_)) => Err(Stop(Ending::OutOfMemory)),
-        Err(CreateFault::TooMany | CreateFault::SerialsSpent) => { Err(Stop(report::too_many(rt))) }
+        Err(CreateFault::TooMany | CreateFault::SerialsSpent) => {
+            Err(Stop(tell(rt, Report::TooMany)))
+        }
     }
 }
 
@@ -121,7 +194,16 @@ fn read_list<R: AllocGlobal + Clock + Files + Input + Eprint>(
     file: &str,
 ) -> Result<(), Stop> {
     let text = list_of(rt, file)?;
-    stages.read(rt, file, text.len(), policy.bindings().len());
+    let bindings = policy.bindings().len();
+    let bytes = text.len();
+    stages.tell(
+        rt,
+        Stage::Read {
+            file,
+            bytes,
+            bindings,
+        },
+    );
     read_text(rt, form, out, policy, file, &text)
 }
 
@@ -155,34 +237,4 @@ fn read_releases<R: AllocGlobal + Eprint>(
         read_text(rt, options.form, out, policy, "--kafka", text.as_bytes())?;
     }
     Ok(())
-}
-
-/// The list of the options, in force; without one, standard input.
-pub(crate) fn listed<R: AllocGlobal + Clock + Files + Input + Eprint>(
-    rt: &R,
-    stages: Stages,
-    out: &mut Vec<u8>,
-    options: &Options,
-) -> Result<Judge, Stop> {
-    if options.policy.is_empty() {
-        judge_of_input(rt, stages, out, options)
-    } else {
-        judge_of(rt, stages, out, options, &[&options.policy])
-    }
-}
-
-fn judge_of_input<R: AllocGlobal + Clock + Files + Input + Eprint>(
-    rt: &R,
-    stages: Stages,
-    out: &mut Vec<u8>,
-    options: &Options,
-) -> Result<Judge, Stop> {
-    let mut policy = Policy::new(rt.alloc());
-    match read_list(rt, stages, options.form, out, &mut policy, "-") {
-        Ok(()) => open_judge(rt, stages, out, options, policy),
-        Err(stop) => {
-            drop(policy);
-            Err(stop)
-        }
-    }
 }

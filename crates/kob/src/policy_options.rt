@@ -1,7 +1,8 @@
 //! The options of `kob policy`, read by `clap`.
 
-ghost use Rattle.std.specs.Prelude.{◌≡◌};
-ghost use Rattle.kob.specs.Options.{answer_form_by, is_alone, is_question};
+ghost use Rattle.std.specs.Prelude.{◌≡◌, IfOk, codes, map, string_bytes};
+ghost use Rattle.clap.specs.Words.{found_of, matched_of};
+ghost use Rattle.kob.specs.Options.{answer_form_by, is_alone, is_question, values_of};
 
 use crate::help::HELP_POLICY;
 use crate::options::{values_of, with_arg};
@@ -29,7 +30,7 @@ pub struct Options {
 }
 
 /// How answers are printed.
-#[derive(Clone, Copy, Debug, PartialEq, Eq)]
+#[derive(Clone, Copy, PartialEq, Eq)]
 pub enum AnswerForm {
     /// In words, below their questions.
     Words,
@@ -128,7 +129,41 @@ fn options_of(alloc: Global, words: &[String]) -> Result<Options, Error> {
 }
 
 fn options_in(alloc: Global, matches: &ArgMatches<'_>) -> Result<Options, AllocError> {
-    let mut options = Options {
+    let words = values_of(alloc, matches, "QUESTION")?;
+    let mut options = match lists_in(alloc, matches) {
+        Ok(options) => options,
+        Err(refused) => {
+            drop(words);
+            return Err(refused);
+        }
+    };
+    match push_words(alloc, &mut options, words) {
+        Ok(()) => Ok(options),
+        Err(refused) => {
+            drop(options);
+            Err(refused)
+        }
+    }
+}
+
+/// The files that options name, without the other words.
+fn lists_in(alloc: Global, matches: &ArgMatches<'_>) -> Result<Options, AllocError>
+    ensures policy { IfOk result (λ options. map string_bytes options.policy.items
+        ≡ values_of (matched_of (found_of matches.now) (codes "policy"))) }
+    ensures questions { IfOk result (λ options. map string_bytes options.questions.items
+        ≡ values_of (matched_of (found_of matches.now) (codes "questions"))) }
+    ensures topics { IfOk result (λ options. map string_bytes options.topics.items
+        ≡ values_of (matched_of (found_of matches.now) (codes "topics"))) }
+    ensures before { IfOk result (λ options. map string_bytes options.before.items
+        ≡ values_of (matched_of (found_of matches.now) (codes "before"))) }
+    ensures after { IfOk result (λ options. map string_bytes options.after.items
+        ≡ values_of (matched_of (found_of matches.now) (codes "after"))) }
+    ensures logs { IfOk result (λ options. map string_bytes options.logs.items
+        ≡ values_of (matched_of (found_of matches.now) (codes "log"))) }
+    ensures kafka { IfOk result (λ options. map string_bytes options.kafka.items
+        ≡ values_of (matched_of (found_of matches.now) (codes "kafka"))) }
+{
+    Ok(Options {
         policy: values_of(alloc, matches, "policy")?,
         questions: values_of(alloc, matches, "questions")?,
         topics: values_of(alloc, matches, "topics")?,
@@ -140,8 +175,12 @@ fn options_in(alloc: Global, matches: &ArgMatches<'_>) -> Result<Options, AllocE
         skip: matches.get_flag("skip"),
         commands: matches.get_flag("commands"),
         form: form_in(matches),
-    };
-    for word in values_of(alloc, matches, "QUESTION")? {
+    })
+}
+
+/// The other words: logs, questions and lists.
+fn push_words(alloc: Global, options: &mut Options, words: Vec<String>) -> Result<(), AllocError> {
+    for word in words {
         if let Some(file) = word.as_str().strip_prefix("log ") {
             options.logs.push(String::from_str(alloc, file)?)?;
         } else if is_question(word.as_str()) {
@@ -150,7 +189,7 @@ fn options_in(alloc: Global, matches: &ArgMatches<'_>) -> Result<Options, AllocE
             options.policy.push(word)?;
         }
     }
-    Ok(options)
+    Ok(())
 }
 
 fn form_in(matches: &ArgMatches<'_>) -> AnswerForm {

@@ -1,20 +1,155 @@
-//! What is reported on standard error: `kob: NAME: WHAT`, one function a kind of report.
+//! What is reported on standard error: `kob: WHAT`, a line each, and how a report ends.
 
-ghost use Rattle.std.specs.Prelude.{◌≡◌};
-ghost use Rattle.kob.specs.Ending.{EndsRefused, EndsUnread};
+ghost use Rattle.std.specs.Prelude.{◌≡◌, ◌≢◌, ◌++◌, IsErr, OnOk, codes, false};
+ghost use Rattle.kob.specs.Ending.{EndsRefused, EndsUnread, ending_of_fault};
+ghost use Rattle.kob.specs.Reports.{ending_of_report, note_text};
 
-use crate::ending::Ending;
+use crate::ending::{Ending, ending_of_fault};
 use crate::input::InputFault;
 use bstr::ByteSlice;
-use kob_mistakes::{
-    Kind, Mistake, push_doubtful, push_misspelt, push_misused, push_quoted, push_unquoted,
-};
-use kob_policy_text::{Policy, print_omissions};
+use kob_mistakes::Mistake;
 use kob_scene_play::PlayFault;
-use kob_scene_text::{Misuse, SceneFault};
 use kob_words::push_bytes;
 use std::alloc::{AllocError, Global};
+use std::fmt;
 use std::io::{self, ErrorKind, Write};
+
+/// A line on standard error.
+#[derive(Clone, Copy)]
+pub enum Report<'a> {
+    /// Lines above the first heading of a list, and other settings of a broker, that were skipped.
+    Skipped(usize),
+    /// Bindings that were left out, for which no question is answered.
+    LeftOut(usize),
+    /// No commands, since what is left out would be in none.
+    NoCommands,
+    /// A question beside `--commands`.
+    BesideCommands,
+    /// Settings that no command changes.
+    OtherSettings,
+    /// A question beside `--csv` whose answer is a yes or a no.
+    NoTable(&'a str),
+    /// Not one table beside `--csv`.
+    SeveralTables,
+    /// Other than two lists for a topic.
+    NoLists,
+    /// More bindings than can be in force.
+    TooMany,
+    /// Out of memory while something was done for a text.
+    OutOfMemory(&'a str),
+    /// A subject that has no page of help.
+    NoHelp(&'a str),
+    /// A scene without a service, of which a connector is asked.
+    NoService(&'a str),
+    /// A scene with several services, of which the connector of one is asked.
+    SeveralServices(&'a str),
+    /// A scene that has no service of this name.
+    UnknownService {
+        name: &'a str,
+        service: &'a str,
+    },
+    /// The variant of a service, which an export doesn't have.
+    Variant {
+        name: &'a str,
+        service: &'a str,
+        words: &'a str,
+    },
+    /// How many things are not as they were expected to be, and the line of the first.
+    Unmet {
+        name: &'a str,
+        count: u64,
+        line: u64,
+    },
+    /// A line of a list that is not of the list's form.
+    Unlike {
+        name: &'a str,
+        line: u64,
+        form: &'a str,
+    },
+}
+
+impl fmt::Display for Report<'_> {
+    ghost use Rattle.kob.specs.Reports.{report_text};
+
+    ghost output = { λ report. report_text report };
+
+    fn fmt<W: fmt::Write>(&self, f: &mut fmt::Formatter<W>) -> fmt::Result {
+        match self {
+            Report::Skipped(count) => {
+                write!(f, "kob: skipped lines that hold no access rule: {count}")
+            }
+            Report::LeftOut(count) => {
+                write!(
+                    f,
+                    "kob: bindings left out: {count}; --skip answers without them"
+                )
+            }
+            Report::NoCommands => f.write_str(
+                "kob: --commands: bindings are left out, and no command does what they do",
+            ),
+            Report::BesideCommands => f.write_str("kob: --commands: a question is asked beside it"),
+            Report::OtherSettings => f.write_str(
+                "kob: --commands: super users or everyone differ; commands change bindings alone",
+            ),
+            Report::NoTable(question) => {
+                write!(f, "kob: --csv: the answer is no table: {question}")
+            }
+            Report::SeveralTables => f.write_str(
+                "kob: --csv: prints one table: the answer to one question, or what changes",
+            ),
+            Report::NoLists => {
+                f.write_str("kob: topic: two files are expected: kob topic ROWS RECORDS")
+            }
+            Report::TooMany => f.write_str("kob: more than 100,000 different bindings"),
+            Report::OutOfMemory(name) => write!(f, "kob: {name}: out of memory"),
+            Report::NoHelp(subject) => {
+                write!(f, "kob: no help on {subject}; kob help lists the subjects")
+            }
+            Report::NoService(name) => write!(f, "kob: {name}: no service, so no connector"),
+            Report::SeveralServices(name) => {
+                write!(
+                    f,
+                    "kob: {name}: several services; --service NAME exports the one of that name"
+                )
+            }
+            Report::UnknownService { name, service } => {
+                write!(f, "kob: {name}: no service {service}")
+            }
+            Report::Variant {
+                name,
+                service,
+                words,
+            } => {
+                write!(
+                    f,
+                    "kob: {name}: the variant of {service} is not exported: {words}"
+                )
+            }
+            Report::Unmet { name, count, line } => {
+                write!(
+                    f,
+                    "kob: {name}: expectations not met: {count}, the first in line {line}"
+                )
+            }
+            Report::Unlike { name, line, form } => {
+                write!(f, "kob: {name}: line {line}: expected {form}")
+            }
+        }
+    }
+}
+
+/// Writes a report, and returns how it ends.
+pub fn tell(rt: &impl Eprint, report: Report<'_>) -> Ending
+    ensures { result ≡ ending_of_report report.entry }
+{
+    let _ = eprintln!(rt; "{report}");
+    match report {
+        Report::Skipped(_) | Report::OtherSettings | Report::Variant { .. } => Ending::Whole,
+        Report::Unmet { .. } => Ending::Differs,
+        Report::OutOfMemory(_) => Ending::OutOfMemory,
+        _ => Ending::Failed,
+    }
+}
 
 /// A text that was not read.
 pub fn unread(rt: &impl Eprint, name: &str, fault: &InputFault) -> Ending
@@ -45,196 +180,51 @@ fn ending_of(error: &io::Error) -> Ending
     }
 }
 
-/// Writes a text that was made, unless memory ran out.
-fn tell(rt: &impl Eprint, made: Result<(), AllocError>, text: &[u8]) {
-    if made.is_ok() {
-        if let Ok(text) = str::from_utf8(text) {
-            let _ = eprint!(rt; "{text}");
-        }
-    }
-}
-
-/// A name of a scene with quotes, which is no fault.
-pub fn quoted<R: AllocGlobal + Eprint>(rt: &R, name: &str, line: u64, word: &[u8]) {
-    let mut out = Vec::new(rt.alloc());
-    let made = push_quoted(&mut out, name, line, word);
-    tell(rt, made, &out);
-}
-
-/// A record whose state may be meant as the word behind it, which is no fault.
-pub fn doubtful<R: AllocGlobal + Eprint>(rt: &R, name: &str, line: u64, word: &str) {
-    let mut out = Vec::new(rt.alloc());
-    let made = push_doubtful(&mut out, name, line, word);
-    tell(rt, made, &out);
-}
-
-/// The fault of a scene, or what the word is that its line means otherwise.
-pub fn fault<R: AllocGlobal + Eprint>(
-    rt: &R,
-    name: &str,
-    fault: SceneFault,
-    mistake: &Mistake<'_>,
-) {
-    match mistake.misuse {
-        Some(misuse) => misused(rt, name, fault.line, misuse, mistake),
-        None => {
-            let _ = eprintln!(rt; "kob: {name}: {fault}");
-        }
-    }
-}
-
-fn misused<R: AllocGlobal + Eprint>(
-    rt: &R,
-    name: &str,
-    line: u64,
-    misuse: Misuse,
-    mistake: &Mistake<'_>,
-) {
-    let word = mistake
-        .words
-        .get(mistake.place)
-        .copied()
-        .unwrap_or(b"".as_slice());
-    let worker = mistake.words.first().copied().unwrap_or(b"".as_slice());
-    let mut out = Vec::new(rt.alloc());
-    let made = push_misused(&mut out, name, line, misuse, word, worker);
-    tell(rt, made, &out);
-}
-
 /// A scene that stopped.
-pub fn stopped(rt: &impl Eprint, name: &str, fault: PlayFault) {
+pub fn stopped(rt: &impl Eprint, name: &str, fault: PlayFault) -> Ending
+    ensures { result ≡ ending_of_fault fault }
+{
     let _ = eprintln!(rt; "kob: {name}: {fault}");
+    ending_of_fault(fault)
 }
 
-/// Lines above the first heading of a list, and other settings of a broker, that were skipped.
-pub fn skipped(rt: &impl Eprint, count: usize) {
-    if count > 0 {
-        let _ = eprintln!(rt; "kob: skipped lines that hold no access rule: {count}");
+/// A fault, by its own text.
+pub fn fault<F: fmt::Display + Drop>(rt: &impl Eprint, name: &str, fault: F) -> Ending
+    ensures { result ≡ Ending.Failed }
+{
+    let _ = eprintln!(rt; "kob: {name}: {fault}");
+    Ending::Failed
+}
+
+/// Writes a whole output.
+pub fn write<R: Print + Eprint>(rt: &R, name: &str, out: &[u8]) -> Ending
+    ensures { result ≢ Ending.Differs }
+{
+    match io::writer(rt).write_all(out) {
+        Ok(()) => Ending::Whole,
+        Err(_) => stopped(rt, name, PlayFault::WriteFailed),
     }
 }
 
-/// What is left out, a line each.
-pub fn omissions<R: AllocGlobal + Eprint>(rt: &R, policy: &Policy) -> Result<(), AllocError> {
-    let mut out = Vec::new(rt.alloc());
-    print_omissions(&mut out, policy)?;
-    if let Ok(text) = str::from_utf8(&out) {
-        let _ = eprint!(rt; "{text}");
+/// Writes whole lines that were made, unless memory ran out for them. Returns whether it did.
+pub fn tell_lines(rt: &impl Eprint, made: Result<(), AllocError>, text: &[u8]) -> bool
+    ensures { IsErr made → result ≡ false }
+{
+    match (made, str::from_utf8(text)) {
+        (Ok(()), Ok(text)) => eprint!(rt; "{text}").is_ok(),
+        _ => false,
     }
-    Ok(())
-}
-
-/// Bindings that were left out, for which no question is answered.
-pub fn left_out(rt: &impl Eprint, count: usize) {
-    let _ = eprintln!(rt; "kob: bindings left out: {count}; --skip answers without them");
-}
-
-/// A file that was not read, whose name begins a question.
-pub fn unquoted<R: AllocGlobal + Eprint>(rt: &R, word: &str) {
-    let mut out = Vec::new(rt.alloc());
-    let made = push_unquoted(&mut out, word);
-    tell(rt, made, &out);
-}
-
-/// A word that is neither a question nor a file, near to the first word of a question.
-pub fn misspelt<R: AllocGlobal + Eprint>(rt: &R, word: &str, kind: Kind) -> Ending
-    ensures { result ≡ Ending.Failed }
-{
-    let mut out = Vec::new(rt.alloc());
-    let made = push_misspelt(&mut out, word, kind);
-    tell(rt, made, &out);
-    Ending::Failed
-}
-
-/// No commands, since what is left out would be in none.
-pub fn no_commands(rt: &impl Eprint) -> Ending
-    ensures { result ≡ Ending.Failed }
-{
-    let _ = eprintln!(rt;
-        "kob: --commands: bindings are left out, and no command does what they do"
-    );
-    Ending::Failed
-}
-
-/// A question beside `--commands`.
-pub fn asked_beside_commands(rt: &impl Eprint) -> Ending
-    ensures { result ≡ Ending.Failed }
-{
-    let _ = eprintln!(rt; "kob: --commands: a question is asked beside it");
-    Ending::Failed
-}
-
-/// A question beside `--csv` whose answer is a yes or a no.
-pub fn no_table(rt: &impl Eprint, question: &[u8]) -> Ending
-    ensures { result ≡ Ending.Failed }
-{
-    let question = str::from_utf8(question).unwrap_or("the question");
-    let _ = eprintln!(rt; "kob: --csv: the answer is no table: {question}");
-    Ending::Failed
-}
-
-/// Not one table beside `--csv`.
-pub fn several_tables(rt: &impl Eprint) -> Ending
-    ensures { result ≡ Ending.Failed }
-{
-    let _ = eprintln!(rt;
-        "kob: --csv: prints one table: the answer to one question, or what changes"
-    );
-    Ending::Failed
-}
-
-/// Settings that no command changes.
-pub fn other_settings(rt: &impl Eprint) {
-    let _ = eprintln!(rt;
-        "kob: --commands: super users or everyone differ; commands change bindings alone"
-    );
-}
-
-/// Other than two lists for a topic.
-pub fn no_lists(rt: &impl Eprint) -> Ending
-    ensures { result ≡ Ending.Failed }
-{
-    let _ = eprintln!(rt; "kob: topic: two files are expected: kob topic ROWS RECORDS");
-    Ending::Failed
-}
-
-/// A line of a list that is not of the list's form.
-pub fn unlike(rt: &impl Eprint, name: &str, line: u64, form: &str) -> Ending
-    ensures { result ≡ Ending.Failed }
-{
-    let _ = eprintln!(rt; "kob: {name}: line {line}: expected {form}");
-    Ending::Failed
-}
-
-/// More bindings than can be in force.
-pub fn too_many(rt: &impl Eprint) -> Ending
-    ensures { result ≡ Ending.Failed }
-{
-    let _ = eprintln!(rt; "kob: more than 100,000 different bindings");
-    Ending::Failed
-}
-
-/// Out of memory while something was done for a text.
-pub fn out_of_memory(rt: &impl Eprint, name: &str) -> Ending
-    ensures { result ≡ Ending.OutOfMemory }
-{
-    let _ = eprintln!(rt; "kob: {name}: out of memory");
-    Ending::OutOfMemory
 }
 
 /// The most bytes of a word that are shown.
 const SHOWN: usize = 200;
 
 /// The line of a mistake with a mark below the word that is wrong, and what was expected there.
-pub fn mistake<R: AllocGlobal + Eprint>(rt: &R, mistake: &Mistake<'_>) -> io::Result<()> {
-    let mut out = Vec::new(rt.alloc());
-    push_mistake(rt.alloc(), &mut out, mistake)?;
-    if let Ok(text) = str::from_utf8(&out) {
-        eprint!(rt; "{text}")?;
-    }
-    Ok(())
-}
-
-fn push_mistake(alloc: Global, out: &mut Vec<u8>, mistake: &Mistake<'_>) -> Result<(), AllocError> {
+pub fn push_mistake(
+    alloc: Global,
+    out: &mut Vec<u8>,
+    mistake: &Mistake<'_>,
+) -> Result<(), AllocError> {
     push_line(alloc, out, mistake)?;
     push_note(out, "expected", mistake.form)?;
     if let Some(name) = &mistake.nearest {
@@ -246,7 +236,10 @@ fn push_mistake(alloc: Global, out: &mut Vec<u8>, mistake: &Mistake<'_>) -> Resu
     Ok(())
 }
 
-fn push_note(out: &mut Vec<u8>, what: &str, text: &str) -> Result<(), AllocError> {
+#[tactic(auto, using(kob_words::proofs::Appending::appending))]
+fn push_note(out: &mut Vec<u8>, what: &str, text: &str) -> Result<(), AllocError>
+    ensures { OnOk result (out.new.items ≡ out.old.items ++ note_text what.now text.now) }
+{
     out.extend_from_slice(b"  ")?;
     out.extend_from_slice(what.as_bytes())?;
     out.extend_from_slice(b": ")?;

@@ -1,6 +1,7 @@
 //! What the command line asks for, done.
 
-ghost use Rattle.std.specs.Prelude.{◌≡◌, ◌≢◌, ◌↔◌, true};
+ghost use Rattle.std.specs.Prelude.{◌≡◌, ◌≢◌, ◌↔◌};
+ghost use Rattle.clap.specs.Words.{kind_of};
 ghost use Rattle.kob.specs.Input.{default_form};
 
 use crate::ending::Ending;
@@ -8,7 +9,7 @@ use crate::help::help_on;
 use crate::options::{Task, task_of};
 use crate::play::{Work, do_files};
 use crate::policy::answer;
-use crate::report;
+use crate::report::{self, Report, tell};
 use crate::topic::compare;
 use crate::version::VERSION;
 use clap::Error;
@@ -57,7 +58,10 @@ fn run_words<R: AllocGlobal + Clock + Files + Input + Print + Eprint>(
             };
             do_files(rt, work, &files)
         }
-        Ok(Task::Export(form, files)) => do_files(rt, Work::Export(form), &files),
+        Ok(Task::Export(form, service, files)) => {
+            let service = service.as_ref().map(|service| service.as_str());
+            do_files(rt, Work::Export(form, service), &files)
+        }
         Ok(Task::Policy) => answer(rt, words.get(2..).unwrap_or(&[]), terminals.error),
         Ok(Task::Topic(files)) => compare(rt, &files),
         Ok(Task::Help(subject)) => help(rt, subject.as_ref()),
@@ -82,10 +86,7 @@ fn help<R: Print + Eprint>(rt: &R, subject: Option<&String>) -> Ending {
     let subject = subject.map_or("", |subject| subject.as_str());
     match help_on(subject) {
         Some(text) => show(rt, text),
-        None => {
-            let _ = eprintln!(rt; "kob: no help on {subject}; kob help lists the subjects");
-            Ending::Failed
-        }
+        None => tell(rt, Report::NoHelp(subject)),
     }
 }
 
@@ -96,20 +97,16 @@ fn show<R: Print + Eprint>(rt: &R, text: &str) -> Ending {
     }
 }
 
-/// Prints the help, or what is wrong with the words.
-pub fn say<R: Print + Eprint>(rt: &R, refused: &Error) -> Ending {
-    let printed = refused.print(rt);
-    ending_of_words(refused.kind(), printed.is_ok())
-}
-
-/// How words end that name no task: with the page of help that they ask for, if it was printed.
-fn ending_of_words(kind: ErrorKind, is_printed: bool) -> Ending
-    ensures help { (result ≡ Ending.Whole) ↔ ((kind ≡ ErrorKind.DisplayHelp) × (is_printed ≡ true)) }
-    ensures memory { (result ≡ Ending.OutOfMemory) ↔ (kind ≡ ErrorKind.OutOfMemory) }
+/// Prints the help, or what is wrong with the words. They end well only with the page of help that
+/// they ask for.
+pub fn say<R: Print + Eprint>(rt: &R, refused: &Error) -> Ending
+    ensures help { result ≡ Ending.Whole → kind_of refused.now ≡ ErrorKind.DisplayHelp }
+    ensures memory { (result ≡ Ending.OutOfMemory) ↔ (kind_of refused.now ≡ ErrorKind.OutOfMemory) }
     ensures others { result ≢ Ending.Differs }
 {
-    match kind {
-        ErrorKind::DisplayHelp if is_printed => Ending::Whole,
+    let printed = refused.print(rt);
+    match refused.kind() {
+        ErrorKind::DisplayHelp if printed.is_ok() => Ending::Whole,
         ErrorKind::OutOfMemory => Ending::OutOfMemory,
         _ => Ending::Failed,
     }

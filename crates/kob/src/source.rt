@@ -1,9 +1,14 @@
 //! A text of bindings or of questions, and what is reported of its fault.
 
-use crate::report;
+ghost use Rattle.std.specs.Prelude.{◌≡◌};
+ghost use Rattle.kob_mistakes.specs.declared.question.Lines.TheVariants.{Questions};
+
+use crate::ending::Ending;
+use crate::report::{self, push_mistake, tell_lines};
 use kob_mistakes::{Lines, line_mistake};
 use kob_policy_text::plain_text;
 use kob_script::Fault;
+use std::alloc::AllocError;
 
 /// A text with its name, and what it has on its lines.
 #[derive(Clone, Copy)]
@@ -14,7 +19,11 @@ pub struct Source<'a> {
 }
 
 /// A text of questions.
-pub fn questions_in<'a>(name: &'a str, text: &'a [u8]) -> Source<'a> {
+pub fn questions_in<'a>(name: &'a str, text: &'a [u8]) -> Source<'a>
+    ensures name { result.name ≡ name.entry }
+    ensures text { result.text ≡ text.entry }
+    ensures lines { result.lines ≡ Questions }
+{
     Source {
         name,
         text,
@@ -23,18 +32,26 @@ pub fn questions_in<'a>(name: &'a str, text: &'a [u8]) -> Source<'a> {
 }
 
 /// Reports a fault, and which word of its line is wrong.
-pub fn say_fault<R: AllocGlobal + Eprint>(rt: &R, source: &Source<'_>, fault: Fault) {
-    let name = source.name;
-    let _ = eprintln!(rt; "kob: {name}: {fault}");
-    match plain_text(rt.alloc(), source.text) {
+pub fn say_fault<R: AllocGlobal + Eprint>(rt: &R, source: &Source<'_>, fault: Fault) -> Ending
+    ensures { result ≡ Ending.Failed }
+{
+    let ending = report::fault(rt, source.name, fault);
+    let _ = match plain_text(rt.alloc(), source.text) {
         Ok(text) => say_mistake(rt, &text, source.lines, fault),
         Err(_) => say_mistake(rt, source.text, source.lines, fault),
-    }
+    };
+    ending
 }
 
-fn say_mistake<R: AllocGlobal + Eprint>(rt: &R, text: &[u8], lines: Lines, fault: Fault) {
-    let made = line_mistake(rt.alloc(), text, fault.line, fault.kind, lines);
-    if let Ok(mistake) = made {
-        let _ = report::mistake(rt, &mistake);
-    }
+fn say_mistake<R: AllocGlobal + Eprint>(
+    rt: &R,
+    text: &[u8],
+    lines: Lines,
+    fault: Fault,
+) -> Result<(), AllocError> {
+    let mistake = line_mistake(rt.alloc(), text, fault.line, fault.kind, lines)?;
+    let mut out = Vec::new(rt.alloc());
+    let made = push_mistake(rt.alloc(), &mut out, &mistake);
+    tell_lines(rt, made, &out);
+    Ok(())
 }

@@ -1,5 +1,9 @@
 //! What `kob policy` does next, on standard error, where work is long.
 
+ghost use Rattle.std.specs.Prelude.{◌≡◌, ◌≤◌, false, true};
+ghost use Rattle.kob.specs.Stages.{bindings_of};
+
+use std::fmt;
 use std::rt::Clock;
 use std::time::{Duration, Instant};
 
@@ -9,15 +13,66 @@ const PATIENCE: u64 = 2;
 /// Lists of at least so many bindings are reported at once.
 const MANY: usize = 10_000;
 
+/// What is done next.
+#[derive(Clone, Copy)]
+pub enum Stage<'a> {
+    /// A file of so many bytes is read, after so many bindings.
+    Read {
+        file: &'a str,
+        bytes: usize,
+        bindings: usize,
+    },
+    /// A list of so many bindings is put into force.
+    Open(usize),
+    /// Two lists are compared.
+    Compare {
+        before: usize,
+        after: usize,
+    },
+    /// Questions are answered about so many bindings.
+    Answer {
+        questions: usize,
+        bindings: usize,
+    },
+}
+
+impl fmt::Display for Stage<'_> {
+    fn fmt<W: fmt::Write>(&self, f: &mut fmt::Formatter<W>) -> fmt::Result {
+        match self {
+            Stage::Read {
+                file,
+                bytes,
+                bindings,
+            } => write!(
+                f,
+                "kob: {file}: reading {bytes} bytes, {bindings} bindings so far"
+            ),
+            Stage::Open(bindings) => write!(f, "kob: putting {bindings} bindings into force"),
+            Stage::Compare { before, after } => {
+                write!(f, "kob: comparing {before} bindings with {after}")
+            }
+            Stage::Answer {
+                questions,
+                bindings,
+            } => write!(
+                f,
+                "kob: answering {questions} questions about {bindings} bindings"
+            ),
+        }
+    }
+}
+
 /// When the stages began; none if they are not to be reported.
 #[derive(Clone, Copy)]
 pub struct Stages {
-    begun: Option<Instant>,
+    pub begun: Option<Instant>,
 }
 
 impl Stages {
     /// The stages that begin now, which are reported if `is_watched`.
-    pub fn begin<R: Clock>(rt: &R, is_watched: bool) -> Stages {
+    pub fn begin<R: Clock>(rt: &R, is_watched: bool) -> Stages
+        ensures { is_watched ≡ false → result.begun ≡ None }
+    {
         let begun = if is_watched {
             Instant::now(rt).ok()
         } else {
@@ -26,40 +81,35 @@ impl Stages {
         Stages { begun }
     }
 
-    /// A file is read next.
-    pub fn read<R: Clock + Eprint>(&self, rt: &R, file: &str, bytes: usize, bindings: usize) {
-        if self.is_long(rt, bindings) {
-            let _ = eprintln!(rt; "kob: {file}: reading {bytes} bytes, {bindings} bindings so far");
-        }
-    }
-
-    /// A list is put into force next.
-    pub fn open<R: Clock + Eprint>(&self, rt: &R, bindings: usize) {
-        if self.is_long(rt, bindings) {
-            let _ = eprintln!(rt; "kob: putting {bindings} bindings into force");
-        }
-    }
-
-    /// Two lists are compared next.
-    pub fn compare<R: Clock + Eprint>(&self, rt: &R, before: usize, after: usize) {
-        if self.is_long(rt, before.max(after)) {
-            let _ = eprintln!(rt; "kob: comparing {before} bindings with {after}");
-        }
-    }
-
-    /// Questions are answered next.
-    pub fn answer<R: Clock + Eprint>(&self, rt: &R, questions: usize, bindings: usize) {
-        if self.is_long(rt, bindings) {
-            let _ = eprintln!(rt; "kob: answering {questions} questions about {bindings} bindings");
-        }
-    }
-
-    fn is_long<R: Clock>(&self, rt: &R, bindings: usize) -> bool {
+    /// Reports what is done next, if it is long. Returns whether it did.
+    pub fn tell<R: Clock + Eprint>(self, rt: &R, stage: Stage<'_>) -> bool
+        ensures { self.begun ≡ None → result ≡ false }
+    {
         match self.begun {
-            Some(begun) => bindings >= MANY || has_waited(rt, begun),
-            None => false,
+            Some(begun) if is_long(rt, begun, bindings_of(stage)) => {
+                eprintln!(rt; "{stage}").is_ok()
+            }
+            _ => false,
         }
     }
+}
+
+/// The bindings that the work is about, of two lists the longer one's.
+fn bindings_of(stage: Stage<'_>) -> usize
+    ensures { result ≡ bindings_of stage.entry }
+{
+    match stage {
+        Stage::Read { bindings, .. } => bindings,
+        Stage::Open(bindings) => bindings,
+        Stage::Compare { before, after } => before.max(after),
+        Stage::Answer { bindings, .. } => bindings,
+    }
+}
+
+fn is_long<R: Clock>(rt: &R, begun: Instant, bindings: usize) -> bool
+    ensures { 10000 ≤ bindings → result ≡ true }
+{
+    bindings >= MANY || has_waited(rt, begun)
 }
 
 fn has_waited<R: Clock>(rt: &R, begun: Instant) -> bool {

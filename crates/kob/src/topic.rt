@@ -1,12 +1,12 @@
 //! A topic of a cluster, compared with the rows of an outbox.
 
-ghost use Rattle.std.specs.Prelude.{◌≡◌, ◌++◌, IfOk, OnOk};
-ghost use Rattle.kob.specs.Ending.{ending_of_changes};
+ghost use Rattle.std.specs.Prelude.{◌≡◌, ◌≢◌, ◌++◌, IfOk, OnOk, length};
+ghost use Rattle.kob.specs.Ending.{ending_of_changes, ending_of_list};
 ghost use Rattle.kob_topic_check.specs.Findings.{counts_text, findings_text};
 
 use crate::ending::Ending;
 use crate::input::{Kind, text_of};
-use crate::report;
+use crate::report::{self, Report, tell};
 use kob_topic_check::{
     ReadError, Record, Row, print_counts, print_findings, read_records, read_rows,
 };
@@ -16,12 +16,11 @@ use std::rt::Files;
 
 /// Compares the rows of an outbox with the records of a topic, a file each: prints how many there
 /// are, and a line for each event that is missing, doubled, unknown, out of order or apart.
-pub fn compare<R: AllocGlobal + Files + Input + Print + Eprint>(
-    rt: &R,
-    files: &[String],
-) -> Ending {
+pub fn compare<R: AllocGlobal + Files + Input + Print + Eprint>(rt: &R, files: &[String]) -> Ending
+    ensures { length files.now ≢ 2 → result ≡ Ending.Failed }
+{
     let [rows, records] = files else {
-        return report::no_lists(rt);
+        return tell(rt, Report::NoLists);
     };
     match compared(rt, rows.as_str(), records.as_str()) {
         Ok(ending) | Err(ending) => ending,
@@ -71,10 +70,12 @@ fn list_of<R: AllocGlobal + Files + Input + Eprint>(rt: &R, name: &str) -> Resul
     }
 }
 
-fn fault_of(rt: &impl Eprint, name: &str, error: ReadError, form: &str) -> Ending {
+fn fault_of(rt: &impl Eprint, name: &str, error: ReadError, form: &str) -> Ending
+    ensures { result ≡ ending_of_list error }
+{
     match error {
-        ReadError::Memory(_) => report::out_of_memory(rt, name),
-        ReadError::Line(line) => report::unlike(rt, name, line, form),
+        ReadError::Memory(_) => tell(rt, Report::OutOfMemory(name)),
+        ReadError::Line(line) => tell(rt, Report::Unlike { name, line, form }),
     }
 }
 
@@ -88,7 +89,7 @@ fn print_with<R: AllocGlobal + Files + Input + Print + Eprint>(
     let mut out = Vec::new(rt.alloc());
     let ending = match push_report(rt.alloc(), &mut out, rows, &records) {
         Ok(ending) => ending,
-        Err(_) => return Err(report::out_of_memory(rt, name)),
+        Err(_) => return Err(tell(rt, Report::OutOfMemory(name))),
     };
     match io::writer(rt).write_all(&out) {
         Ok(()) => Ok(ending),

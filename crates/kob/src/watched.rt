@@ -1,5 +1,9 @@
 //! Standard output while a text is played, and how far it is on standard error.
 
+ghost use Rattle.std.specs.Prelude.{◌≡◌, None, false};
+
+use crate::expected::{Expected, after_answers};
+use kob_scene_play::Form;
 use std::io::{self, Write};
 use std::rt::Clock;
 use std::time::{Duration, Instant};
@@ -7,40 +11,53 @@ use std::time::{Duration, Instant};
 /// The seconds after which work is reported, and then again.
 const PATIENCE: u64 = 2;
 
-/// Standard output, the name of the text that is played, and how many bytes of answers were written.
+/// Standard output, the name of the text that is played, how many bytes of answers were written, and
+/// what they say of its expectations.
 #[derive(Drop)]
 pub struct Watched<'a, R> {
     rt: &'a R,
-    name: &'a str,
-    bytes: u64,
+    pub name: &'a str,
+    pub form: Form,
+    pub bytes: u64,
+    pub expected: Expected,
     /// When the playing began or was last reported; none if it is not to be reported.
-    reported: Option<Instant>,
+    pub reported: Option<Instant>,
 }
 
 impl<'a, R: Clock> Watched<'a, R> {
-    /// Standard output for the answers of a text, which are reported if `is_watched`.
-    pub fn new(rt: &'a R, name: &'a str, is_watched: bool) -> Watched<'a, R> {
+    /// Standard output for the answers of a text in this form, which are reported if `is_watched`.
+    pub fn new(rt: &'a R, name: &'a str, form: Form, is_watched: bool) -> Watched<'a, R>
+        ensures name { result.name ≡ name.entry }
+        ensures form { result.form ≡ form }
+        ensures bytes { result.bytes ≡ 0 }
+        ensures unmet { result.expected.unmet ≡ 0 }
+        ensures reported { is_watched ≡ false → result.reported ≡ None }
+    {
+        let reported = if is_watched {
+            Instant::now(rt).ok()
+        } else {
+            None
+        };
         Watched {
             rt,
             name,
+            form,
             bytes: 0,
-            reported: now_if(rt, is_watched),
+            expected: Expected {
+                answered: 0,
+                unmet: 0,
+                first: 0,
+            },
+            reported,
         }
     }
 }
 
-fn now_if<R: Clock>(rt: &R, is_watched: bool) -> Option<Instant> {
-    if is_watched {
-        Instant::now(rt).ok()
-    } else {
-        None
-    }
-}
-
 impl<R: Clock + Eprint> Watched<'_, R> {
-    /// Counts bytes that are written, and reports after two seconds.
+    /// Counts what is written, whole lines at a time, and reports after two seconds.
     fn count(&mut self, written: &[u8]) {
         self.bytes = self.bytes.saturating_add(written.len() as u64);
+        self.expected = after_answers(self.expected, self.form, written);
         if let Some(since) = self.reported {
             if let Ok(now) = Instant::now(self.rt) {
                 if now.duration_since(since) >= Duration::from_secs(PATIENCE) {

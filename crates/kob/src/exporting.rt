@@ -1,0 +1,211 @@
+//! The export of a scene: its final state, the connector of one of its services, or a table.
+
+ghost use Rattle.std.specs.Option.{option_map};
+ghost use Rattle.std.specs.Prelude.{◌≡◌, ◌++◌, ◌↔◌, IsOk, OnErr, OnOk};
+ghost use Rattle.kob.specs.Connect.{connector_text};
+ghost use Rattle.kob.specs.Exporting.{chosen, export_by, is_exported, refusal, service_named};
+ghost use Rattle.kob.specs.Exporting.{variant_words};
+
+use crate::connect::{Database, push_connector, table_of};
+use crate::ending::Ending;
+use crate::export::export_scene;
+use crate::options::ExportForm;
+use crate::play::say_fault;
+use crate::report::{Report, tell, write};
+use kob_broker::OpenFault;
+use kob_scene_text::{
+    Scene, SceneError, SceneFault, Sending, Service, print_scene_fault, read_scene,
+};
+use std::alloc::{AllocError, Global};
+
+/// Why a scene is not exported.
+#[derive(Clone, Copy)]
+pub enum Unexported {
+    Memory,
+    /// Its settings have more bindings than can be in force.
+    TooMany,
+    /// It has no service, or several where one has to be named, or none of that name.
+    NoService,
+    SeveralServices,
+    UnknownService,
+}
+
+/// Exports a text in this form; of several services, the connector of the one with this name.
+pub fn export<R: AllocGlobal + Print + Eprint>(
+    rt: &R,
+    form: ExportForm,
+    service: Option<&str>,
+    name: &str,
+    text: &[u8],
+) -> Ending {
+    match read_scene(rt.alloc(), text) {
+        Ok(scene) => export_read(rt, form, service, name, &scene),
+        Err(SceneError::Fault(fault)) => export_fault(rt, name, text, fault),
+        Err(SceneError::Memory(_)) => tell(rt, Report::OutOfMemory(name)),
+    }
+}
+
+fn export_read<R: AllocGlobal + Print + Eprint>(
+    rt: &R,
+    form: ExportForm,
+    service: Option<&str>,
+    name: &str,
+    scene: &Scene,
+) -> Ending {
+    let mut out = Vec::new(rt.alloc());
+    match push_export(rt.alloc(), &mut out, form, service, scene) {
+        Ok(()) => {
+            say_variants(rt, form, service, name, &scene.services);
+            write(rt, name, &out)
+        }
+        Err(why) => tell(rt, refusal_of(why, name, service.unwrap_or(""))),
+    }
+}
+
+/// Prints the fault of a scene in the same form as playing.
+fn export_fault<R: AllocGlobal + Print + Eprint>(
+    rt: &R,
+    name: &str,
+    text: &[u8],
+    fault: SceneFault,
+) -> Ending {
+    let mut out = Vec::new(rt.alloc());
+    if print_scene_fault(&mut out, fault).is_err() {
+        return tell(rt, Report::OutOfMemory(name));
+    }
+    say_fault(rt, name, text, fault).worse(write(rt, name, &out))
+}
+
+/// What is reported of a scene that is not exported.
+fn refusal_of<'a>(why: Unexported, name: &'a str, service: &'a str) -> Report<'a>
+    ensures { result ≡ refusal why name.entry service.entry }
+{
+    match why {
+        Unexported::Memory => Report::OutOfMemory(name),
+        Unexported::TooMany => Report::TooMany,
+        Unexported::NoService => Report::NoService(name),
+        Unexported::SeveralServices => Report::SeveralServices(name),
+        Unexported::UnknownService => Report::UnknownService { name, service },
+    }
+}
+
+/// What an export prints.
+fn push_export(
+    alloc: Global,
+    out: &mut Vec<u8>,
+    form: ExportForm,
+    service: Option<&str>,
+    scene: &Scene,
+) -> Result<(), Unexported>
+    ensures { OnOk result (out.new.items ≡ out.old.items
+        ++ export_by form (option_map (λ name. name.now) service.entry) scene.now) }
+{
+    match form {
+        ExportForm::Commands => match export_scene(alloc, out, scene) {
+            Ok(()) => Ok(()),
+            Err(OpenFault::Memory(_)) => Err(Unexported::Memory),
+            Err(OpenFault::TooMany) => Err(Unexported::TooMany),
+        },
+        ExportForm::Connect(database) => push_chosen(out, database, service, &scene.services),
+        ExportForm::Table(database) => {
+            or_memory(out.extend_from_slice(table_of(database).as_bytes()))
+        }
+    }
+}
+
+fn or_memory(done: Result<(), AllocError>) -> Result<(), Unexported>
+    ensures { IsOk result ↔ IsOk done }
+{
+    match done {
+        Ok(()) => Ok(()),
+        Err(_) => Err(Unexported::Memory),
+    }
+}
+
+/// The connector of the service that is chosen.
+fn push_chosen(
+    out: &mut Vec<u8>,
+    database: Database,
+    named: Option<&str>,
+    services: &[Service],
+) -> Result<(), Unexported>
+    ensures { OnOk result (out.new.items ≡ out.old.items
+        ++ connector_text database (chosen (option_map (λ name. name.now) named.entry) services.now)
+        services.now) }
+{
+    let place = chosen(named, services)?;
+    or_memory(push_connector(out, database, services, place))
+}
+
+/// The place of the service of this name, or of the only one.
+fn chosen(named: Option<&str>, services: &[Service]) -> Result<usize, Unexported>
+    ensures { result ≡ chosen (option_map (λ name. name.now) named.entry) services.now }
+{
+    match (named, services) {
+        (Some(name), _) => match service_named(services, name) {
+            Some(place) => Ok(place),
+            None => Err(Unexported::UnknownService),
+        },
+        (None, []) => Err(Unexported::NoService),
+        (None, [_]) => Ok(0),
+        (None, _) => Err(Unexported::SeveralServices),
+    }
+}
+
+fn service_named(services: &[Service], name: &str) -> Option<usize>
+    ensures { result ≡ service_named services.now name.now }
+{
+    services
+        .iter()
+        .position(|service| service.name.as_str() == name)
+}
+
+/// Says which services are exported without their variants.
+fn say_variants<R: Eprint>(
+    rt: &R,
+    form: ExportForm,
+    named: Option<&str>,
+    name: &str,
+    services: &[Service],
+) {
+    for service in services {
+        if is_exported(form, named, service) {
+            if let Some(words) = variant_words(service.sending) {
+                let service = service.name.as_str();
+                tell(
+                    rt,
+                    Report::Variant {
+                        name,
+                        service,
+                        words,
+                    },
+                );
+            }
+        }
+    }
+}
+
+/// Whether the route of a service is exported: of several, a connector is of the one that is named.
+fn is_exported(form: ExportForm, named: Option<&str>, service: &Service) -> bool
+    ensures { result ≡ is_exported form (option_map (λ name. name.now) named.entry) service.now }
+{
+    match (form, named) {
+        (ExportForm::Commands, _) | (ExportForm::Connect(_), None) => true,
+        (ExportForm::Connect(_), Some(name)) => service.name.as_str() == name,
+        (ExportForm::Table(_), _) => false,
+    }
+}
+
+/// The words of a scene that declare a variant.
+fn variant_words(sending: Sending) -> Option<&'static str>
+    ensures { option_map (λ words. words.now) result ≡ variant_words sending }
+{
+    match sending {
+        Sending::Proved => None,
+        Sending::RetriesNew => Some("retries new"),
+        Sending::DeletesFirst => Some("deletes first"),
+        Sending::NotIdempotent => Some("not idempotent"),
+        Sending::Separate => Some("separate"),
+        Sending::VisibleLate => Some("visible late"),
+    }
+}

@@ -1,0 +1,101 @@
+//! The answers about a list that are not as they were expected to be.
+
+ghost use Rattle.std.specs.Prelude.{◌≡◌, filter, find, length};
+ghost use Rattle.std.specs.Option.{option_copied};
+ghost use Rattle.kob.specs.Unmet.{is_unmet, question_line};
+
+use crate::report::{Report, tell};
+use bstr::ByteSlice;
+use kob_names::Text;
+use kob_policy_text::{Judge, Query, Question, is_allowed};
+use std::alloc::{AllocError, Global};
+
+/// A text of questions, and how many questions were asked up to its end.
+#[derive(Drop)]
+pub(crate) struct Asked {
+    pub(crate) name: Text,
+    pub(crate) text: Vec<u8>,
+    pub(crate) until: usize,
+}
+
+impl Asked {
+    ghost use Rattle.std.specs.Prelude.{◌≡◌, IfOk};
+
+    pub(crate) fn new(
+        alloc: Global,
+        name: &str,
+        text: Vec<u8>,
+        until: usize,
+    ) -> Result<Asked, AllocError>
+        ensures name { IfOk result (λ asked. asked.name ≡ name.now) }
+        ensures text { IfOk result (λ asked. asked.text ≡ text) }
+        ensures until { IfOk result (λ asked. asked.until ≡ until) }
+    {
+        match Text::copied(alloc, name) {
+            Ok(name) => Ok(Asked { name, text, until }),
+            Err(refused) => {
+                drop(text);
+                Err(refused)
+            }
+        }
+    }
+}
+
+/// Says of each text how many of its questions are not answered as expected, and the line of the
+/// first.
+pub(crate) fn say_unmet<R: Eprint>(rt: &R, judge: &Judge, queries: &[Query], asked: &[Asked]) {
+    let mut from = 0;
+    for text in asked {
+        let own = queries.get(from..text.until).unwrap_or(&[]);
+        if let Some(first) = first_unmet(judge, own) {
+            tell(
+                rt,
+                Report::Unmet {
+                    name: text.name.as_str(),
+                    count: unmet_count(judge, own) as u64,
+                    line: question_line(&text.text, first.text.as_slice()),
+                },
+            );
+        }
+        from = text.until;
+    }
+}
+
+fn first_unmet<'q>(judge: &Judge, queries: &'q [Query]) -> Option<&'q Query>
+    ensures { option_copied result ≡ find (is_unmet judge.now) queries.entry.now }
+{
+    queries.iter().find(|query| is_unmet(judge, query))
+}
+
+fn unmet_count(judge: &Judge, queries: &[Query]) -> usize
+    ensures { result ≡ length (filter (is_unmet judge.now) queries.now) }
+{
+    queries
+        .iter()
+        .filter(|query| is_unmet(judge, query))
+        .count()
+}
+
+/// Whether a question is not answered as expected.
+fn is_unmet(judge: &Judge, query: &Query) -> bool
+    ensures { result ≡ is_unmet judge.now query.now }
+{
+    match &query.question {
+        Question::Expect(expected, access) => *expected != is_allowed(judge, access),
+        _ => false,
+    }
+}
+
+/// The line of the text that has this question, the first of several; 0 if there is none.
+fn question_line(text: &[u8], question: &[u8]) -> u64
+    ensures { result ≡ question_line text.now question.now }
+{
+    let mut number: u64 = 0;
+    for line in text.lines() {
+        number = number.saturating_add(1);
+        if line.trim() == question {
+            return number;
+        }
+    }
+    0
+}
