@@ -5,4 +5,4 @@ use Rattle.kob.proofs.unmet.question_line.Given as goal
 
 abbrev pub invariant-loop-line : goal.invariant-loop-line
 invariant-loop-line l =
-    line_among (next l.number) l.line-iterator l.question ≡ question_line l.text l.question
+    line_among (next l.number) l.line-iterator l.question ≡ question_line l.fn.text l.question
