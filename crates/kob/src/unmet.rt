@@ -2,7 +2,7 @@
 
 ghost use Rattle.std.specs.Prelude.{◌≡◌, filter, find, length};
 ghost use Rattle.std.specs.Option.{option_copied};
-ghost use Rattle.kob.specs.Unmet.{is_unmet, question_line};
+ghost use Rattle.kob.specs.Unmet.{is_unmet};
 
 use crate::report::{Report, tell};
 use bstr::ByteSlice;
@@ -87,9 +87,7 @@ fn is_unmet(judge: &Judge, query: &Query) -> bool
 }
 
 /// The line of the text that has this question, the first of several; 0 if there is none.
-fn question_line(text: &[u8], question: &[u8]) -> u64
-    ensures { result ≡ question_line text.now question.now }
-{
+fn question_line(text: &[u8], question: &[u8]) -> u64 {
     let mut number: u64 = 0;
     for line in text.lines() {
         number = number.saturating_add(1);
