@@ -27,8 +27,15 @@ class Mistakes(unittest.TestCase):
         ):
             self.assertIsNotNone(mistakes.difference(output, *heads, word))
 
-    def test_a_case_is_a_word_and_a_line(self) -> None:
+    def test_a_note_is_a_line_of_the_remark(self) -> None:
+        right = (1, "fault line 5 BadStep\n", f"{REMARK}  nearest: tick\n")
+        heads = "fault line 5 ", "kob: -: line 5: "
+        self.assertIsNone(mistakes.difference(right, *heads, "tock", "nearest: tick"))
+        self.assertIsNotNone(mistakes.difference(right, *heads, "tock", "nearest: tic"))
+        self.assertIsNotNone(mistakes.difference(right, *heads, "svc", "nearest: tick"))
+
+    def test_a_case_is_a_word_and_a_line_and_maybe_a_note(self) -> None:
         with tempfile.TemporaryDirectory() as folder:
-            put(pathlib.Path(folder), {"cases": "# a remark\ntock\tsvc tock now\n(end)\tsvc\n"})
+            put(pathlib.Path(folder), {"cases": "# a remark\ntock\tsvc tock now\tnearest: tick\n(end)\tsvc\n"})
             found = list(mistakes.cases(pathlib.Path(folder) / "cases"))
-        self.assertEqual(found, [("tock", "svc tock now"), ("(end)", "svc")])
+        self.assertEqual(found, [("tock", "svc tock now", "nearest: tick"), ("(end)", "svc", "")])

@@ -1,7 +1,7 @@
 -- The first line of which something is so, among those that are left.
-use Rattle.std.proofs.Common.{Bool, List, None, Option, Some, [], arith, drop, drop_of_length-le, false, get_or, length, map, refl, true, ℕ, ◌+◌, ◌<◌, ◌∷◌, ◌≡◌, ◌≤◌}
+use Rattle.std.proofs.Common.{Bool, List, None, Option, Some, arith, drop, ap, drop_of_length-le, false, get_or, length, map, sym, take, true, ℕ, ◌+◌, ◌<◌, ◌∙◌, ◌≡◌, ◌≤◌}
 use Rattle.std.proofs.lemmas.Bool.Decides.{nat_tests}
-use Rattle.std.proofs.lemmas.List.{drop_more, length-map}
+use Rattle.std.proofs.lemmas.List.{drop_more, length-map, take-map, take_all}
 use Rattle.std.proofs.lemmas.Option.{slice_get-map}
 use Rattle.std.specs.List.{slice_get}
 use Rattle.std.specs.Option.{option_map}
@@ -32,3 +32,12 @@ lent_at view items place = slice_get-map view items place
 
 pub lent_length : {A B : Type 0} (view : A → B) (items : List A) → length (map view items) ≡ length items
 lent_length view items = length-map items view
+
+-- lines that are lent
+pub lent_before : {A B : Type 0} (view : A → B) (items : List A) (count : ℕ)
+    → map view (take count items) ≡ take count (map view items)
+lent_before view items count = sym (take-map view count items)
+
+pub lent_whole : {A B : Type 0} (view : A → B) (items : List A) (count : ℕ) → length items ≤ count
+    → map view items ≡ take count (map view items)
+lent_whole view items count most = sym (take-map view count items ∙ ap (map view) (take_all count items most))

@@ -33,6 +33,21 @@ is_alone Unused = true
 is_alone Shadowed = true
 is_alone Removable = true
 
+-- the form of such a question
+unfoldable pub kind_form : Kind → List ℕ
+kind_form May =
+    codes "may PRINCIPAL HOST OPERATION RESOURCE NAME, or produce TOPIC, or consume TOPIC GROUP, or a request"
+kind_form Expect = codes "expect yes or expect no, and then may .."
+kind_form Who =
+    codes "who OPERATION RESOURCE [prefix] NAME, or NAME HOST, or produce TOPIC, or consume TOPIC GROUP"
+kind_form Rights = codes "rights PRINCIPAL [HOST]"
+kind_form Sees = codes "sees PRINCIPAL HOST"
+kind_form Topic = codes "topic NAME"
+kind_form Summary = codes "summary"
+kind_form Unused = codes "unused"
+kind_form Shadowed = codes "shadowed"
+kind_form Removable = codes "removable"
+
 abbrev pub kinds : List Kind
 kinds =
     May ∷ Expect ∷ Who ∷ Rights ∷ Sees ∷ Topic ∷ Summary ∷ Unused ∷ Shadowed ∷ Removable ∷ []

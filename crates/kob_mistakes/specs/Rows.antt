@@ -23,18 +23,35 @@ has_many_names (Some resource) name = not (same_resource resource Cluster)
 abbrev pub is_many_named : List ℕ → Bool
 is_many_named name = has_many_names (resource_named name) name
 
+abbrev pub is_operation : List ℕ → Bool
+is_operation name = is_some (operation_named name) || is_listed name
+
+abbrev pub is_resource : List ℕ → Bool
+is_resource name = is_some (resource_named name) || is_listed name
+
+abbrev pub is_answer : List ℕ → Bool
+is_answer word = bytes_eq word (codes "yes") || bytes_eq word (codes "no")
+
+-- how events are produced
+abbrev pub is_how : List ℕ → Bool
+is_how word = bytes_eq word (codes "idempotent") || bytes_eq word (codes "transactional")
+
 -- a word may stand at such a place
 abbrev pub fits : Fit → Word → Bool
-fits fit.Any word = true
+fits fit.Act word = true
+fits fit.Topic word = true
+fits fit.Group word = true
+fits fit.Name word = true
+fits fit.Id word = true
+fits fit.Prefix word = bytes_eq word.decoded (codes "prefix")
 fits fit.Principal word = is_ok (named_principal word)
 fits fit.Host word = is_ok (named_host word)
-fits fit.Operation word = is_some (operation_named word.decoded) || is_listed word.decoded
-fits fit.Resource word = is_some (resource_named word.decoded) || is_listed word.decoded
+fits fit.Operation word = is_operation word.decoded
+fits fit.Resource word = is_resource word.decoded
 fits fit.ManyNamed word = is_many_named word.decoded
-fits fit.Answer word = bytes_eq word.decoded (codes "yes") || bytes_eq word.decoded (codes "no")
+fits fit.Answer word = is_answer word.decoded
 fits fit.May word = bytes_eq word.decoded (codes "may")
-fits fit.How word =
-    bytes_eq word.decoded (codes "idempotent") || bytes_eq word.decoded (codes "transactional")
+fits fit.How word = is_how word.decoded
 
 -- the place of the first word that does not fit; if each fits, that of the word too many or too few
 abbrev pub misfit : List Fit → List Word → ℕ

@@ -1,7 +1,7 @@
 -- What is told on standard error beside the answers.
-use Rattle.std.specs.Prelude.{ℕ, Bool, true, false, List, [], ◌++◌, codes}
+use Rattle.std.specs.Prelude.{ℕ, Bool, true, false, List, [], ◌++◌, Option, Some, None, codes}
 use Rattle.std.specs.Fmt.{decimal}
-use Rattle.kob_mistakes.specs.Kinds.{is_alone, kind_name}
+use Rattle.kob_mistakes.specs.Kinds.{is_alone, kind_form, kind_name, kind_named}
 use Rattle.kob_mistakes.specs.declared.kinds.Kind.{Kind}
 
 -- kob: NAME: line LINE:, and a blank
@@ -12,8 +12,20 @@ head_text name line = codes "kob: " ++ name ++ codes ": line " ++ decimal line +
 unfoldable pub quotes_text : List ℕ
 quotes_text = codes "  hint: quotes make a question of words, as in '"
 
+unfoldable pub expected_head : List ℕ
+expected_head = codes "  expected: "
+
+abbrev pub expected_text : List ℕ → List ℕ
+expected_text form = expected_head ++ form ++ codes "\n"
+
+-- `log`, which reads a log, is no kind of question
+abbrev pub form_text : Option Kind → List ℕ
+form_text None = []
+form_text (Some kind) = expected_text (kind_form kind)
+
 abbrev pub unquoted_text : List ℕ → List ℕ
-unquoted_text word = quotes_text ++ word ++ codes " ..'\n"
+unquoted_text word =
+    form_text (kind_named word) ++ quotes_text ++ word ++ codes " ..'\n"
 
 -- a question of more words than one stands in quotes
 abbrev pub unquoted_unless : Bool → List ℕ → List ℕ

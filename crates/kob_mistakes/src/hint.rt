@@ -1,48 +1,57 @@
 //! What people often do, and what to do in its place.
 
+ghost use Rattle.std.specs.Prelude.{◌≡◌, option_map};
+ghost use Rattle.kob_mistakes.specs.Hints.{begins_so, hint_on, hint_on_beginning};
+ghost use Rattle.kob_mistakes.specs.Hints.{hint_on_bytes_of, is_list, is_utf_16};
+
 use crate::quotes::{Unread, unread_in};
 use crate::words::is_blank;
 use bstr::ByteSlice;
 
-/// The first bytes of a text that is not a scene.
-static BEGINNINGS: [(&[u8], &str); 6] = [
-    (
-        b"\xef\xbb\xbf",
-        "the text begins with a byte order mark: write it as UTF-8 without one",
-    ),
-    (b"\xff\xfe", "the text is UTF-16: write it as UTF-8"),
-    (b"\xfe\xff", "the text is UTF-16: write it as UTF-8"),
-    (
-        b"Current ACLs for",
-        "this is a list of bindings: kob policy answers questions about it",
-    ),
-    (
-        b"ACLs for principal",
-        "this is a list of bindings: kob policy answers questions about it",
-    ),
-    (
-        b"kafka-acls",
-        "a scene has kafka-acls options behind PRINCIPAL HOST acl; kob policy reads the command itself",
-    ),
-];
-
 /// A hint on a list that can't be read as UTF-8, if it has a mark of UTF-16, which is read elsewhere.
 pub(crate) fn hint_on_bytes(text: &[u8]) -> Option<&'static str> {
-    if text.starts_with(b"\xff\xfe") || text.starts_with(b"\xfe\xff") {
+    if is_utf_16(text, b"") {
         Some("the text is UTF-16 with an odd number of bytes, or with an unpaired surrogate")
     } else {
         None
     }
 }
 
+fn begins_so(text: &[u8], line: &[u8], beginning: &[u8]) -> bool
+    ensures { result ≡ begins_so text.now line.now beginning.now }
+{
+    text.starts_with(beginning) || line.starts_with(beginning)
+}
+
+fn is_utf_16(text: &[u8], line: &[u8]) -> bool
+    ensures { result ≡ is_utf_16 text.now line.now }
+{
+    begins_so(text, line, b"\xff\xfe") || begins_so(text, line, b"\xfe\xff")
+}
+
+fn is_list(text: &[u8], line: &[u8]) -> bool
+    ensures { result ≡ is_list text.now line.now }
+{
+    begins_so(text, line, b"Current ACLs for") || begins_so(text, line, b"ACLs for principal")
+}
+
 /// A hint on a text that is not what is asked for, by its first bytes or those of a line.
-fn hint_on_beginning(text: &[u8], line: &[u8]) -> Option<&'static str> {
-    for (beginning, hint) in BEGINNINGS {
-        if text.starts_with(beginning) || line.starts_with(beginning) {
-            return Some(hint);
-        }
+fn hint_on_beginning(text: &[u8], line: &[u8]) -> Option<&'static str>
+    ensures { option_map (λ hint. hint.now) result ≡ hint_on_beginning text.now line.now }
+{
+    if begins_so(text, line, b"\xef\xbb\xbf") {
+        Some("the text begins with a byte order mark: write it as UTF-8 without one")
+    } else if is_utf_16(text, line) {
+        Some("the text is UTF-16: write it as UTF-8")
+    } else if is_list(text, line) {
+        Some("this is a list of bindings: kob policy answers questions about it")
+    } else if begins_so(text, line, b"kafka-acls") {
+        Some(
+            "a scene has kafka-acls options behind PRINCIPAL HOST acl; kob policy reads the command itself",
+        )
+    } else {
+        None
     }
-    None
 }
 
 /// A hint on a line of questions with a fault.
@@ -60,19 +69,26 @@ pub(crate) fn hint_on_question(text: &[u8], line: &[u8]) -> Option<&'static str>
 
 /// A hint on a line of so many words with a fault, if it looks like a common mistake. `text` is the
 /// whole text.
-pub fn hint_on(text: &[u8], line: &[u8], words: usize) -> Option<&'static str> {
-    if let Some(hint) = hint_on_beginning(text, line) {
-        return Some(hint);
+pub fn hint_on(text: &[u8], line: &[u8], words: usize) -> Option<&'static str>
+    ensures { option_map (λ hint. hint.now) result ≡ hint_on text.now line.now words }
+{
+    match hint_on_beginning(text, line) {
+        Some(hint) => Some(hint),
+        None => hint_on_bytes_of(line, words),
     }
+}
+
+/// A blank in JSON, which cuts a word in two, or quotes.
+fn hint_on_bytes_of(line: &[u8], words: usize) -> Option<&'static str>
+    ensures { option_map (λ hint. hint.now) result ≡ hint_on_bytes_of line.now words }
+{
     if line.contains(&b'{') && words > 10 {
-        return Some("a blank inside a word is written %20, as in {\"total\":%2010}");
+        Some("a blank inside a word is written %20, as in {\"total\":%2010}")
+    } else if !line.contains(&b'{') && (line.contains(&b'\'') || line.contains(&b'"')) {
+        Some("quotes are not removed: they become a part of the word; a blank is written %20")
+    } else {
+        None
     }
-    if !line.contains(&b'{') && (line.contains(&b'\'') || line.contains(&b'"')) {
-        return Some(
-            "quotes are not removed: they become a part of the word; a blank is written %20",
-        );
-    }
-    None
 }
 
 /// The first line of a scene, counted from 1, in which quotes are a part of a name, and that name: the

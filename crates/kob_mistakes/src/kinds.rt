@@ -1,7 +1,7 @@
 //! The kinds of questions, and which one a word may mean.
 
 ghost use Rattle.std.specs.Prelude.{◌≡◌, IfOk, bytes_eq, find, map, option_copied};
-ghost use Rattle.kob_mistakes.specs.Kinds.{begins_question, is_alone, kind_called, kind_name};
+ghost use Rattle.kob_mistakes.specs.Kinds.{begins_question, is_alone, kind_called, kind_form, kind_name};
 ghost use Rattle.kob_mistakes.specs.Kinds.{kind_named, kinds, meant_by, nearest_kind};
 
 use crate::spelling::nearest;
@@ -9,7 +9,7 @@ use kob_names::Text;
 use std::alloc::{AllocError, Global};
 
 /// A kind of question, by the word that it begins with.
-#[derive(Clone, Copy, Debug, PartialEq, Eq)]
+#[derive(Clone, Copy)]
 pub enum Kind {
     May,
     Expect,
@@ -67,7 +67,10 @@ impl Kind {
     }
 
     /// The form of such a question.
-    pub(crate) fn form(self) -> &'static str {
+    #[tactic(auto, unfolding(crate::specs::Kinds::kind_form))]
+    pub(crate) fn form(self) -> &'static str
+        ensures { result.now ≡ kind_form self }
+    {
         match self {
             Kind::May =>
                 "may PRINCIPAL HOST OPERATION RESOURCE NAME, or produce TOPIC, or consume TOPIC GROUP, or a request",
@@ -107,7 +110,7 @@ pub fn begins_question(word: &[u8]) -> bool
 }
 
 /// What a word of the command line means that names no file that can be read.
-#[derive(Clone, Copy, Debug, PartialEq, Eq)]
+#[derive(Clone, Copy)]
 pub enum Meant {
     /// A file.
     File,

@@ -4,12 +4,14 @@
 
 mod hint;
 mod kinds;
+mod left_out;
 mod listed;
 mod mistake;
 mod misused;
 mod option;
 mod place;
 mod question;
+mod question_form;
 mod question_place;
 mod quotes;
 mod record;

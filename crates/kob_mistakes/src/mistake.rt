@@ -3,14 +3,17 @@
 ghost use Rattle.std.specs.Prelude.{◌≡◌, IfOk, map};
 ghost use Rattle.kob_scene_text.specs.Misuses.{misuse_at};
 ghost use Rattle.kob_script.specs.Script.{line_words};
+ghost use Rattle.kob_script.specs.Words.{raw_words};
+ghost use Rattle.kob_mistakes.specs.Lines.{line_of, lines_before};
 
 use crate::hint::hint_on;
+use crate::left_out::left_out;
 use crate::place::word_place;
 use crate::record::{before_ending, hint_on_record};
 use crate::spelling::{nearest, unless_same};
-use crate::usage::{LAW_FORM, form_of, names_at};
-use crate::words::{escape_place, raw_words};
-use crate::worker::{WorkerKind, declared_by, stepping_at};
+use crate::usage::{LAW_FORM, form_of, is_keyword, push_names};
+use crate::words::{escape_place, line_at, lines_before, lines_of, raw_words, word_at};
+use crate::worker::{WorkerKind, declared_by, kind_named, stepping_at};
 use bstr::ByteSlice;
 use kob_names::Text;
 use kob_scene_text::{Misuse, SceneFault, SceneFaultKind, misuse_at};
@@ -38,17 +41,32 @@ pub fn mistake_in<'a>(
     alloc: Global,
     text: &'a [u8],
     fault: SceneFault,
-) -> Result<Mistake<'a>, AllocError> {
-    let lines = lines_to(alloc, text, fault.line)?;
-    let (line, before) = last_of(&lines);
+) -> Result<Mistake<'a>, AllocError>
+    ensures words { IfOk result (λ mistake. map (λ word. word.now) mistake.words.items
+        ≡ raw_words (line_of text.now fault.line)) }
+    ensures misuse { IfOk result (λ mistake. mistake.misuse
+        ≡ misuse_at (lines_before text.now fault.line)
+        (line_words (line_of text.now fault.line)) fault.kind mistake.place) }
+{
+    let lines = lines_of(alloc, text)?;
+    let line = line_at(&lines, fault.line);
+    let before = lines_before(&lines, fault.line);
     let words = raw_words(alloc, line)?;
-    let place = place_of(alloc, before, line, &words, fault.kind)?;
+    let fault_at = place_of(alloc, before, line, &words, fault.kind)?;
+    let left_out = left_out(line, &words, fault_at);
+    let place = match left_out {
+        Some(left_out) => left_out.place(fault_at),
+        None => before_ending(&words, fault_at),
+    };
     let stepping = stepping_at(alloc, before, &words, place)?;
     let nearest = nearest_at(alloc, text, &words, place, fault.kind, stepping)?;
     let misuse = misuse_in(alloc, before, line, place, fault.kind)?;
     Ok(Mistake {
         form: form_by(fault.kind, &words, stepping),
-        hint: hint_on_record(&words, place).or(hint_on(text, line, words.len())),
+        hint: match left_out {
+            Some(left_out) => Some(left_out.hint()),
+            None => hint_on_record(&words, place).or(hint_on(text, line, words.len())),
+        },
         misuse,
         words,
         place,
@@ -83,26 +101,6 @@ fn form_by(kind: SceneFaultKind, words: &[&[u8]], stepping: Option<WorkerKind>) 
     }
 }
 
-/// The lines of a text up to that of a number, counted from 1.
-fn lines_to(alloc: Global, text: &[u8], number: u64) -> Result<Vec<&[u8]>, AllocError> {
-    let mut lines = Vec::new(alloc);
-    for line in text.lines() {
-        if lines.len() as u64 >= number {
-            return Ok(lines);
-        }
-        lines.push(line)?;
-    }
-    Ok(lines)
-}
-
-/// The last line, and those before it.
-fn last_of<'l, 'a>(lines: &'l [&'a [u8]]) -> (&'a [u8], &'l [&'a [u8]]) {
-    match lines {
-        [before @ .., line] => (line, before),
-        [] => (b"".as_slice(), &[]),
-    }
-}
-
 fn place_of(
     alloc: Global,
     before: &[&[u8]],
@@ -120,10 +118,33 @@ fn place_of(
         return Ok(place);
     }
     match words_of(alloc, line) {
-        Ok(words) => Ok(before_ending(raw, word_place(alloc, before, &words, kind)?)),
+        Ok(words) => {
+            if begins_with_nothing(alloc, before, raw, kind)? {
+                return Ok(0);
+            }
+            word_place(alloc, before, &words, kind)
+        }
         Err(LineError::Memory(refused)) => Err(refused),
         Err(LineError::Fault(_)) => Ok(0),
     }
+}
+
+/// Whether a line of the wrong shape begins with no word of its own, no principal, and no worker.
+fn begins_with_nothing(
+    alloc: Global,
+    before: &[&[u8]],
+    words: &[&[u8]],
+    kind: SceneFaultKind,
+) -> Result<bool, AllocError> {
+    let first = word_at(words, 0);
+    if kind != SceneFaultKind::Script(FaultKind::BadLine)
+        || is_keyword(first)
+        || first.contains(&b':')
+    {
+        return Ok(false);
+    }
+    let worker = kind_named(alloc, before, first)?;
+    Ok(worker.is_none())
 }
 
 /// A blank in JSON or in a quoted text cuts a word of a record in two. The first half is then the
@@ -154,16 +175,22 @@ fn nearest_at(
     let Some(word) = words.get(place).and_then(|word| word.to_str().ok()) else {
         return Ok(None);
     };
-    let names = match kind {
-        SceneFaultKind::UnknownWorker => workers_of(alloc, text)?,
-        _ => names_at(alloc, words, place, stepping)?,
-    };
+    let mut names = Vec::new(alloc);
+    if place == 0 || kind == SceneFaultKind::UnknownWorker {
+        push_workers(alloc, &mut names, text)?;
+    }
+    if kind != SceneFaultKind::UnknownWorker {
+        push_names(&mut names, words, place, stepping)?;
+    }
     Ok(unless_same(nearest(alloc, word, &names)?, word))
 }
 
-/// The names of the workers that a text declares.
-fn workers_of(alloc: Global, text: &[u8]) -> Result<Vec<&str>, AllocError> {
-    let mut names = Vec::new(alloc);
+/// Appends the names of the workers that a text declares.
+fn push_workers<'a>(
+    alloc: Global,
+    names: &mut Vec<&'a str>,
+    text: &'a [u8],
+) -> Result<(), AllocError> {
     for line in text.lines() {
         let words = raw_words(alloc, line)?;
         if let [first, name, ..] = words.as_slice() {
@@ -174,5 +201,5 @@ fn workers_of(alloc: Global, text: &[u8]) -> Result<Vec<&str>, AllocError> {
             }
         }
     }
-    Ok(names)
+    Ok(())
 }

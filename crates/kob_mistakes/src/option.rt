@@ -6,8 +6,12 @@ use kob_words::{filter_pattern_named, operation_named};
 use std::alloc::Global;
 
 /// What a value of an option is.
-#[derive(Clone, Copy, Debug, PartialEq, Eq)]
+#[derive(Clone, Copy)]
 enum Value {
+    /// No option has the name.
+    Unknown,
+    /// The option has no value.
+    Flag,
     Principal,
     Host,
     Operation,
@@ -15,20 +19,16 @@ enum Value {
     Any,
 }
 
-/// The options without a value.
-static FLAGS: [&str; 8] = [
-    "--add",
-    "--remove",
-    "--list",
-    "--cluster",
-    "--producer",
-    "--consumer",
-    "--idempotent",
-    "--force",
-];
-
-/// The options with a value.
-static VALUED: [(&str, Value); 12] = [
+/// The options, and what value each has.
+static OPTIONS: [(&str, Value); 20] = [
+    ("--add", Value::Flag),
+    ("--remove", Value::Flag),
+    ("--list", Value::Flag),
+    ("--cluster", Value::Flag),
+    ("--producer", Value::Flag),
+    ("--consumer", Value::Flag),
+    ("--idempotent", Value::Flag),
+    ("--force", Value::Flag),
     ("--allow-principal", Value::Principal),
     ("--deny-principal", Value::Principal),
     ("--principal", Value::Principal),
@@ -60,13 +60,11 @@ pub(crate) fn option_place(
     .unwrap_or(first.saturating_sub(1))
 }
 
-fn flag_named(name: &[u8]) -> bool {
-    FLAGS.iter().any(|flag| flag.as_bytes() == name)
-}
-
-fn value_of(name: &[u8]) -> Option<Value> {
-    let (_, value) = VALUED.iter().find(|option| option.0.as_bytes() == name)?;
-    Some(*value)
+fn value_of(name: &[u8]) -> Value {
+    match OPTIONS.iter().find(|option| option.0.as_bytes() == name) {
+        Some((_, value)) => *value,
+        None => Value::Unknown,
+    }
 }
 
 /// The name of an option, and the value behind `=` if there is one.
@@ -88,29 +86,27 @@ fn is_value(words: &[Word<'_>], place: usize) -> bool {
 fn misplaced_from(words: &[Word<'_>], first: usize) -> Option<usize> {
     let mut value_at = words.len();
     for at in first..words.len() {
-        let (name, value) = parts_of(words[at].decoded());
-        let is_valued = value_of(name).is_some();
-        if at == value_at || flag_named(name) && value.is_none() || is_valued && value.is_some() {
+        if at == value_at {
             continue;
         }
-        if !is_valued || !is_value(words, at + 1) {
-            return Some(at);
+        let (name, given) = parts_of(words[at].decoded());
+        match (value_of(name), given) {
+            (Value::Unknown, _) | (Value::Flag, Some(_)) => return Some(at),
+            (Value::Flag, None) | (_, Some(_)) => {}
+            (_, None) if is_value(words, at + 1) => value_at = at + 1,
+            (_, None) => return Some(at),
         }
-        value_at = at + 1;
     }
     None
 }
 
 fn misnamed_from(alloc: Global, words: &[Word<'_>], first: usize) -> Option<usize> {
     for at in first..words.len() {
-        let (name, value) = parts_of(words[at].decoded());
-        if let Some(kind) = value_of(name) {
-            let beside = words.get(at + 1).map(|word| word.decoded());
-            let place = if value.is_some() { at } else { at + 1 };
-            if value
-                .or(beside)
-                .is_some_and(|value| !is_valid(alloc, kind, value))
-            {
+        let (name, given) = parts_of(words[at].decoded());
+        let place = if given.is_some() { at } else { at + 1 };
+        let beside = words.get(at + 1).map(|word| word.decoded());
+        if let Some(value) = given.or(beside) {
+            if !is_valid(alloc, value_of(name), value) {
                 return Some(place);
             }
         }
@@ -120,13 +116,13 @@ fn misnamed_from(alloc: Global, words: &[Word<'_>], first: usize) -> Option<usiz
 
 fn is_valid(alloc: Global, kind: Value, value: &[u8]) -> bool {
     let Ok(text) = str::from_utf8(value) else {
-        return false;
+        return matches!(kind, Value::Unknown | Value::Flag);
     };
     match kind {
         Value::Principal => Principal::parse(alloc, text).is_ok(),
         Value::Host => Host::parse(alloc, text).is_ok(),
         Value::Operation => operation_named(value).is_some(),
         Value::Pattern => filter_pattern_named(value).is_some(),
-        Value::Any => true,
+        Value::Unknown | Value::Flag | Value::Any => true,
     }
 }

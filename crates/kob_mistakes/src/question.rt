@@ -1,20 +1,20 @@
 //! A fault of a question or of a list of bindings, as a person is told of it.
 
 use crate::hint::hint_on_question;
-use crate::kinds::kind_named;
 use crate::listed::{binding_place, hint_on_list, value_in};
 use crate::mistake::Mistake;
-use crate::question_place::{hint_on_missing, place_by_name};
+use crate::question_form::question_form;
+use crate::question_place::{hint_on_missing, is_cut, place_by_name};
 use crate::quotes::{each_unquoted, quoted_words, read_each, unread_in, unread_place};
 use crate::spelling::{nearest, unless_same};
-use crate::words::{escape_place, raw_words};
+use crate::words::{escape_place, raw_words, word_at};
 use bstr::ByteSlice;
 use kob_names::Text;
 use kob_script::{FaultKind, LineError};
 use std::alloc::{AllocError, Global};
 
 /// What a text has on its lines.
-#[derive(Clone, Copy, Debug, PartialEq, Eq)]
+#[derive(Clone, Copy)]
 pub enum Lines {
     /// Bindings and settings.
     Bindings,
@@ -88,7 +88,7 @@ fn question_mistake<'a>(
         None
     };
     Ok(Mistake {
-        form: form_of(&words, Lines::Questions),
+        form: question_form(&words),
         hint: hint_on_question(text, line).or(missing),
         words,
         place: wrong.place,
@@ -107,18 +107,13 @@ fn binding_mistake<'a>(
     let place = binding_place(alloc, line, &words, kind)?;
     let nearest = nearest_word(alloc, value_in(word_at(&words, place)))?;
     Ok(Mistake {
-        form: form_of(&words, Lines::Bindings),
+        form: "a line of kafka-acls --list or --add, create-acl or acl of scripts, or a setting",
         hint: hint_on_list(text, &words),
         words,
         place,
         nearest,
         misuse: None,
     })
-}
-
-/// The word at a place; an empty one behind the last.
-fn word_at<'a>(words: &[&'a [u8]], place: usize) -> &'a [u8] {
-    words.get(place).copied().unwrap_or(b"".as_slice())
 }
 
 fn nearest_word(alloc: Global, word: &[u8]) -> Result<Option<Text>, AllocError> {
@@ -128,17 +123,8 @@ fn nearest_word(alloc: Global, word: &[u8]) -> Result<Option<Text>, AllocError> 
     Ok(unless_same(nearest(alloc, word, &WORDS)?, word))
 }
 
-fn form_of(words: &[&[u8]], lines: Lines) -> &'static str {
-    let first = words.first().copied().unwrap_or(b"".as_slice());
-    match (lines, kind_named(first)) {
-        (Lines::Questions, Some(kind)) => kind.form(),
-        (Lines::Questions, None) =>
-            "a question: may, expect, who, rights, sees, topic, summary, unused, shadowed or removable",
-        (Lines::Bindings, _) => {
-            "a line of kafka-acls --list or --add, create-acl or acl of scripts, or a setting"
-        }
-    }
-}
+/// Where a name is cut by a blank.
+const CUT: &str = "a name with a blank stands in quotes, as \"User:CN=Acme Shop\"";
 
 /// The place of the word of a question that is wrong, the number of words if one is missing, and what
 /// is missing there.
@@ -171,9 +157,10 @@ fn question_place(
     match read_each(alloc, &texts) {
         Ok(words) => {
             let place = place_by_name(alloc, &words, kind)?;
+            let cut = is_cut(&words, place).then_some(CUT);
             Ok(Wrong {
                 place,
-                missing: hint_on_missing(&words, place),
+                missing: hint_on_missing(&words, place).or(cut),
             })
         }
         Err(LineError::Memory(refused)) => Err(refused),

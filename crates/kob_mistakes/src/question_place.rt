@@ -2,13 +2,17 @@
 
 ghost use Rattle.std.specs.Prelude.{◌≡◌, IfOk, option_map};
 ghost use Rattle.kob_mistakes.specs.Questions.{access_place, access_row, behind_expected};
-ghost use Rattle.kob_mistakes.specs.Questions.{expected_place, first_is, how_row, is_word, missing_at, missing_hint};
-ghost use Rattle.kob_mistakes.specs.Questions.{missing_in, missing_of_kind, missing_of_row, missing_text, place_behind};
-ghost use Rattle.kob_mistakes.specs.Questions.{place_by_name, place_of_kind, produced_row, right_row};
-ghost use Rattle.kob_mistakes.specs.Questions.{row_behind, row_of, third_is};
+ghost use Rattle.kob_mistakes.specs.Questions.{expected_place, first_is, has_act, has_prefix, how_row};
+ghost use Rattle.kob_mistakes.specs.Questions.{is_act, is_cut, is_cut_access, is_cut_behind};
+ghost use Rattle.kob_mistakes.specs.Questions.{is_word, lacks_host, missing_access};
+ghost use Rattle.kob_mistakes.specs.Questions.{missing_at, missing_behind, missing_expected};
+ghost use Rattle.kob_mistakes.specs.Questions.{missing_hint, missing_of_row, missing_text};
+ghost use Rattle.kob_mistakes.specs.Questions.{place_behind, place_by_name, place_of_kind};
+ghost use Rattle.kob_mistakes.specs.Questions.{produced_row, right_row, row_of};
 
 use crate::kinds::{Kind, kind_named};
 use crate::rows::{Fit, misfit};
+use crate::usage::is_command;
 use kob_names::sum_of;
 use kob_script::{FaultKind, Word, fault_place};
 use kob_words::operation_named;
@@ -62,7 +66,7 @@ fn place_behind(
         Kind::Expect => expected_place(alloc, words, fault),
         Kind::Who => misfit(alloc, right_row(words), words),
         Kind::Rights | Kind::Sees => misfit(alloc, &[Fit::Principal, Fit::Host], words),
-        Kind::Topic => misfit(alloc, &[Fit::Any], words),
+        Kind::Topic => misfit(alloc, &[Fit::Name], words),
         Kind::Summary | Kind::Unused | Kind::Shadowed | Kind::Removable => {
             misfit(alloc, &[], words)
         }
@@ -95,6 +99,9 @@ fn behind_expected(
 fn access_place(alloc: Global, words: &[Word<'_>], fault: FaultKind) -> Result<usize, AllocError>
     ensures { IfOk result (λ place. place ≡ access_place fault words.now) }
 {
+    if lacks_host(words) {
+        return misfit(alloc, &[Fit::Principal], words);
+    }
     match access_row(words) {
         Some(row) => misfit(alloc, row, words),
         None => Ok(fault_place(alloc, words, fault)?.unwrap_or(2)),
@@ -107,7 +114,7 @@ fn access_row(words: &[Word<'_>]) -> Option<&'static [Fit]>
 {
     match words {
         [_, _, command, rest @ ..] => row_of(command, rest),
-        _ => Some(&[Fit::Principal, Fit::Host, Fit::Any]),
+        [_, _] | [_] | [] => Some(&[Fit::Principal, Fit::Host, Fit::Act]),
     }
 }
 
@@ -115,7 +122,7 @@ fn row_of(command: &Word<'_>, rest: &[Word<'_>]) -> Option<&'static [Fit]>
     ensures { option_map (λ row. row.now) result ≡ row_of command.now rest.now }
 {
     if is_word(command, b"consume") {
-        Some(&[Fit::Principal, Fit::Host, Fit::Any, Fit::Any, Fit::Any])
+        Some(&[Fit::Principal, Fit::Host, Fit::Act, Fit::Topic, Fit::Group])
     } else if is_word(command, b"produce") {
         produced_row(rest)
     } else if operation_named(command.decoded()).is_some() {
@@ -124,7 +131,7 @@ fn row_of(command: &Word<'_>, rest: &[Word<'_>]) -> Option<&'static [Fit]>
             Fit::Host,
             Fit::Operation,
             Fit::Resource,
-            Fit::Any,
+            Fit::Name,
         ])
     } else {
         None
@@ -139,13 +146,13 @@ fn how_row(how: &Word<'_>) -> &'static [Fit]
         &[
             Fit::Principal,
             Fit::Host,
-            Fit::Any,
-            Fit::Any,
+            Fit::Act,
+            Fit::Topic,
             Fit::How,
-            Fit::Any,
+            Fit::Id,
         ]
     } else {
-        &[Fit::Principal, Fit::Host, Fit::Any, Fit::Any, Fit::How]
+        &[Fit::Principal, Fit::Host, Fit::Act, Fit::Topic, Fit::How]
     }
 }
 
@@ -155,9 +162,30 @@ fn produced_row(words: &[Word<'_>]) -> Option<&'static [Fit]>
     ensures { option_map (λ row. row.now) result ≡ produced_row words.now }
 {
     match words {
-        [] | [_] => Some(&[Fit::Principal, Fit::Host, Fit::Any, Fit::Any]),
+        [] | [_] => Some(&[Fit::Principal, Fit::Host, Fit::Act, Fit::Topic]),
         [_, how] => Some(how_row(how)),
-        _ => None,
+        [_, _, _, ..] => None,
+    }
+}
+
+/// Whether a word says what is asked for.
+#[tactic(auto, unfolding(crate::specs::Questions::is_act))]
+fn is_act(word: &Word<'_>) -> bool
+    ensures { result ≡ is_act word.now }
+{
+    operation_named(word.decoded()).is_some()
+        || is_word(word, b"consume")
+        || is_command(word.decoded())
+}
+
+/// Whether HOST is left out between PRINCIPAL and what is asked for.
+fn lacks_host(words: &[Word<'_>]) -> bool
+    ensures { result ≡ lacks_host words.now }
+{
+    match words {
+        [_, second, third, ..] => is_act(second) && !is_act(third),
+        [_, second] => is_act(second),
+        [_] | [] => false,
     }
 }
 
@@ -166,17 +194,14 @@ fn first_is(words: &[Word<'_>], text: &[u8]) -> bool
 {
     match words {
         [first, ..] => is_word(first, text),
-        [] => text.is_empty(),
+        [] => false,
     }
 }
 
-fn third_is(words: &[Word<'_>], text: &[u8]) -> bool
-    ensures { result ≡ third_is words.now text.now }
+fn has_prefix(words: &[Word<'_>]) -> bool
+    ensures { result ≡ has_prefix words.now }
 {
-    match words {
-        [_, _, third, ..] => is_word(third, text),
-        _ => text.is_empty(),
-    }
+    words.iter().any(|word| is_word(word, b"prefix"))
 }
 
 /// What the words behind `who` have to be.
@@ -184,38 +209,15 @@ fn right_row(words: &[Word<'_>]) -> &'static [Fit]
     ensures { result.now ≡ right_row words.now }
 {
     if first_is(words, b"produce") && words.len() < 3 {
-        &[Fit::Any, Fit::Any]
+        &[Fit::Act, Fit::Topic]
     } else if first_is(words, b"consume") && words.len() < 4 {
-        &[Fit::Any, Fit::Any, Fit::Any]
+        &[Fit::Act, Fit::Topic, Fit::Group]
+    } else if has_prefix(words) {
+        &[Fit::Operation, Fit::ManyNamed, Fit::Prefix, Fit::Name]
     } else if words.len() < 4 {
-        &[Fit::Operation, Fit::Resource, Fit::Any]
-    } else if third_is(words, b"prefix") {
-        &[Fit::Operation, Fit::ManyNamed, Fit::Any, Fit::Any]
+        &[Fit::Operation, Fit::Resource, Fit::Name]
     } else {
-        &[Fit::Operation, Fit::Resource, Fit::Any, Fit::Host]
-    }
-}
-
-/// What the words behind the first one have to be; None for a request.
-fn row_behind(kind: Kind, words: &[Word<'_>]) -> Option<&'static [Fit]>
-    ensures { option_map (λ row. row.now) result ≡ row_behind kind words.now }
-{
-    match kind {
-        Kind::May => access_row(words),
-        Kind::Expect => Some(&[Fit::Answer, Fit::May]),
-        Kind::Who => Some(right_row(words)),
-        Kind::Rights | Kind::Sees => Some(&[Fit::Principal, Fit::Host]),
-        Kind::Topic => Some(&[Fit::Any]),
-        Kind::Summary | Kind::Unused | Kind::Shadowed | Kind::Removable => Some(&[]),
-    }
-}
-
-fn missing_in(row: Option<&[Fit]>, words: &[Word<'_>], place: usize) -> Option<Fit>
-    ensures { result ≡ missing_in (option_map (λ row. row.now) row.entry) words.now place }
-{
-    match row {
-        Some(row) => missing_of_row(row, words, place),
-        None => None,
+        &[Fit::Operation, Fit::Resource, Fit::Name, Fit::Host]
     }
 }
 
@@ -229,12 +231,38 @@ fn missing_of_row(row: &[Fit], words: &[Word<'_>], place: usize) -> Option<Fit>
     }
 }
 
-fn missing_of_kind(kind: Option<Kind>, words: &[Word<'_>], place: usize) -> Option<Fit>
-    ensures { result ≡ missing_of_kind kind words.now place }
+/// What the words behind `may` lack.
+fn missing_access(words: &[Word<'_>], place: usize) -> Option<Fit>
+    ensures { result ≡ missing_access words.now place }
+{
+    if lacks_host(words) && place == 1 {
+        return Some(Fit::Host);
+    }
+    missing_of_row(access_row(words)?, words, place)
+}
+
+/// What the words behind `expect` lack.
+fn missing_expected(words: &[Word<'_>], place: usize) -> Option<Fit>
+    ensures { result ≡ missing_expected words.now place }
+{
+    match words {
+        [_, _, ..] if place < 2 => None,
+        [_, _, rest @ ..] => missing_access(rest, place - 2),
+        [_] | [] => missing_of_row(&[Fit::Answer, Fit::May], words, place),
+    }
+}
+
+fn missing_behind(kind: Kind, words: &[Word<'_>], place: usize) -> Option<Fit>
+    ensures { result ≡ missing_behind kind words.now place }
 {
     match kind {
-        Some(kind) => missing_in(row_behind(kind, words), words, place),
-        None => None,
+        Kind::May => missing_access(words, place),
+        Kind::Expect => missing_expected(words, place),
+        Kind::Who => missing_of_row(right_row(words), words, place),
+        Kind::Rights => missing_of_row(&[Fit::Principal], words, place),
+        Kind::Sees => missing_of_row(&[Fit::Principal, Fit::Host], words, place),
+        Kind::Topic => missing_of_row(&[Fit::Name], words, place),
+        Kind::Summary | Kind::Unused | Kind::Shadowed | Kind::Removable => None,
     }
 }
 
@@ -243,26 +271,31 @@ fn missing_at(words: &[Word<'_>], place: usize) -> Option<Fit>
     ensures { result ≡ missing_at words.now place }
 {
     match words {
-        [_, ..] if place == 0 => None,
-        [first, rest @ ..] => missing_of_kind(kind_named(first.decoded()), rest, place - 1),
-        [] => None,
+        [first, rest @ ..] if place > 0 => {
+            missing_behind(kind_named(first.decoded())?, rest, place - 1)
+        }
+        [_, ..] | [] => None,
     }
 }
 
-fn missing_text(fit: Fit) -> Option<&'static str>
-    ensures { option_map (λ text. text.now) result ≡ missing_text fit }
+fn missing_text(fit: Fit) -> &'static str
+    ensures { result.now ≡ missing_text fit }
 {
     match fit {
-        Fit::Any | Fit::How => None,
-        Fit::Principal => Some("PRINCIPAL is missing here, as User:alice"),
-        Fit::Host => Some("HOST is missing here, as 10.0.0.1"),
-        Fit::Operation => Some("OPERATION is missing here, as Read or Write"),
-        Fit::Resource => {
-            Some("RESOURCE is missing here: Topic, Group, Cluster or TransactionalId")
-        }
-        Fit::ManyNamed => Some("RESOURCE is missing here: Topic, Group or TransactionalId"),
-        Fit::Answer => Some("yes or no is missing here"),
-        Fit::May => Some("may is missing here"),
+        Fit::Principal => "PRINCIPAL is missing here, as User:alice",
+        Fit::Host => "HOST is missing here, as 10.0.0.1",
+        Fit::Act => "an operation, produce, consume or a request is missing here",
+        Fit::Topic => "TOPIC is missing here, as orders",
+        Fit::Group => "GROUP is missing here, as billing",
+        Fit::Name => "NAME is missing here, as orders",
+        Fit::Id => "a transactional ID is missing here",
+        Fit::Prefix => "prefix is missing here",
+        Fit::Operation => "OPERATION is missing here, as Read or Write",
+        Fit::Resource => "RESOURCE is missing here: Topic, Group, Cluster or TransactionalId",
+        Fit::ManyNamed => "RESOURCE is missing here: Topic, Group or TransactionalId",
+        Fit::Answer => "yes or no is missing here",
+        Fit::May => "may is missing here",
+        Fit::How => "idempotent or transactional is missing here",
     }
 }
 
@@ -270,8 +303,45 @@ fn missing_text(fit: Fit) -> Option<&'static str>
 pub(crate) fn hint_on_missing(words: &[Word<'_>], place: usize) -> Option<&'static str>
     ensures { option_map (λ text. text.now) result ≡ missing_hint words.now place }
 {
-    match missing_at(words, place) {
-        Some(fit) => missing_text(fit),
-        None => None,
+    missing_at(words, place).map(missing_text)
+}
+
+fn has_act(words: &[Word<'_>]) -> bool
+    ensures { result ≡ has_act words.now }
+{
+    words.iter().any(|word| is_act(word))
+}
+
+/// Whether a blank may cut a name in two before the place behind `may` that is wrong.
+fn is_cut_access(words: &[Word<'_>], place: usize) -> bool
+    ensures { result ≡ is_cut_access words.now place }
+{
+    place == 2 && has_act(words.get(3..).unwrap_or(&[])) || place > 4 && place < words.len()
+}
+
+fn is_cut_behind(kind: Kind, words: &[Word<'_>], place: usize) -> bool
+    ensures { result ≡ is_cut_behind kind words.now place }
+{
+    match kind {
+        Kind::May => is_cut_access(words, place),
+        Kind::Expect => is_cut_access(words.get(2..).unwrap_or(&[]), place.saturating_sub(2)),
+        Kind::Who => place == 4,
+        Kind::Rights => place == 2,
+        Kind::Sees => place == 2 && words.len() > 2,
+        Kind::Topic | Kind::Summary | Kind::Unused | Kind::Shadowed | Kind::Removable => false,
+    }
+}
+
+/// Whether a blank may cut a name in two before the place that is wrong: a word stands there that is
+/// one too many, or stands before what is asked for.
+pub(crate) fn is_cut(words: &[Word<'_>], place: usize) -> bool
+    ensures { result ≡ is_cut words.now place }
+{
+    match words {
+        [first, rest @ ..] if place > 0 => match kind_named(first.decoded()) {
+            Some(kind) => is_cut_behind(kind, rest, place - 1),
+            None => false,
+        },
+        [_, ..] | [] => false,
     }
 }

@@ -24,7 +24,7 @@ static MISSING: [&str; 8] = [
 ];
 
 /// A word that may stand behind the state of a record, where its service is a variant.
-#[derive(Clone, Copy, Debug, PartialEq, Eq)]
+#[derive(Clone, Copy)]
 enum Ending {
     /// Of a service that is declared `separate`.
     Crash,
@@ -164,7 +164,7 @@ fn line_with_state(alloc: Global, lines: &[&[u8]], state: &str) -> Result<Option
 
 /// Whether a word stands at a place.
 #[tactic(auto, using(crate::proofs::Walking::lent_at))]
-fn word_is(words: &[&[u8]], place: usize, text: &[u8]) -> bool
+pub(crate) fn word_is(words: &[&[u8]], place: usize, text: &[u8]) -> bool
     ensures { result ≡ word_is (map (λ word. word.now) words.now) place text.now }
 {
     match words.get(place) {

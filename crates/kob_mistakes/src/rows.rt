@@ -3,7 +3,8 @@
 ghost use Rattle.std.specs.Prelude.{◌≡◌, ◌≤◌, IfOk, length};
 ghost use Rattle.std.specs.Result.{is_ok};
 ghost use Rattle.kob_script.specs.Words.{named_host, named_principal};
-ghost use Rattle.kob_mistakes.specs.Rows.{fits, is_listed, is_many_named, misfit};
+ghost use Rattle.kob_mistakes.specs.Rows.{fits, is_answer, is_how, is_listed, is_many_named};
+ghost use Rattle.kob_mistakes.specs.Rows.{is_operation, is_resource, misfit};
 
 use kob_names::ResourceKind;
 use kob_script::{LineError, Word, host_of, lent_text_of, principal_of};
@@ -11,11 +12,19 @@ use kob_words::{operation_named, resource_named};
 use std::alloc::{AllocError, Global};
 
 /// What a word of a question has to be.
-#[derive(Clone, Copy, Debug, PartialEq, Eq)]
+#[derive(Clone, Copy)]
 pub(crate) enum Fit {
-    Any,
     Principal,
     Host,
+    /// The word that says what is asked for.
+    Act,
+    Topic,
+    Group,
+    Name,
+    /// A transactional id.
+    Id,
+    /// `prefix`
+    Prefix,
     Operation,
     Resource,
     /// A kind of resource with many names: any but the cluster.
@@ -52,25 +61,41 @@ fn fits(alloc: Global, fit: Fit, word: &Word<'_>) -> Result<bool, AllocError>
     ensures { IfOk result (λ is. is ≡ fits fit word.now) }
 {
     match fit {
-        Fit::Any => Ok(true),
+        Fit::Act | Fit::Topic | Fit::Group | Fit::Name | Fit::Id => Ok(true),
+        Fit::Prefix => Ok(word.decoded() == b"prefix".as_slice()),
         Fit::Principal => is_principal(alloc, word),
         Fit::Host => is_host(alloc, word),
-        Fit::Operation => {
-            Ok(operation_named(word.decoded()).is_some() || is_listed(word.decoded()))
-        }
-        Fit::Resource => {
-            Ok(resource_named(word.decoded()).is_some() || is_listed(word.decoded()))
-        }
+        Fit::Operation => Ok(is_operation(word.decoded())),
+        Fit::Resource => Ok(is_resource(word.decoded())),
         Fit::ManyNamed => Ok(is_many_named(word.decoded())),
-        Fit::Answer => {
-            Ok(word.decoded() == b"yes".as_slice() || word.decoded() == b"no".as_slice())
-        }
+        Fit::Answer => Ok(is_answer(word.decoded())),
         Fit::May => Ok(word.decoded() == b"may".as_slice()),
-        Fit::How => Ok(
-            word.decoded() == b"idempotent".as_slice()
-                || word.decoded() == b"transactional".as_slice(),
-        ),
+        Fit::How => Ok(is_how(word.decoded())),
     }
+}
+
+fn is_operation(name: &[u8]) -> bool
+    ensures { result ≡ is_operation name.now }
+{
+    operation_named(name).is_some() || is_listed(name)
+}
+
+fn is_resource(name: &[u8]) -> bool
+    ensures { result ≡ is_resource name.now }
+{
+    resource_named(name).is_some() || is_listed(name)
+}
+
+fn is_answer(word: &[u8]) -> bool
+    ensures { result ≡ is_answer word.now }
+{
+    word == b"yes".as_slice() || word == b"no".as_slice()
+}
+
+fn is_how(word: &[u8]) -> bool
+    ensures { result ≡ is_how word.now }
+{
+    word == b"idempotent".as_slice() || word == b"transactional".as_slice()
 }
 
 fn is_principal(alloc: Global, word: &Word<'_>) -> Result<bool, AllocError>

@@ -1,10 +1,11 @@
 //! What is told on standard error beside the answers, as text.
 
 ghost use Rattle.std.specs.Prelude.{◌≡◌, ◌++◌, OnOk};
-ghost use Rattle.kob_mistakes.specs.Told.{doubtful_text, head_text, misspelt_text, neither_text};
+ghost use Rattle.kob_mistakes.specs.Told.{doubtful_text, expected_head, expected_text, form_text, head_text};
+ghost use Rattle.kob_mistakes.specs.Told.{misspelt_text, neither_text};
 ghost use Rattle.kob_mistakes.specs.Told.{quoted_text, quotes_text, state_text, unquoted_text, unquoted_unless};
 
-use crate::kinds::Kind;
+use crate::kinds::{Kind, kind_named};
 use kob_words::push_number;
 use std::alloc::AllocError;
 
@@ -24,6 +25,13 @@ fn quotes_text() -> &'static str
     ensures { result.now ≡ quotes_text }
 {
     "  hint: quotes make a question of words, as in '"
+}
+
+#[tactic(auto, unfolding(crate::specs::Told::expected_head))]
+fn expected_head() -> &'static str
+    ensures { result.now ≡ expected_head }
+{
+    "  expected: "
 }
 
 #[tactic(auto, unfolding(crate::specs::Told::neither_text))]
@@ -46,9 +54,28 @@ fn state_text() -> &'static str
 pub fn push_unquoted(out: &mut Vec<u8>, word: &str) -> Result<(), AllocError>
     ensures { OnOk result (out.new.items ≡ out.old.items ++ unquoted_text word.now) }
 {
+    push_kind(out, kind_named(word.as_bytes()))?;
     out.extend_from_slice(quotes_text().as_bytes())?;
     out.extend_from_slice(word.as_bytes())?;
     out.extend_from_slice(b" ..'\n")
+}
+
+#[tactic(auto, using(kob_words::proofs::Appending::appending))]
+fn push_form(out: &mut Vec<u8>, form: &str) -> Result<(), AllocError>
+    ensures { OnOk result (out.new.items ≡ out.old.items ++ expected_text form.now) }
+{
+    out.extend_from_slice(expected_head().as_bytes())?;
+    out.extend_from_slice(form.as_bytes())?;
+    out.extend_from_slice(b"\n")
+}
+
+fn push_kind(out: &mut Vec<u8>, kind: Option<Kind>) -> Result<(), AllocError>
+    ensures { OnOk result (out.new.items ≡ out.old.items ++ form_text kind) }
+{
+    match kind {
+        Some(kind) => push_form(out, kind.form()),
+        None => Ok(()),
+    }
 }
 
 fn push_unquoted_unless(out: &mut Vec<u8>, is_alone: bool, word: &str) -> Result<(), AllocError>

@@ -1,53 +1,65 @@
 //! The forms of lines, as the pages show them, and the words that lines are made of.
 
-use crate::worker::WorkerKind;
-use std::alloc::{AllocError, Global};
+ghost use Rattle.std.specs.Prelude.{◌≡◌};
+ghost use Rattle.std.specs.List.{list_any};
+ghost use Rattle.std.specs.Str.{bytes_eq};
+ghost use Rattle.kob_mistakes.specs.Commands.{is_command};
 
-/// The names of commands, with what follows each.
-static REQUESTS: [(&str, &str); 16] = [
+use crate::words::word_at;
+use crate::worker::WorkerKind;
+use std::alloc::AllocError;
+
+/// The names of commands, with the form of a question of each, which without `may` is that of a request.
+const REQUESTS: [(&str, &str); 16] = [
     (
         "create-topic",
-        "PRINCIPAL HOST create-topic TOPIC PARTITIONS",
+        "may PRINCIPAL HOST create-topic TOPIC PARTITIONS",
     ),
-    ("delete-topic", "PRINCIPAL HOST delete-topic TOPIC"),
-    ("metadata", "PRINCIPAL HOST metadata [TOPIC]"),
+    ("delete-topic", "may PRINCIPAL HOST delete-topic TOPIC"),
+    ("metadata", "may PRINCIPAL HOST metadata [TOPIC]"),
     (
         "produce",
-        "PRINCIPAL HOST produce TOPIC PARTITION -|ID:EPOCH:BASE [KEY=]VALUE ..",
+        "may PRINCIPAL HOST produce TOPIC PARTITION -|ID:EPOCH:BASE [KEY=]VALUE ..",
     ),
-    ("fetch", "PRINCIPAL HOST fetch TOPIC PARTITION OFFSET MAX"),
+    (
+        "fetch",
+        "may PRINCIPAL HOST fetch TOPIC PARTITION OFFSET MAX",
+    ),
     (
         "list-offsets",
-        "PRINCIPAL HOST list-offsets TOPIC PARTITION -1|-2",
+        "may PRINCIPAL HOST list-offsets TOPIC PARTITION -1|-2",
     ),
     (
         "delete-records",
-        "PRINCIPAL HOST delete-records TOPIC PARTITION OFFSET|-1",
+        "may PRINCIPAL HOST delete-records TOPIC PARTITION OFFSET|-1",
     ),
-    ("init-producer", "PRINCIPAL HOST init-producer"),
+    ("init-producer", "may PRINCIPAL HOST init-producer"),
     (
         "commit",
-        "PRINCIPAL HOST commit GROUP TOPIC PARTITION OFFSET",
+        "may PRINCIPAL HOST commit GROUP TOPIC PARTITION OFFSET",
     ),
     (
         "committed",
-        "PRINCIPAL HOST committed GROUP TOPIC PARTITION",
+        "may PRINCIPAL HOST committed GROUP TOPIC PARTITION",
     ),
-    ("groups", "PRINCIPAL HOST groups"),
-    ("delete-group", "PRINCIPAL HOST delete-group GROUP"),
+    ("groups", "may PRINCIPAL HOST groups"),
+    ("delete-group", "may PRINCIPAL HOST delete-group GROUP"),
     (
         "create-acl",
-        "PRINCIPAL HOST create-acl allow|deny PRINCIPAL HOST OPERATION RESOURCE literal|prefixed NAME",
+        "may PRINCIPAL HOST create-acl allow|deny PRINCIPAL HOST OPERATION RESOURCE literal|prefixed NAME",
     ),
     (
         "describe-acls",
-        "PRINCIPAL HOST describe-acls RESOURCE NAME PATTERN PRINCIPAL HOST OPERATION PERMISSION, each or -",
+        "may PRINCIPAL HOST describe-acls RESOURCE NAME PATTERN PRINCIPAL HOST OPERATION PERMISSION, each or -",
     ),
     (
         "delete-acls",
-        "PRINCIPAL HOST delete-acls RESOURCE NAME PATTERN PRINCIPAL HOST OPERATION PERMISSION, each or -",
+        "may PRINCIPAL HOST delete-acls RESOURCE NAME PATTERN PRINCIPAL HOST OPERATION PERMISSION, each or -",
     ),
-    ("acl", "PRINCIPAL HOST acl --add|--remove|--list OPTION .."),
+    (
+        "acl",
+        "may PRINCIPAL HOST acl --add|--remove|--list OPTION ..",
+    ),
 ];
 
 /// The form of a law, where its line names a variant.
@@ -191,9 +203,23 @@ fn form_in(forms: &'static [(&'static str, &'static str)], word: &[u8]) -> Optio
     Some(form)
 }
 
+fn is_in(forms: &[(&str, &str)], word: &[u8]) -> bool
+    ensures { result ≡ list_any (λ form. bytes_eq form.0.now word.now) forms.now }
+{
+    forms.iter().any(|form| form.0.as_bytes() == word)
+}
+
 /// Whether a word is the name of a command.
-pub(crate) fn is_command(word: &[u8]) -> bool {
-    form_in(&REQUESTS, word).is_some()
+#[tactic(auto, unfolding(crate::specs::Commands::is_command))]
+pub(crate) fn is_command(word: &[u8]) -> bool
+    ensures { result ≡ is_command word.now }
+{
+    is_in(&REQUESTS, word)
+}
+
+/// The form of a question whether a request may be made that has this command.
+pub(crate) fn request_form(command: &[u8]) -> Option<&'static str> {
+    form_in(&REQUESTS, command)
 }
 
 /// Whether a word begins a setting, a declaration, or a line that prints.
@@ -230,7 +256,10 @@ pub(crate) fn form_of(words: &[&[u8]], stepping: Option<WorkerKind>) -> &'static
     match words {
         [first, ..] if form_in(&LINES, first).is_some() => form_in(&LINES, first).unwrap_or(""),
         [first, _, command, ..] if first.contains(&b':') => {
-            form_in(&REQUESTS, command).unwrap_or("PRINCIPAL HOST COMMAND ..")
+            match request_form(command) {
+                Some(form) => form.strip_prefix("may ").unwrap_or(form),
+                None => "PRINCIPAL HOST COMMAND ..",
+            }
         }
         [first, ..] if first.contains(&b':') => "PRINCIPAL HOST COMMAND ..",
         [_, step, ..] => form_of_step(step).unwrap_or("PRINCIPAL HOST COMMAND .. or NAME STEP .."),
@@ -238,58 +267,36 @@ pub(crate) fn form_of(words: &[&[u8]], stepping: Option<WorkerKind>) -> &'static
     }
 }
 
-/// The words that may stand at a place of a line: those among which a misspelt word is looked for.
-pub(crate) fn names_at(
-    alloc: Global,
+/// Appends the words that may stand at a place of a line: those among which a misspelt word is
+/// looked for.
+pub(crate) fn push_names<'a>(
+    names: &mut Vec<&'a str>,
     words: &[&[u8]],
     place: usize,
     stepping: Option<WorkerKind>,
-) -> Result<Vec<&'static str>, AllocError> {
-    if let Some(kind) = stepping {
-        return names_of_steps(alloc, kind);
-    }
-    let is_request = words.first().is_some_and(|first| first.contains(&b':'));
-    match (is_request, place) {
-        (true, 2) => names_of(alloc, &REQUESTS),
-        (true, _) => copied(alloc, &WORDS),
-        (false, 0) => names_of(alloc, &LINES),
-        (false, 1) => names_of_each_step(alloc),
-        (false, _) => copied(alloc, &PARTS),
-    }
-}
-
-fn names_of_steps(alloc: Global, kind: WorkerKind) -> Result<Vec<&'static str>, AllocError> {
-    match kind {
-        WorkerKind::Service => names_of(alloc, &SERVICE_STEPS),
-        WorkerKind::Consumer => names_of(alloc, &CONSUMER_STEPS),
+) -> Result<(), AllocError> {
+    let is_request = word_at(words, 0).contains(&b':');
+    match (stepping, is_request, place) {
+        (Some(WorkerKind::Service), _, _) => push_names_of(names, &SERVICE_STEPS),
+        (Some(WorkerKind::Consumer), _, _) => push_names_of(names, &CONSUMER_STEPS),
+        (None, true, 2) => push_names_of(names, &REQUESTS),
+        (None, true, _) => names.extend_from_slice(&WORDS),
+        (None, false, 0) => push_names_of(names, &LINES),
+        (None, false, 1) => {
+            push_names_of(names, &SERVICE_STEPS)?;
+            push_names_of(names, &CONSUMER_STEPS)
+        }
+        (None, false, _) => names.extend_from_slice(&PARTS),
     }
 }
 
-/// The names of the steps of both kinds of workers.
-fn names_of_each_step(alloc: Global) -> Result<Vec<&'static str>, AllocError> {
-    let mut names = names_of_steps(alloc, WorkerKind::Service)?;
-    for (name, _) in CONSUMER_STEPS {
-        names.push(name)?;
-    }
-    Ok(names)
-}
-
-/// The names of forms.
-fn names_of(
-    alloc: Global,
+/// Appends the names of forms.
+fn push_names_of<'a>(
+    names: &mut Vec<&'a str>,
     forms: &'static [(&'static str, &'static str)],
-) -> Result<Vec<&'static str>, AllocError> {
-    let mut names = Vec::new(alloc);
+) -> Result<(), AllocError> {
     for (name, _) in forms {
         names.push(*name)?;
     }
-    Ok(names)
-}
-
-fn copied(alloc: Global, words: &'static [&'static str]) -> Result<Vec<&'static str>, AllocError> {
-    let mut names = Vec::new(alloc);
-    for word in words {
-        names.push(*word)?;
-    }
-    Ok(names)
+    Ok(())
 }

@@ -1,6 +1,7 @@
 //! The lines of a text, and where the words of a line are.
 
-ghost use Rattle.std.specs.Prelude.{◌≡◌, IfOk, map};
+ghost use Rattle.std.specs.Prelude.{◌≡◌, ◌-◌, IfOk, map, take};
+ghost use Rattle.kob_mistakes.specs.Lines.{word_at};
 ghost use Rattle.kob_script.specs.Script.{lines_in};
 ghost use Rattle.kob_script.specs.Words.{is_blank, raw_words};
 
@@ -29,6 +30,34 @@ pub(crate) fn raw_words(alloc: Global, line: &[u8]) -> Result<Vec<&[u8]>, AllocE
     line.split(|byte| is_blank(*byte))
         .filter(|word| !word.is_empty())
         .collect(alloc)
+}
+
+/// The word at a place, an empty one behind the last.
+#[tactic(auto, using(crate::proofs::Walking::lent_at), unfolding(crate::specs::Lines::word_at))]
+pub(crate) fn word_at<'a>(words: &[&'a [u8]], place: usize) -> &'a [u8]
+    ensures { result.now ≡ word_at (map (λ word. word.now) words.now) place }
+{
+    match words.get(place) {
+        Some(word) => word,
+        None => b"",
+    }
+}
+
+/// The line of a number, counted from 1.
+pub(crate) fn line_at<'a>(lines: &[&'a [u8]], number: u64) -> &'a [u8]
+    ensures { result.now ≡ word_at (map (λ line. line.now) lines.now) (number - 1) }
+{
+    word_at(lines, number.saturating_sub(1) as usize)
+}
+
+/// The lines before that of a number.
+#[tactic(auto, using(crate::proofs::Walking::lent_before, crate::proofs::Walking::lent_whole))]
+pub(crate) fn lines_before<'l, 'a>(lines: &'l [&'a [u8]], number: u64) -> &'l [&'a [u8]]
+    ensures { map (λ line. line.now) result.now
+        ≡ take (number - 1) (map (λ line. line.now) lines.now) }
+{
+    let count = number.saturating_sub(1) as usize;
+    lines.get(..count).unwrap_or(lines)
 }
 
 /// The place of the first word with a percent sign that two hexadecimal digits do not follow.

@@ -4,7 +4,7 @@ use crate::words::raw_words;
 use std::alloc::{AllocError, Global};
 
 /// What a worker is.
-#[derive(Clone, Copy, Debug, PartialEq, Eq)]
+#[derive(Clone, Copy)]
 pub(crate) enum WorkerKind {
     Service,
     Consumer,
