@@ -1,12 +1,11 @@
 -- Which files a list has.
-use Rattle.std.specs.Prelude.{List, []}
-use Rattle.std.specs.declared.string.String.{String}
+use Rattle.std.specs.Prelude.{ℕ, List, [], map, string_bytes}
 use Rattle.kob.specs.declared.policy_lists.Side.{Side}
 use Rattle.kob.specs.declared.policy_lists.Side.TheVariants.{Only, Before, After}
 use Rattle.kob.specs.declared.policy_options.Options.{Options}
 
 -- --policy counts for each list; one of two lists has also those of its own option
-abbrev pub files_of : Options → Side → List String
+abbrev pub files_of : Options → Side → List (List ℕ)
 files_of options Only = []
-files_of options Before = options.before.items
-files_of options After = options.after.items
+files_of options Before = map (λ file. string_bytes file) options.before.items
+files_of options After = map (λ file. string_bytes file) options.after.items

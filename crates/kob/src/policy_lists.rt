@@ -1,6 +1,6 @@
 //! The lists that questions are about, read and in force.
 
-ghost use Rattle.std.specs.Prelude.{◌≡◌, [], IfOk, false};
+ghost use Rattle.std.specs.Prelude.{◌≡◌, [], IfOk, false, map, string_bytes};
 ghost use Rattle.kob.specs.Lists.{files_of};
 
 use crate::ending::Ending;
@@ -96,7 +96,7 @@ pub(crate) struct Listed {
 
 /// The files of a list, besides those of `--policy`.
 fn files_of(options: &Options, side: Side) -> &[String]
-    ensures { result.now ≡ files_of options.now side }
+    ensures { map (λ file. string_bytes file) result.now ≡ files_of options.now side }
 {
     match side {
         Side::Only => &[],
