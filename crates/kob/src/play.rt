@@ -2,7 +2,7 @@
 
 ghost use Rattle.std.specs.Prelude.{◌≡◌, ◌++◌, OnOk, map};
 ghost use Rattle.kob.specs.Ending.{ending_of_play};
-ghost use Rattle.kob.specs.Headings.{heading_text, word_at};
+ghost use Rattle.kob.specs.Headings.{file_line, heading_text, word_at};
 
 use crate::ending::{Ending, ending_of_play};
 use crate::expected::{Expected, line_of};
@@ -71,6 +71,14 @@ fn push_heading(out: &mut Vec<u8>, work: Work<'_>, file: &str) -> Result<(), All
 {
     match work {
         Work::Play {
+            form: Form::Plain,
+            ..
+        } => push_file_line(out, file),
+        Work::Play {
+            form: Form::Trace,
+            ..
+        } => push_file_line(out, file),
+        Work::Play {
             form: Form::Json,
             ..
         } => {
@@ -78,12 +86,17 @@ fn push_heading(out: &mut Vec<u8>, work: Work<'_>, file: &str) -> Result<(), All
             push_json_string(out, file.as_bytes())?;
             out.extend_from_slice(b"}\n")
         }
-        _ => {
-            out.extend_from_slice(b"== ")?;
-            out.extend_from_slice(file.as_bytes())?;
-            out.extend_from_slice(b"\n")
-        }
+        Work::Export(_, _) => push_file_line(out, file),
     }
+}
+
+#[tactic(auto, using(kob_words::proofs::Appending::appending))]
+fn push_file_line(out: &mut Vec<u8>, file: &str) -> Result<(), AllocError>
+    ensures { OnOk result (out.new.items ≡ out.old.items ++ file_line file.now) }
+{
+    out.extend_from_slice(b"== ")?;
+    out.extend_from_slice(file.as_bytes())?;
+    out.extend_from_slice(b"\n")
 }
 
 fn do_file<R: AllocGlobal + Clock + Files + Input + Print + Eprint>(
