@@ -20,7 +20,10 @@ fn serve<R: Wait>(
     request: Request,
     replies: &Sender<Reply>,
 ) -> Option<()> {
-    let (principal, host) = asker(alloc, "User:root")?;
+    let Some((principal, host)) = asker(alloc, "User:root") else {
+        drop(request);
+        return None;
+    };
     let event = Event {
         principal,
         host,
@@ -60,7 +63,6 @@ fn are_heard(alloc: Global, recorded: &Recorded, calls: Vec<Call>) -> Option<boo
 }
 
 fn calls_another_thread<R: Threads + Wait + Sync>(rt: &R, alloc: Global) -> Option<bool> {
-    let mut recorded = recorded(alloc, 10)?;
     let (to, requests) = bounded(alloc, 1).ok()?;
     let (replies, from) = bounded(alloc, 1).ok()?;
     let local = Local { requests, replies };
@@ -69,6 +71,12 @@ fn calls_another_thread<R: Threads + Wait + Sync>(rt: &R, alloc: Global) -> Opti
         requests: to,
         replies: from,
     };
+    let Some(recorded) = recorded(alloc, 10) else {
+        drop(local);
+        drop(remote);
+        return None;
+    };
+    let mut recorded = recorded;
     let (served, calls) = join(
         rt,
         || serve_all(rt, alloc, &mut recorded, &local),

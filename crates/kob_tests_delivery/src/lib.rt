@@ -57,3 +57,5 @@ mod sessions;
 mod spared;
 #[cfg(test)]
 mod spared_sessions;
+#[cfg(test)]
+mod turns;

@@ -11,7 +11,7 @@ use kob_rights::{Body, Event, Reply, Request};
 use kob_router::{Route, RouteFault, RouteSettings};
 use kob_script::read_script;
 use kob_shared::{Recorded, Script, SharedBroker};
-use std::alloc::Global;
+use std::alloc::{AllocError, Global};
 use uuid::Uuid;
 
 /// The topic of events about orders.
@@ -48,7 +48,10 @@ pub(crate) fn events_of(alloc: Global, lines: &str) -> Option<Vec<Event>> {
 
 /// The one event of a script's line.
 pub(crate) fn event_of(alloc: Global, line: &str) -> Option<Event> {
-    events_of(alloc, line)?.pop()
+    let mut events = events_of(alloc, line)?;
+    let event = events.pop();
+    drop(events);
+    event
 }
 
 /// The request of a script's line.
@@ -188,6 +191,22 @@ pub(crate) fn default_route(alloc: Global) -> Result<Route, RouteFault> {
     route
 }
 
+/// The change that gives the order 42 this state, and its event with this id.
+pub(crate) fn order(
+    alloc: Global,
+    id: u128,
+    state: &str,
+) -> Result<(Change, OutboxEvent), AllocError> {
+    let change = Change::of(alloc, "orders", "42", state)?;
+    match OutboxEvent::of(alloc, Uuid::from_u128(id), &change, "{}") {
+        Ok(event) => Ok((change, event)),
+        Err(refused) => {
+            drop(change);
+            Err(refused)
+        }
+    }
+}
+
 /// Records that the order 42 has this state, with an event of this id.
 pub(crate) fn record(
     alloc: Global,
@@ -195,11 +214,11 @@ pub(crate) fn record(
     id: u128,
     state: &str,
 ) -> Result<u64, RecordFault> {
-    let change = Change::of(alloc, "orders", "42", state).map_err(RecordFault::Memory)?;
-    let event = OutboxEvent::of(alloc, Uuid::from_u128(id), &change, "{}").map_err(
-        RecordFault::Memory,
-    )?;
-    outbox.record(&change, &event)
+    let (change, event) = order(alloc, id, state).map_err(RecordFault::Memory)?;
+    let recorded = outbox.record(&change, &event);
+    drop(change);
+    drop(event);
+    recorded
 }
 
 /// An outbox with this number of events about orders, whose ids are 1, 2 and so on.

@@ -1,39 +1,44 @@
 //! A service, which threads share.
 
+ghost use Rattle.std.specs.Prelude.{◌≡◌, [], IfSome};
+
 use crate::left::are_records;
-use crate::making::{CREATE_ORDERS, default_route, shared};
+use crate::making::{CREATE_ORDERS, default_route, order, shared};
 use crate::sessions::{place_of, session};
 use kob_embedding::{RunningService, ServiceEnd, SharedService, is_served};
-use kob_lines::SessionLine;
-use kob_outbox::{Change, Outbox, OutboxEvent};
-use kob_router::Tick;
-use kob_shared::SharedBroker;
+use kob_lines::{IntoCalls, SessionLine};
+use kob_outbox::Outbox;
+use kob_router::{Line, Tick};
+use kob_shared::{Session, SharedBroker};
 use std::alloc::Global;
 use std::sync::Wait;
 use std::sync::atomic::{AtomicBool, Ordering};
 use std::thread;
 use std::thread::Threads;
-use uuid::Uuid;
 
 /// The ids of the events, in the order in which they are recorded.
 const IDS: [u128; 12] = [7, 3, 12, 1, 9, 5, 11, 2, 8, 4, 10, 6];
 
-/// A service whose calls go to a session.
-type Service<'a, R> = SharedService<SessionLine<'a, R>>;
-
 /// Records the event with this id, and returns its number.
-fn record<R: Wait>(rt: &R, alloc: Global, service: &Service<'_, R>, id: u128) -> Option<u64> {
-    let change = Change::of(alloc, "orders", "42", "paid").ok()?;
-    let event = OutboxEvent::of(alloc, Uuid::from_u128(id), &change, "{}").ok()?;
-    service.record(rt, &change, &event).ok()
+fn record<R: Wait, L: Line>(
+    rt: &R,
+    alloc: Global,
+    service: &SharedService<L>,
+    id: u128,
+) -> Option<u64> {
+    let (change, event) = order(alloc, id, "paid").ok()?;
+    let recorded = service.record(rt, &change, &event);
+    drop(change);
+    drop(event);
+    recorded.ok()
 }
 
 /// Whether the events are recorded, with the numbers 1, 2 and so on. Notes at the end that no more
 /// follow.
-fn record_all<R: Wait>(
+fn record_all<R: Wait, L: Line>(
     rt: &R,
     alloc: Global,
-    service: &Service<'_, R>,
+    service: &SharedService<L>,
     is_over: &AtomicBool,
 ) -> bool {
     let mut are_numbered = true;
@@ -46,7 +51,7 @@ fn record_all<R: Wait>(
 }
 
 /// Whether a tick found no row, or none if it did not send the one that it found.
-fn is_idle<R: Wait>(rt: &R, alloc: Global, service: &Service<'_, R>) -> Option<bool> {
+fn is_idle<R: Wait, L: Line>(rt: &R, alloc: Global, service: &SharedService<L>) -> Option<bool> {
     let tick = service.tick(rt, alloc);
     let is_idle = match &tick {
         Tick::Moved(_) => Some(false),
@@ -58,10 +63,10 @@ fn is_idle<R: Wait>(rt: &R, alloc: Global, service: &Service<'_, R>) -> Option<b
 }
 
 /// Whether each tick sends a row or finds none, until one finds none after the last was recorded.
-fn send_all<R: Wait>(
+fn send_all<R: Wait, L: Line>(
     rt: &R,
     alloc: Global,
-    service: &Service<'_, R>,
+    service: &SharedService<L>,
     is_over: &AtomicBool,
 ) -> bool {
     for _ in rt.forever() {
@@ -78,10 +83,10 @@ fn send_all<R: Wait>(
 }
 
 /// Whether one thread records what another sends at the same time.
-fn record_and_send<R: Threads + Wait + Sync>(
+fn record_and_send<R: Threads + Wait + Sync, L: Line + Send>(
     rt: &R,
     alloc: Global,
-    service: &Service<'_, R>,
+    service: &SharedService<L>,
 ) -> bool {
     let is_over = AtomicBool::new(false);
     let (recorded, sent) = thread::join(
@@ -92,44 +97,96 @@ fn record_and_send<R: Threads + Wait + Sync>(
     recorded && sent
 }
 
+/// A line over a session.
+pub(crate) fn line<'a, R: Wait>(
+    rt: &'a R,
+    alloc: Global,
+    session: Option<Session<'a>>,
+) -> Option<SessionLine<'a, R>>
+    ensures { IfSome result (λ line. line.calls.made.items ≡ []) }
+{
+    match session {
+        Some(session) => Some(SessionLine::open(rt, alloc, session)),
+        None => None,
+    }
+}
+
+/// A service with an empty outbox and the default route.
+pub(crate) fn service<L: Line + Drop>(alloc: Global, line: L) -> Option<RunningService<L>>
+    requires { L.calls line ≡ [] }
+    ensures { IfSome result (λ service. service.earlier ≡ []) }
+{
+    let Ok(outbox) = Outbox::open_in_memory(alloc) else {
+        drop(line);
+        return None;
+    };
+    let Ok(route) = default_route(alloc) else {
+        drop(outbox);
+        drop(line);
+        return None;
+    };
+    Some(RunningService::new(alloc, outbox, route, 1, line))
+}
+
 /// What the service leaves after its events were sent and its line was changed.
-fn run<R: Threads + Wait + Sync>(
+fn run<R: Threads + Wait + Sync, L: IntoCalls + Send + Drop>(
+    rt: &R,
+    alloc: Global,
+    service: SharedService<L>,
+    next: Option<L>,
+) -> Option<ServiceEnd>
+    requires { IfSome next (λ line. L.calls line ≡ []) }
+{
+    let sent = record_and_send(rt, alloc, &service);
+    let swept = service.sweep(rt);
+    let is_changed = match next {
+        Some(next) => service.change_line(rt, next).is_ok(),
+        None => false,
+    };
+    let (service, earlier) = service.finish();
+    let end = service.close_after(1, earlier);
+    if sent && swept == Ok(IDS.len() as u64) && is_changed {
+        return end.ok();
+    }
+    drop(end);
+    None
+}
+
+fn run_over<R: Threads + Wait + Sync>(
     rt: &R,
     alloc: Global,
     shared: &SharedBroker,
 ) -> Option<ServiceEnd> {
-    let line = SessionLine::open(rt, alloc, session(alloc, shared, 1)?);
-    let next = SessionLine::open(rt, alloc, session(alloc, shared, 1)?);
-    let outbox = Outbox::open_in_memory(alloc).ok()?;
-    let route = default_route(alloc).ok()?;
-    let service = RunningService::new(alloc, outbox, route, 1, line);
+    let service = service(alloc, line(rt, alloc, session(alloc, shared, 1))?)?;
     let service = SharedService::open(service, Vec::new(alloc));
-    let sent = record_and_send(rt, alloc, &service);
-    let swept = service.sweep(rt);
-    let changed = service.change_line(rt, next);
-    let (service, earlier) = service.finish();
-    let end = service.close_after(1, earlier).ok()?;
-    if sent && swept == Ok(IDS.len() as u64) && changed.is_ok() {
-        return Some(end);
-    }
-    drop(end);
-    None
+    let next = line(rt, alloc, session(alloc, shared, 1));
+    run(rt, alloc, service, next)
+}
+
+/// The place of the entry of the topic's creation.
+fn create<R: Wait>(rt: &R, alloc: Global, shared: &SharedBroker) -> Option<usize> {
+    let mut admin = session(alloc, shared, 2)?;
+    let place = place_of(rt, alloc, &mut admin, CREATE_ORDERS);
+    drop(admin);
+    place
 }
 
 /// Whether the service's calls, over both lines, are its entries, and the topic has the events in
 /// the order of their numbers, each once.
 fn arrive<R: Threads + Wait + Sync>(rt: &R, alloc: Global) -> Option<bool> {
     let shared = shared(alloc, IDS.len() + 2)?;
-    let mut admin = session(alloc, &shared, 2)?;
-    let created = place_of(rt, alloc, &mut admin, CREATE_ORDERS);
-    drop(admin);
-    let end = run(rt, alloc, &shared);
+    let created = create(rt, alloc, &shared);
+    let end = run_over(rt, alloc, &shared);
     let (mut broker, journal) = shared.finish().into_parts();
     let are_sent = are_records(alloc, &mut broker, &IDS);
     drop(broker);
-    let served = end.map(|end| is_served(alloc, &journal, end.part()));
+    let served = match &end {
+        Some(end) => is_served(alloc, &journal, end.part()) == Ok(true),
+        None => false,
+    };
+    drop(end);
     drop(journal);
-    Some(created == Some(0) && are_sent && served == Some(Ok(true)))
+    Some(created == Some(0) && are_sent && served)
 }
 
 #[test]

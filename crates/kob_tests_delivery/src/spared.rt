@@ -5,7 +5,6 @@ use crate::making::{ORDERS, broker_of_orders, default_route, line_to, outbox, sp
 use crate::refused::{Came, consumer_tick, router_tick};
 use kob_broker::Broker;
 use kob_inbox::{Consumer, Inbox, Subscription};
-use kob_lines::BrokerLine;
 use kob_outbox::Outbox;
 use kob_rights::{Reply, Request};
 use kob_router::{Call, Line, Router};
@@ -26,10 +25,13 @@ fn are_first_two(calls: &[Call]) -> bool {
 }
 
 /// Whether a router that has sent one row starts again, and another is made, without a call.
-fn starts_again(alloc: Global, outbox: &mut Outbox, line: &mut BrokerLine<'_>) -> Option<bool> {
-    let other = default_route(alloc).ok()?;
+fn starts_again<L: Line>(alloc: Global, outbox: &mut Outbox, line: &mut L) -> Option<bool> {
     let route = default_route(alloc).ok()?;
     let mut router = Router::new(alloc, route, 1);
+    let Ok(other) = default_route(alloc) else {
+        drop(router);
+        return None;
+    };
     let moved = router_tick(alloc, outbox, &mut router, line);
     let idle = router_tick(alloc, outbox, &mut router, line);
     spare(alloc);
@@ -75,10 +77,13 @@ fn asked_and_fetched(calls: &[Call]) -> bool {
 }
 
 /// Whether a consumer that has asked twice starts again, and another is made, without a call.
-fn begins_again(alloc: Global, inbox: &mut Inbox, line: &mut BrokerLine<'_>) -> Option<bool> {
-    let other = Subscription::of(alloc, "g", ORDERS, 1, 10).ok()?;
+fn begins_again<L: Line>(alloc: Global, inbox: &mut Inbox, line: &mut L) -> Option<bool> {
     let one = Subscription::of(alloc, "g", ORDERS, 1, 10).ok()?;
     let mut consumer = Consumer::new(alloc, one.group, one.assignment, 10);
+    let Ok(other) = Subscription::of(alloc, "g", ORDERS, 1, 10) else {
+        drop(consumer);
+        return None;
+    };
     let placed = consumer_tick(alloc, inbox, &mut consumer, line);
     let idle = consumer_tick(alloc, inbox, &mut consumer, line);
     spare(alloc);
