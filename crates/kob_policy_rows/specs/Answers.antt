@@ -86,15 +86,19 @@ grant_row policy right answer =
     who_row policy right (party_name (codes "User:*") answer.principal)
     (party_name (codes "*") answer.host) answer.verdict
 
-abbrev pub grant_rows : Policy → Right → Answer → List (List Cell)
-grant_rows policy right answer = if is_told answer then grant_row policy right answer ∷ [] else []
+abbrev pub grant_rows : Policy → Right → List Answer → Answer → List (List Cell)
+grant_rows policy right answers answer =
+    if is_told answers answer then grant_row policy right answer ∷ [] else []
 
--- super users first, and then all principals and hosts to which the right is granted
+abbrev pub told_rows : Policy → Right → List Answer → List (List Cell)
+told_rows policy right answers = flat_map (grant_rows policy right answers) answers
+
+-- super users first, then all principals and hosts to which the right is granted, each with those
+-- from which a deny takes it away
 abbrev pub granted_rows : Policy → Right → List (List Cell)
 granted_rows policy right =
     map (super_row policy right) (each_once policy.supers)
-    ++ flat_map (grant_rows policy right)
-    (answers_on (contents_of policy) right.operation (target_at right))
+    ++ told_rows policy right (answers_on (contents_of policy) right.operation (target_at right))
 
 abbrev pub from_row : Policy → Right → List ℕ → List ℕ → List Cell
 from_row policy right host principal =

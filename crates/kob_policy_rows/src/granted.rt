@@ -1,8 +1,9 @@
-//! The rows of `who`: super users, and then each principal and host to which a right is granted.
+//! The rows of `who`: super users, and then each principal and host to which a right is granted, or
+//! from which a deny takes it away.
 
-ghost use Rattle.std.specs.Prelude.{◌≡◌, ◌++◌, ◌∷◌, [], OnOk, flat_map, map};
-ghost use Rattle.kob_policy_rows.specs.Answers.{from_row, grant_row, grant_rows, granted_rows};
-ghost use Rattle.kob_policy_rows.specs.Answers.{right_cells, super_row, who_row, who_rows};
+ghost use Rattle.std.specs.Prelude.{◌≡◌, ◌++◌, ◌∷◌, [], OnOk, map};
+ghost use Rattle.kob_policy_rows.specs.Answers.{from_row, grant_row, granted_rows};
+ghost use Rattle.kob_policy_rows.specs.Answers.{right_cells, super_row, told_rows, who_row, who_rows};
 ghost use Rattle.kob_policy_text.specs.AtHand.{principals_at_hand};
 
 use crate::cell::{Cell, push_row, push_words};
@@ -122,17 +123,18 @@ fn push_answers(
     answers: &[Answer],
 ) -> Result<(), AllocError>
     ensures { OnOk result (rows.new.items
-        ≡ rows.old.items ++ flat_map (grant_rows judge.now right.now) answers.now) }
+        ≡ rows.old.items ++ told_rows judge.now right.now answers.now) }
 {
     for answer in answers {
-        if is_told(answer) {
+        if is_told(answers, answer) {
             push_answer(alloc, rows, judge, right, answer)?;
         }
     }
     Ok(())
 }
 
-/// Super users, and then each principal and host to which the right is granted.
+/// Super users, and then each principal and host to which the right is granted, or from which a
+/// deny takes it away.
 #[tactic(auto, using(kob_words::proofs::Appending::appending))]
 pub fn push_granted(
     alloc: Global,

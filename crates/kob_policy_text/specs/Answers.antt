@@ -131,7 +131,7 @@ denial_text false = codes "\n"
 
 unfoldable pub omission_line : Omission → List ℕ
 omission_line omission =
-    codes "left out " ++ origin_text omission.origin ++ codes " " ++ left_out_word omission.what
+    codes "left out" ++ origin_behind (Some omission.origin) ++ codes " " ++ left_out_word omission.what
     ++ denial_text omission.denies
 
 -- what was left out

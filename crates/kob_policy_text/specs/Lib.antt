@@ -17,13 +17,13 @@ pub mod Objects
 pub mod Options
 pub mod Outcomes
 pub mod Parties
+pub mod Parts
 pub mod Policy
 pub mod Questions
 pub mod Quoted
 pub mod Reaches
 pub mod Releases
 pub mod Remarks
-pub mod Removable
 pub mod Review
 pub mod Rows
 pub mod Shell

@@ -6,7 +6,7 @@ use Rattle.kob_rights.specs.declared.event.Event.{Event}
 use Rattle.kob_rights.specs.declared.request.Request.TheVariants.{Produce, OffsetCommit}
 use Rattle.kob_script.specs.CommandLines.{events_of}
 use Rattle.kob_script.specs.declared.fault.FaultKind.{FaultKind}
-use Rattle.kob_script.specs.declared.fault.FaultKind.TheVariants.{BadLine, BadWord}
+use Rattle.kob_script.specs.declared.fault.FaultKind.TheVariants.{BadHost, BadLine, BadWord}
 use Rattle.kob_script.specs.declared.fault.Fault.{Fault}
 use Rattle.kob_script.specs.Words.{◌>>=◌, each, text_of, principal_of, host_of, Word, word_of, words_of}
 use Rattle.kob_script.specs.Script.{lines_in}
@@ -26,8 +26,12 @@ use Rattle.kob_policy_text.specs.Lines.{only_event}
 use Rattle.kob_policy_text.specs.Listing.{known_operation, known_resource, trimmed}
 use Rattle.kob_policy_text.specs.Shell.{shell_words}
 
+-- the host of a question is one that asks: `*` stands for every host, in bindings alone
+abbrev pub asking_host : List ℕ → Result (List ℕ) FaultKind
+asking_host text = if same_text text (codes "*") then Err BadHost else host_of text
+
 unfoldable pub host_in : Word → Result (List ℕ) FaultKind
-host_in word = text_of word >>= host_of
+host_in word = text_of word >>= asking_host
 
 unfoldable pub asker_of : Word → Word → Result Asker FaultKind
 asker_of principal host = do
@@ -100,8 +104,12 @@ abbrev pub access_of : Event → Access
 access_of event =
     by (record { principal = event.principal; host = event.host }) (act.Request event.request)
 
+-- what a request asks; none comes from `*`
+abbrev pub access_by : Event → Result Access FaultKind
+access_by event = if same_text event.host (codes "*") then Err BadHost else Ok (access_of event)
+
 abbrev pub event_or_bad_line : Option Event → Result Access FaultKind
-event_or_bad_line (Some event) = Ok (access_of event)
+event_or_bad_line (Some event) = access_by event
 event_or_bad_line None = Err BadLine
 
 -- PRINCIPAL HOST COMMAND .., as a request stands in a script; `acl` is none

@@ -11,20 +11,16 @@ use Rattle.kob_policy_text.specs.Policy.{Policy, contents_of}
 use Rattle.kob_policy_text.specs.Remarks.{or_none}
 use Rattle.kob_policy_text.specs.declared.question.Right.{Right}
 
-abbrev pub reach_who : Reach → List ℕ
-reach_who one = party_text (codes "User:* (others)") one.principal ++ codes " "
-
-abbrev pub reach_from : List ℕ → Reach → List ℕ
-reach_from on one = party_text (codes "* (others)") one.host ++ on
-
 -- PRINCIPAL HOST, and on which of the names
-abbrev pub reach_line : List ℕ → Reach → List ℕ
-reach_line on one = codes "  " ++ reach_who one ++ reach_from on one
+unfoldable pub reach_line : List ℕ → Reach → List ℕ
+reach_line on one =
+    codes "  " ++ party_text (codes "User:* (others)") one.principal ++ codes " "
+    ++ party_text (codes "* (others)") one.host ++ on ++ codes "\n"
 
 abbrev pub by_share : Share → Reach → List ℕ
 by_share Nothing one = []
-by_share Part one = reach_line (codes " some\n") one
-by_share Everything one = reach_line (codes " all\n") one
+by_share Part one = reach_line (codes " some") one
+by_share Everything one = reach_line (codes " all") one
 
 -- the words for all ask as all others do
 abbrev pub asks_as_others : Reach → Bool

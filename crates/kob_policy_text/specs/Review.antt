@@ -1,12 +1,17 @@
 -- How answers over all principals, hosts and names are printed, and all answers in their order.
 use Rattle.std.specs.Prelude.{ℕ, ◌&&◌, ◌||◌, not, Bool, true, false, List, [], ◌++◌, Option, Some, None, codes, flat_map, if◌then◌else◌}
 use Rattle.std.specs.Fmt.{decimal}
+use Rattle.std.specs.List.{list_any}
 use Rattle.kob_authorizer.specs.Decide.{is_super}
 use Rattle.kob_names.specs.Binding.{is_granted}
+use Rattle.kob_names.specs.Same.{same_text}
+use Rattle.kob_names.specs.declared.verdict.Verdict.{Verdict}
+use Rattle.kob_names.specs.declared.verdict.Verdict.TheVariants as verdict
 use Rattle.kob_policy_review.specs.Classes.{target}
 use Rattle.kob_policy_review.specs.Difference.{changes_of, names_all}
 use Rattle.kob_policy_review.specs.Granting.{answers_on}
 use Rattle.kob_policy_review.specs.Redundancy.{unused_in}
+use Rattle.kob_policy_review.specs.Removal.{removable_in}
 use Rattle.kob_policy_review.specs.Shadows.{shadowed_in}
 use Rattle.kob_policy_review.specs.declared.class.Class.{Class}
 use Rattle.kob_policy_review.specs.declared.class.Names.TheVariants.{Exactly}
@@ -29,7 +34,6 @@ use Rattle.kob_policy_text.specs.Reaches.{reaches_text}
 use Rattle.kob_policy_text.specs.Summary.{summary_text}
 use Rattle.kob_policy_text.specs.Questions.{Questions}
 use Rattle.kob_policy_text.specs.Remarks.{on_right, or_none, taking_text}
-use Rattle.kob_policy_text.specs.Removable.{removable_text}
 use Rattle.kob_policy_text.specs.declared.question.Query.{Query}
 use Rattle.kob_policy_text.specs.declared.question.Question.{Question}
 use Rattle.kob_policy_text.specs.declared.question.Question.TheVariants.{May, Expect, Who, WhoConsumes, WhoBelow, Rights, Sees, Summary, Unused, Shadowed, Removable}
@@ -57,40 +61,69 @@ abbrev pub unused_text : Policy → List ℕ
 unused_text policy =
     or_none (flat_map (unneeded_text policy) (unused_in (contents_of policy)))
 
--- an allow that a deny always beats
-unfoldable pub shadowed_line : Policy → ℕ → List ℕ
-shadowed_line policy serial = line_by policy (Some serial)
+-- nothing is printed of what a left out binding closes
+unfoldable pub listed_line : Policy → ℕ → List ℕ
+listed_line policy serial = line_by policy (Some serial)
 
+-- bindings by their serials
+abbrev pub listed_text : Policy → List ℕ → List ℕ
+listed_text policy serials = or_none (flat_map (listed_line policy) serials)
+
+-- the allows that a deny always beats
 abbrev pub shadowed_text : Policy → List ℕ
-shadowed_text policy =
-    or_none (flat_map (shadowed_line policy) (shadowed_in (contents_of policy)))
+shadowed_text policy = listed_text policy (shadowed_in (contents_of policy))
+
+-- the bindings that may go together
+abbrev pub removable_text : Policy → List ℕ
+removable_text policy = listed_text policy (removable_in (contents_of policy))
 
 -- the names of the right alone
 abbrev pub target_at : Right → Target
 target_at right = target right.resource (Exactly right.name)
 
--- the words for all ask as all others do
-abbrev pub is_told : Answer → Bool
-is_told answer =
-    is_granted answer.verdict
+-- all others, or the same one
+abbrev pub speaks_for : Option (List ℕ) → Option (List ℕ) → Bool
+speaks_for None party = true
+speaks_for (Some one) None = false
+speaks_for (Some one) (Some party) = same_text one party
+
+-- a yes that is said of a principal and a host also where a deny says no
+abbrev pub is_yes_for : Answer → Answer → Bool
+is_yes_for answer other =
+    is_granted other.verdict
+    && (speaks_for other.principal answer.principal && speaks_for other.host answer.host)
+
+-- a deny takes away what another answer grants
+abbrev pub is_taken_away : Verdict → List Answer → Answer → Bool
+is_taken_away (verdict.DeniedBy serial) answers answer = list_any (is_yes_for answer) answers
+is_taken_away _ answers answer = false
+
+-- a yes, or a no that is an exception to one; the words for all ask as all others do
+abbrev pub is_told : List Answer → Answer → Bool
+is_told answers answer =
+    (is_granted answer.verdict || is_taken_away answer.verdict answers answer)
     && not (names_all (codes "User:*") answer.principal || names_all (codes "*") answer.host)
 
--- what is granted to a principal at a host, and by which binding
+-- what is decided for a principal at a host, and by which binding
 unfoldable pub grant_line : Policy → Answer → List ℕ
 grant_line policy answer =
     codes "  " ++ party_text (codes "User:* (others)") answer.principal ++ codes " "
     ++ party_text (codes "* (others)") answer.host ++ codes " "
     ++ reason_text policy answer.verdict ++ codes "\n"
 
-abbrev pub grant_if_told : Policy → Answer → List ℕ
-grant_if_told policy answer = if is_told answer then grant_line policy answer else []
+abbrev pub grant_if_told : Policy → List Answer → Answer → List ℕ
+grant_if_told policy answers answer =
+    if is_told answers answer then grant_line policy answer else []
 
--- super users first, and then all principals and hosts to which the right is granted
+abbrev pub told_text : Policy → List Answer → List ℕ
+told_text policy answers = flat_map (grant_if_told policy answers) answers
+
+-- super users first, then all principals and hosts to which the right is granted, each with those
+-- from which a deny takes it away
 abbrev pub granted_text : Policy → Right → List ℕ
 granted_text policy right =
     flat_map super_grant (each_once policy.supers)
-    ++ flat_map (grant_if_told policy)
-    (answers_on (contents_of policy) right.operation (target_at right))
+    ++ told_text policy (answers_on (contents_of policy) right.operation (target_at right))
 
 abbrev pub who_list : Policy → Right → List ℕ
 who_list policy right = on_right policy right (granted_text policy right)

@@ -24,7 +24,12 @@ fn push_right_answer(out: &mut Vec<u8>, judge: &Judge, asked: &Asked<'_>) -> Res
     push_untaken(out, judge, verdict, asked)
 }
 
-fn push_act(out: &mut Vec<u8>, judge: &Judge, asker: &Asker, act: &Act) -> Result<(), AllocError>
+fn push_act<'a>(
+    out: &mut Vec<u8>,
+    judge: &'a Judge,
+    asker: &'a Asker,
+    act: &'a Act,
+) -> Result<(), AllocError>
     ensures { OnOk result (out.new.items ≡ out.old.items ++ act_text judge.now asker.now act.now) }
 {
     match act {
@@ -42,7 +47,11 @@ fn push_act(out: &mut Vec<u8>, judge: &Judge, asker: &Asker, act: &Act) -> Resul
 
 /// The answer, and the bindings that decide.
 #[tactic(auto, using(kob_words::proofs::Appending::appending))]
-pub fn push_access(out: &mut Vec<u8>, judge: &Judge, access: &Access) -> Result<(), AllocError>
+pub fn push_access<'a>(
+    out: &mut Vec<u8>,
+    judge: &'a Judge,
+    access: &'a Access,
+) -> Result<(), AllocError>
     ensures { OnOk result (out.new.items ≡ out.old.items ++ access_text judge.now access.now) }
 {
     push_act(out, judge, &access.asker, &access.act)?;
@@ -77,11 +86,11 @@ fn outcome_of_expected(other: bool) -> &'static str
 
 /// The answer, and whether it is as expected.
 #[tactic(auto, using(kob_words::proofs::Appending::appending))]
-pub fn push_expected(
+pub fn push_expected<'a>(
     out: &mut Vec<u8>,
-    judge: &Judge,
+    judge: &'a Judge,
     expected: bool,
-    access: &Access,
+    access: &'a Access,
 ) -> Result<(), AllocError>
     ensures { OnOk result
         (out.new.items ≡ out.old.items ++ expect_text judge.now expected access.now) }

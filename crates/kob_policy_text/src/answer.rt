@@ -8,13 +8,12 @@ ghost use Rattle.kob_policy_text.specs.Review.{review_text};
 use crate::access::{push_access, push_expected};
 use crate::changes::print_changes;
 use crate::holdings::push_holdings;
+use crate::idle::{push_removable, push_shadowed};
 use crate::judge::Judge;
 use crate::policy::Policy;
 use crate::printed::push_omission;
 use crate::question::{Query, Question, Questions};
 use crate::reaches::push_reaches;
-use crate::removable::push_removable;
-use crate::shadowed::push_shadowed;
 use crate::summary::push_summary;
 use crate::unused::push_unused;
 use crate::who::{push_consumers, push_sees, push_who};
@@ -22,12 +21,12 @@ use kob_names::Text;
 use kob_words::push_number;
 use std::alloc::{AllocError, Global};
 
-fn push_question(
+fn push_question<'a>(
     alloc: Global,
     out: &mut Vec<u8>,
-    judge: &Judge,
+    judge: &'a Judge,
     topics: &[Text],
-    question: &Question,
+    question: &'a Question,
 ) -> Result<(), AllocError>
     ensures { OnOk result (out.new.items ≡ out.old.items
         ++ question_text judge.now topics.now question.now) }
@@ -48,13 +47,13 @@ fn push_question(
 }
 
 #[tactic(auto, using(kob_words::proofs::Appending::appending))]
-fn push_answer_line(
+fn push_answer_line<'a>(
     alloc: Global,
     out: &mut Vec<u8>,
-    judge: &Judge,
+    judge: &'a Judge,
     topics: &[Text],
     number: u64,
-    query: &Query,
+    query: &'a Query,
 ) -> Result<(), AllocError>
     ensures { OnOk result (out.new.items ≡ out.old.items
         ++ answer_line judge.now topics.now number query.now) }

@@ -1,49 +1,23 @@
 //! What changes from one policy to another, over all principals, hosts, operations and names.
 
 ghost use Rattle.std.specs.Prelude.{◌≡◌, ◌++◌, OnOk, flat_map};
-ghost use Rattle.kob_policy_text.specs.Review.{asker_text, change_line, changes_text};
-ghost use Rattle.kob_policy_text.specs.Parties.{names_text, party_text};
-ghost use Rattle.kob_policy_text.specs.Review.{everyone_text, outcome_text};
-ghost use Rattle.kob_policy_text.specs.Review.{super_line, supers_text, target_text};
+ghost use Rattle.kob_policy_text.specs.Review.{asker_text, change_line, changes_text, everyone_text};
+ghost use Rattle.kob_policy_text.specs.Review.{outcome_text, super_line, supers_text, target_text};
 
 use crate::judge::Judge;
-use crate::quoted::push_name;
-use kob_names::{Principal, Text};
-use kob_policy_review::{Change, Class, Names, Outcome, changes, is_super};
+use crate::parts::{Part, push_parts, push_party};
+use kob_names::Principal;
+use kob_policy_review::{Change, Class, Outcome, changes, is_super};
 use kob_words::{operation_name, resource_name};
 use std::alloc::{AllocError, Global};
-
-/// A principal or a host, or the word for all others.
-pub fn push_party(out: &mut Vec<u8>, all: &[u8], party: &Option<Text>) -> Result<(), AllocError>
-    ensures { OnOk result (out.new.items ≡ out.old.items ++ party_text all.now party.now) }
-{
-    match party {
-        None => out.extend_from_slice(all),
-        Some(party) => push_name(out, party.as_str()),
-    }
-}
-
-/// A name, or those that begin so and that no longer pattern takes.
-#[tactic(auto, using(kob_words::proofs::Appending::appending))]
-pub fn push_names(out: &mut Vec<u8>, names: &Names) -> Result<(), AllocError>
-    ensures { OnOk result (out.new.items ≡ out.old.items ++ names_text names.now) }
-{
-    match names {
-        Names::Exactly(name) => push_name(out, name.as_str()),
-        Names::Below(start) => {
-            push_name(out, start.as_str())?;
-            out.extend_from_slice(b"* (others)")
-        }
-    }
-}
 
 #[tactic(auto, using(kob_words::proofs::Appending::appending), unfolding(crate::specs::Review::asker_text))]
 fn push_asker(out: &mut Vec<u8>, class: &Class) -> Result<(), AllocError>
     ensures { OnOk result (out.new.items ≡ out.old.items ++ asker_text class.now) }
 {
-    push_party(out, b"User:* (others)", &class.principal)?;
+    push_party(out, "User:* (others)", &class.principal)?;
     out.extend_from_slice(b" ")?;
-    push_party(out, b"* (others)", &class.host)?;
+    push_party(out, "* (others)", &class.host)?;
     out.extend_from_slice(b" ")
 }
 
@@ -51,11 +25,16 @@ fn push_asker(out: &mut Vec<u8>, class: &Class) -> Result<(), AllocError>
 fn push_target(out: &mut Vec<u8>, class: &Class) -> Result<(), AllocError>
     ensures { OnOk result (out.new.items ≡ out.old.items ++ target_text class.now) }
 {
-    out.extend_from_slice(operation_name(class.operation).as_bytes())?;
-    out.extend_from_slice(b" ")?;
-    out.extend_from_slice(resource_name(class.target.resource).as_bytes())?;
-    out.extend_from_slice(b" ")?;
-    push_names(out, &class.target.names)
+    push_parts(
+        out,
+        &[
+            Part::Words(operation_name(class.operation)),
+            Part::Words(" "),
+            Part::Words(resource_name(class.target.resource)),
+            Part::Words(" "),
+            Part::Names(&class.target.names),
+        ],
+    )
 }
 
 fn outcome_text(outcome: Outcome) -> &'static str
@@ -88,11 +67,11 @@ fn push_each(out: &mut Vec<u8>, found: &[Change]) -> Result<(), AllocError>
 }
 
 #[tactic(auto, using(kob_words::proofs::Appending::appending), unfolding(crate::specs::Review::super_line))]
-fn push_super(
+fn push_super<'a>(
     out: &mut Vec<u8>,
-    what: &[u8],
+    what: &'a str,
     others: &[Principal],
-    user: &Principal,
+    user: &'a Principal,
 ) -> Result<(), AllocError>
     ensures { OnOk result (out.new.items
         ≡ out.old.items ++ super_line what.now others.now user.now) }
@@ -100,18 +79,23 @@ fn push_super(
     if is_super(others, user.as_str()) {
         return Ok(());
     }
-    out.extend_from_slice(b"super ")?;
-    push_name(out, user.as_str())?;
-    out.extend_from_slice(what)
+    push_parts(
+        out,
+        &[
+            Part::Words("super "),
+            Part::Name(user.as_str()),
+            Part::Words(what),
+        ],
+    )
 }
 
 /// The super users that are not among the others.
 #[tactic(auto, using(kob_words::proofs::Appending::appending))]
-fn push_supers(
+fn push_supers<'a>(
     out: &mut Vec<u8>,
-    what: &[u8],
+    what: &'a str,
     others: &[Principal],
-    supers: &[Principal],
+    supers: &'a [Principal],
 ) -> Result<(), AllocError>
     ensures { OnOk result (out.new.items
         ≡ out.old.items ++ flat_map (super_line what.now others.now) supers.now) }
@@ -146,8 +130,8 @@ pub fn print_changes(
 {
     let found = changes(alloc, before.authorizer(), after.authorizer())?;
     let (old, new) = (before.policy(), after.policy());
-    push_supers(out, b" removed\n", new.supers(), old.supers())?;
-    push_supers(out, b" added\n", old.supers(), new.supers())?;
+    push_supers(out, " removed\n", new.supers(), old.supers())?;
+    push_supers(out, " added\n", old.supers(), new.supers())?;
     out.extend_from_slice(everyone_text(old.everyone(), new.everyone()).as_bytes())?;
     push_each(out, &found)
 }

@@ -5,18 +5,19 @@ ghost use Rattle.kob_policy_text.specs.Hints.{told_text, unnamed_text, untaken_t
 
 use crate::asked::Asked;
 use crate::judge::Judge;
-use crate::quoted::push_name;
+use crate::parts::{Part, push_parts};
 use kob_names::{Principal, Verdict};
 use std::alloc::AllocError;
 
 #[tactic(auto, using(kob_words::proofs::Appending::appending), unfolding(crate::specs::Hints::told_text))]
 /// What is said of a name.
-pub fn push_told(out: &mut Vec<u8>, what: &[u8], name: &str) -> Result<(), AllocError>
+pub fn push_told<'a>(out: &mut Vec<u8>, what: &'a str, name: &'a str) -> Result<(), AllocError>
     ensures { OnOk result (out.new.items ≡ out.old.items ++ told_text what.now name.now) }
 {
-    out.extend_from_slice(what)?;
-    push_name(out, name)?;
-    out.extend_from_slice(b"\n")
+    push_parts(
+        out,
+        &[Part::Words(what), Part::Name(name), Part::Words("\n")],
+    )
 }
 
 /// That no pattern takes the name, if no allow matches.
@@ -31,7 +32,7 @@ pub fn push_untaken(
 {
     match verdict {
         Verdict::NoAllow if !judge.is_taken(asked) => {
-            push_told(out, b"    no pattern takes ", asked.name)
+            push_told(out, "    no pattern takes ", asked.name)
         }
         _ => Ok(()),
     }
@@ -50,5 +51,5 @@ pub fn push_unnamed(
     if allowed || judge.is_named(principal) {
         return Ok(());
     }
-    push_told(out, b"    no binding names ", principal.as_str())
+    push_told(out, "    no binding names ", principal.as_str())
 }

@@ -6,8 +6,8 @@ ghost use Rattle.kob_policy_text.specs.Holdings.{holding_text, holdings_text, is
 ghost use Rattle.kob_policy_text.specs.Holdings.{joined, open_text, operations_text};
 ghost use Rattle.kob_policy_text.specs.Remarks.{of_principal};
 
-use crate::changes::{push_names, push_party};
 use crate::judge::Judge;
+use crate::parts::{Part, push_parts};
 use crate::remarks::{push_no_binding, push_none};
 use kob_names::{Host, Operation, Principal};
 use kob_policy_review::{Holding, is_super, names_all, rights};
@@ -18,8 +18,10 @@ use std::alloc::{AllocError, Global};
 fn push_behind_comma(out: &mut Vec<u8>, operation: Operation) -> Result<(), AllocError>
     ensures { OnOk result (out.new.items ≡ out.old.items ++ behind_comma operation) }
 {
-    out.extend_from_slice(b",")?;
-    out.extend_from_slice(operation_name(operation).as_bytes())
+    push_parts(
+        out,
+        &[Part::Words(","), Part::Words(operation_name(operation))],
+    )
 }
 
 fn push_others(out: &mut Vec<u8>, operations: &[Operation]) -> Result<(), AllocError>
@@ -62,8 +64,10 @@ fn push_from(out: &mut Vec<u8>, host: &Option<Host>, one: &Holding) -> Result<()
     match host {
         Some(_) => Ok(()),
         None => {
-            push_party(out, b"* (others)", &one.host)?;
-            out.extend_from_slice(b" ")
+            push_parts(
+                out,
+                &[Part::Party("* (others)", &one.host), Part::Words(" ")],
+            )
         }
     }
 }
@@ -75,11 +79,16 @@ fn push_line(out: &mut Vec<u8>, host: &Option<Host>, one: &Holding) -> Result<()
     out.extend_from_slice(b"  ")?;
     push_from(out, host, one)?;
     push_operations(out, one.operations.as_slice())?;
-    out.extend_from_slice(b" ")?;
-    out.extend_from_slice(resource_name(one.target.resource).as_bytes())?;
-    out.extend_from_slice(b" ")?;
-    push_names(out, &one.target.names)?;
-    out.extend_from_slice(b"\n")
+    push_parts(
+        out,
+        &[
+            Part::Words(" "),
+            Part::Words(resource_name(one.target.resource)),
+            Part::Words(" "),
+            Part::Names(&one.target.names),
+            Part::Words("\n"),
+        ],
+    )
 }
 
 /// Whether a holding is at the word for all hosts, which asks as all others do, where each host is

@@ -7,8 +7,7 @@ ghost use Rattle.kob_policy_text.specs.Lines.{is_for_other_kind, is_foreign, is_
 ghost use Rattle.kob_policy_text.specs.Lines.{is_heading_line, is_listed, is_release, is_skipped};
 ghost use Rattle.kob_policy_text.specs.Lines.{listed_items, names_other_kind, only_event};
 ghost use Rattle.kob_policy_text.specs.Lines.{release_line, rules_in, rules_of, setting_items};
-ghost use Rattle.kob_policy_text.specs.Lines.{said_if, super_line, texts_behind, words_items};
-ghost use Rattle.kob_policy_text.specs.Rows.{tabular_item};
+ghost use Rattle.kob_policy_text.specs.Lines.{texts_behind, words_items};
 ghost use Rattle.kob_policy_text.specs.Outcomes.{MayGive};
 ghost use Rattle.kob_script.specs.Words.{Gives, GivesSeen, each, text_of, words_of};
 ghost use Rattle.kob_script.specs.Script.{asks_clap};
@@ -60,15 +59,6 @@ fn is_listed(line: &[u8]) -> bool
         || holds_mark(line, b" permission for operations: ")
 }
 
-fn tabular_items(alloc: Global, line: &[u8]) -> Result<Vec<Item>, LineError>
-    ensures { GivesSeen (λ items. items.items) result (said_if (tabular_item line.now)) }
-{
-    match tabular_item(alloc, line)? {
-        Some(item) => one(alloc, item),
-        None => Ok(Vec::new(alloc)),
-    }
-}
-
 /// What a line that is read as a whole says.
 #[tactic(auto, unfolding(crate::specs::Lines::listed_items))]
 fn listed_items(alloc: Global, line: &[u8]) -> Result<Vec<Item>, LineError>
@@ -83,19 +73,12 @@ fn listed_items(alloc: Global, line: &[u8]) -> Result<Vec<Item>, LineError>
     } else if is_property(line) {
         property_items(alloc, line)
     } else if is_tabular(line) {
-        tabular_items(alloc, line)
+        match tabular_item(alloc, line)? {
+            Some(item) => one(alloc, item),
+            None => Ok(Vec::new(alloc)),
+        }
     } else {
         one(alloc, older_grant(alloc, line)?)
-    }
-}
-
-/// `super PRINCIPAL`
-fn super_line(alloc: Global, arguments: &[Word<'_>]) -> Result<Vec<Item>, LineError>
-    ensures { GivesSeen (λ items. items.items) result (super_line arguments.now) }
-{
-    match arguments {
-        [name] => one(alloc, super_item(alloc, name.decoded())?),
-        _ => Err(LineError::Fault(FaultKind::BadLine)),
     }
 }
 
@@ -118,6 +101,7 @@ fn release_line(alloc: Global, arguments: &[Word<'_>]) -> Result<Vec<Item>, Line
     }
 }
 
+/// `super PRINCIPAL`, `everyone on` or `everyone off`
 #[tactic(auto, unfolding(crate::specs::Lines::setting_items))]
 fn setting_items(
     alloc: Global,
@@ -126,10 +110,12 @@ fn setting_items(
 ) -> Result<Vec<Item>, LineError>
     ensures { GivesSeen (λ items. items.items) result (setting_items first.now arguments.now) }
 {
-    if is_super(first) {
-        super_line(alloc, arguments)
-    } else {
-        one(alloc, Item::Everyone(everyone_of(arguments)?))
+    if !is_super(first) {
+        return one(alloc, Item::Everyone(everyone_of(arguments)?));
+    }
+    match arguments {
+        [name] => one(alloc, super_item(alloc, name.decoded())?),
+        _ => Err(LineError::Fault(FaultKind::BadLine)),
     }
 }
 

@@ -6,9 +6,9 @@ ghost use Rattle.kob_policy_text.specs.Listing.{is_other_operation, is_other_res
 ghost use Rattle.kob_policy_text.specs.Listing.{known_resource};
 ghost use Rattle.kob_policy_text.specs.Listing.{listed_operation, listed_resource, one_principal};
 ghost use Rattle.kob_policy_text.specs.Listing.{unclosed};
-ghost use Rattle.kob_policy_text.specs.Listing.{is_pattern_word, newer_grant, newer_resource};
+ghost use Rattle.kob_policy_text.specs.Listing.{newer_grant, newer_resource};
 ghost use Rattle.kob_policy_text.specs.Listing.{older_grant, older_resource, older_target};
-ghost use Rattle.kob_policy_text.specs.Listing.{resource_item, target_item, target_of, first_parts};
+ghost use Rattle.kob_policy_text.specs.Listing.{target_item, target_of, first_parts};
 ghost use Rattle.kob_script.specs.Words.{Gives, GivesSeen};
 ghost use Rattle.kob_script.specs.declared.fault.FaultKind.TheVariants.{BadWord};
 
@@ -288,22 +288,19 @@ fn newer_resource(alloc: Global, text: &[u8]) -> Result<Item, LineError>
     target_item(alloc, &words)
 }
 
-fn is_pattern_word(word: &[u8]) -> bool
-    ensures { result ≡ is_pattern_word word.now }
-{
-    word == b"LITERAL".as_slice() || word == b"PREFIXED".as_slice()
-}
-
 fn older_target<'a>(resource: &'a [u8], rest: &'a [u8]) -> TargetWords<'a>
     ensures { result ≡ older_target resource.entry.now rest.entry.now
         (first_parts rest.entry.now (codes ":")) }
 {
     match first_parts(rest, b":") {
-        Some((pattern, name)) if is_pattern_word(pattern) => TargetWords {
-            resource,
-            pattern,
-            name,
-        },
+        Some((pattern, name))
+            if pattern == b"LITERAL".as_slice() || pattern == b"PREFIXED".as_slice() => {
+            TargetWords {
+                resource,
+                pattern,
+                name,
+            }
+        }
         _ => TargetWords {
             resource,
             pattern: b"LITERAL".as_slice(),
@@ -320,16 +317,6 @@ fn older_resource(alloc: Global, text: &[u8]) -> Result<Item, LineError>
     target_item(alloc, &older_target(kind, rest))
 }
 
-fn resource_item(alloc: Global, text: &[u8]) -> Result<Item, LineError>
-    ensures { Gives result (resource_item text.now) }
-{
-    if text.starts_with(b"ResourcePattern(") {
-        newer_resource(alloc, text)
-    } else {
-        older_resource(alloc, text)
-    }
-}
-
 /// ``Current ACLs for resource `RESOURCE`:``
 #[tactic(auto, unfolding(crate::specs::Listing::heading_item))]
 pub fn heading_item(alloc: Global, line: &[u8]) -> Result<Item, LineError>
@@ -337,9 +324,11 @@ pub fn heading_item(alloc: Global, line: &[u8]) -> Result<Item, LineError>
 {
     let (_, quoted) = around_first(line, b"`")?;
     let (text, end) = around_last(quoted, b"`")?;
-    if end == b":".as_slice() {
-        resource_item(alloc, text)
-    } else {
+    if end != b":".as_slice() {
         Err(LineError::Fault(FaultKind::BadLine))
+    } else if text.starts_with(b"ResourcePattern(") {
+        newer_resource(alloc, text)
+    } else {
+        older_resource(alloc, text)
     }
 }

@@ -6,9 +6,8 @@ ghost use Rattle.std.specs.List.{list_any};
 ghost use Rattle.kob_authorizer.specs.Decide as authorizer;
 ghost use Rattle.kob_policy_text.specs.LogAnswers.{accesses_text, asked_in, decides, differs};
 ghost use Rattle.kob_policy_text.specs.LogAnswers.{idle_in, idle_line, is_decider};
-ghost use Rattle.kob_policy_text.specs.LogAnswers.{is_otherwise, judged_text, log_text};
-ghost use Rattle.kob_policy_text.specs.LogAnswers.{otherwise_line, otherwise_text, place_text};
-ghost use Rattle.kob_policy_text.specs.LogAnswers.{skipped_lines, unjudged_text, verdict_on, was_text};
+ghost use Rattle.kob_policy_text.specs.LogAnswers.{is_otherwise, judged_text, log_text, otherwise_line};
+ghost use Rattle.kob_policy_text.specs.LogAnswers.{otherwise_text, place_text, skipped_lines, unjudged_text, verdict_on, was_text};
 ghost use Rattle.kob_policy_text.specs.LogLines.{log_of};
 ghost use Rattle.kob_policy_text.specs.Numbered.{numbered};
 ghost use Rattle.kob_policy_text.specs.Policy.{serials_of};
@@ -18,12 +17,11 @@ use crate::asked::Asked;
 use crate::judge::{Judge, deciding};
 use crate::log_line::Recorded;
 use crate::log_reading::{Entry, Log, read_log};
-use crate::printed::{push_answer, push_line_at, push_right};
-use crate::quoted::push_name;
+use crate::parts::{Part, push_parts};
+use crate::printed::{push_line_at, push_right};
 use crate::rights::{check_of, on};
 use crate::summary::push_count;
 use kob_names::Verdict;
-use kob_words::push_number;
 use std::alloc::{AllocError, Global};
 use std::collections::HashSet;
 
@@ -64,13 +62,18 @@ fn was_text(allowed: bool) -> &'static str
 fn push_place(out: &mut Vec<u8>, entry: &Entry) -> Result<(), AllocError>
     ensures { OnOk result (out.new.items ≡ out.old.items ++ place_text entry.now) }
 {
-    out.extend_from_slice(b"  line ")?;
-    push_number(out, entry.line)?;
-    out.extend_from_slice(b" ")?;
-    push_name(out, entry.recorded.asker.principal.as_str())?;
-    out.extend_from_slice(b" ")?;
-    push_name(out, entry.recorded.asker.host.as_str())?;
-    out.extend_from_slice(b" ")
+    push_parts(
+        out,
+        &[
+            Part::Words("  line "),
+            Part::Number(entry.line),
+            Part::Words(" "),
+            Part::Name(entry.recorded.asker.principal.as_str()),
+            Part::Words(" "),
+            Part::Name(entry.recorded.asker.host.as_str()),
+            Part::Words(" "),
+        ],
+    )
 }
 
 #[tactic(auto, using(kob_words::proofs::Appending::appending), unfolding(crate::specs::LogAnswers::otherwise_line))]
@@ -79,9 +82,14 @@ fn push_line(out: &mut Vec<u8>, judge: &Judge, entry: &Entry) -> Result<(), Allo
 {
     push_place(out, entry)?;
     push_right(out, &asked_in(&entry.recorded))?;
-    out.extend_from_slice(was_text(entry.recorded.allowed).as_bytes())?;
-    push_answer(out, verdict_on(judge, entry))?;
-    out.extend_from_slice(b"\n")
+    push_parts(
+        out,
+        &[
+            Part::Words(was_text(entry.recorded.allowed)),
+            Part::Answer(verdict_on(judge, entry)),
+            Part::Words("\n"),
+        ],
+    )
 }
 
 fn push_otherwise(out: &mut Vec<u8>, judge: &Judge, accesses: &[Entry]) -> Result<(), AllocError>

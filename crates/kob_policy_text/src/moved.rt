@@ -57,14 +57,10 @@ fn found_at(
     ensures { IfOk result (λ at. is_some at ≡ is_among others.now.contents.entries binding.now) }
 {
     let found = equals_of(alloc, others, binding)?;
-    let place = place_of(others.entries(), found.as_slice());
-    Ok(place_if(!found.is_empty(), place))
-}
-
-fn place_if(is_there: bool, place: usize) -> Option<usize>
-    ensures { is_some result ≡ is_there }
-{
-    if is_there { Some(place) } else { None }
+    if found.is_empty() {
+        return Ok(None);
+    }
+    Ok(Some(place_of(others.entries(), found.as_slice())))
 }
 
 /// Where an equal binding is among the others. It is looked for first at a place: lists that are

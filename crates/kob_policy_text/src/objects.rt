@@ -3,7 +3,7 @@
 ghost use Rattle.std.specs.Prelude.{◌≡◌, IfErr, IfOk, OnOk};
 ghost use Rattle.kob_policy_text.specs.Objects as seen;
 ghost use Rattle.kob_policy_text.specs.Objects.{at_stage, before_array, before_object};
-ghost use Rattle.kob_policy_text.specs.Objects.{begins_array, begins_objects, behind_object};
+ghost use Rattle.kob_policy_text.specs.Objects.{behind_object};
 ghost use Rattle.kob_policy_text.specs.Objects.{begun_on, closed_byte, inside_byte, is_array};
 ghost use Rattle.kob_policy_text.specs.Objects.{is_blank, no_objects, objects_by, objects_in};
 ghost use Rattle.kob_policy_text.specs.Objects.{quoted_byte};
@@ -279,25 +279,16 @@ pub fn objects_in(alloc: Global, text: &[u8]) -> Result<Vec<Numbered>, ScriptErr
     objects.finish()
 }
 
-fn begins_objects(text: &[u8]) -> bool
-    ensures { result ≡ begins_objects text.now }
-{
-    text.starts_with(b"{") || text.starts_with(b"]")
-}
-
-fn begins_array(text: &[u8]) -> bool
-    ensures { result ≡ begins_array text.now }
-{
-    match text {
-        [first, rest @ ..] => *first == b'[' && begins_objects(rest.trim_start()),
-        [] => false,
-    }
-}
-
 /// Whether the text is an array of objects.
 #[tactic(auto, unfolding(crate::specs::Objects::is_array))]
 pub fn is_array(text: &[u8]) -> bool
     ensures { result ≡ is_array text.now }
 {
-    begins_array(text.trim_start())
+    match text.trim_start() {
+        [b'[', rest @ ..] => {
+            let inside = rest.trim_start();
+            inside.starts_with(b"{") || inside.starts_with(b"]")
+        }
+        _ => false,
+    }
 }

@@ -9,7 +9,7 @@ ghost use Rattle.kob_policy_text.specs.Options.{is_ignored_whole, is_other, is_o
 ghost use Rattle.kob_policy_text.specs.Options.{added_in_parts, has_producer_ids, ids_alone};
 ghost use Rattle.kob_policy_text.specs.Options.{next_place, only_command, rule_items, then_added};
 ghost use Rattle.kob_policy_text.specs.Options.{without_ids, drafts_from, with_other_operations};
-ghost use Rattle.kob_policy_text.specs.Options.{added_by_operations, added_on_both, added_with_others};
+ghost use Rattle.kob_policy_text.specs.Options.{added_on_both};
 ghost use Rattle.kob_policy_text.specs.Options.{left_out_from};
 ghost use Rattle.kob_policy_text.specs.Listing.{held_name};
 ghost use Rattle.kob_policy_text.specs.Outcomes.{MayGive};
@@ -260,27 +260,6 @@ fn added_on_both(alloc: Global, args: &mut CliArgs) -> Result<Vec<Item>, LineErr
     Ok(items)
 }
 
-fn added_with_others(alloc: Global, args: &mut CliArgs) -> Result<Vec<Item>, LineError>
-    ensures { GivesSeen (λ items. items.items) result (added_with_others args.old) }
-{
-    if has_others_alone(args) {
-        left_out_from(alloc, args)
-    } else {
-        added_on_both(alloc, args)
-    }
-}
-
-/// What options add, with single bindings left out for operations that are.
-fn added_by_operations(alloc: Global, args: &mut CliArgs) -> Result<Vec<Item>, LineError>
-    ensures { GivesSeen (λ items. items.items) result (added_by_operations args.old) }
-{
-    if has_other_operation(args) {
-        added_with_others(alloc, args)
-    } else {
-        added_from(alloc, args)
-    }
-}
-
 fn has_producer_ids(args: &CliArgs) -> bool
     ensures { result ≡ has_producer_ids args.now }
 {
@@ -324,14 +303,19 @@ fn added_for_ids(alloc: Global, args: &mut CliArgs) -> Result<Vec<Item>, LineErr
     Ok(items)
 }
 
-/// What options add, for a producer with transactional ids as by two lines.
+/// What options add, for a producer with transactional ids as by two lines, and with single bindings
+/// left out for operations that are.
 fn added_in_parts(alloc: Global, args: &mut CliArgs) -> Result<Vec<Item>, LineError>
     ensures { GivesSeen (λ items. items.items) result (added_in_parts args.old) }
 {
     if has_producer_ids(args) {
         added_for_ids(alloc, args)
+    } else if !has_other_operation(args) {
+        added_from(alloc, args)
+    } else if has_others_alone(args) {
+        left_out_from(alloc, args)
     } else {
-        added_by_operations(alloc, args)
+        added_on_both(alloc, args)
     }
 }
 

@@ -4,7 +4,7 @@ ghost use Rattle.std.specs.Prelude.{◌≡◌, IfOk, OnOk, is_none};
 ghost use Rattle.kob_policy_text.specs.Lines.{has_heading};
 ghost use Rattle.kob_policy_text.specs.Policy.{at_file, empty_policy, with_binding, with_closing};
 ghost use Rattle.kob_policy_text.specs.Policy.{with_draft, with_draft_left_out, with_grant};
-ghost use Rattle.kob_policy_text.specs.Policy.{with_heading, with_item, with_omission, with_row, with_skipped};
+ghost use Rattle.kob_policy_text.specs.Policy.{with_heading, with_item, with_omission, with_row};
 ghost use Rattle.kob_script.specs.Words.{GivesSeen};
 
 use crate::drafts::{binding_of, closing_binding, draft_under, has_bad_heading};
@@ -155,14 +155,6 @@ impl Policy {
         ensures { result ≡ self.now.has_list }
     {
         self.has_list
-    }
-
-    fn add_skipped(&mut self, alloc: Global, origin: &Origin) -> Result<(), AllocError>
-        ensures { OnOk result (self.new ≡ with_skipped self.old origin.now) }
-    {
-        let origin = origin.copy(alloc)?;
-        self.skipped.push(origin)?;
-        Ok(())
     }
 
     fn add_omission(
@@ -329,7 +321,10 @@ impl Policy {
             Item::Resource(target) => self.add_heading(target),
             Item::Grant(grant) => self.add_grant(alloc, origin, grant),
             Item::Row(target, grant) => self.add_row(alloc, origin, &target, grant),
-            Item::Skipped => Ok(self.add_skipped(alloc, origin)?),
+            Item::Skipped => {
+                self.skipped.push(origin.copy(alloc)?)?;
+                Ok(())
+            }
             Item::LeftOut(what) => Ok(self.add_omission(alloc, origin, what, false)?),
         }
     }

@@ -1,18 +1,17 @@
 //! How answers are printed: origins, verdicts, bindings and rights.
 
 ghost use Rattle.std.specs.Prelude.{◌≡◌, ◌++◌, OnOk, Some};
-ghost use Rattle.kob_policy_text.specs.Answers.{denial_text, answer_text, binding_line};
-ghost use Rattle.kob_policy_text.specs.Answers.{left_out_word, line_at, line_by, line_of, may_text};
-ghost use Rattle.kob_policy_text.specs.Answers.{omission_line, origin_behind, origin_by};
-ghost use Rattle.kob_policy_text.specs.Answers.{origin_text, reason_text, right_text, yes_or_no};
+ghost use Rattle.kob_policy_text.specs.Answers.{answer_text, binding_line, denial_text, left_out_word};
+ghost use Rattle.kob_policy_text.specs.Answers.{line_at, line_by, line_of, may_text, omission_line};
+ghost use Rattle.kob_policy_text.specs.Answers.{origin_behind, origin_by, origin_text, right_text, yes_or_no};
 ghost use Rattle.std.specs.Option.{option_copied};
-ghost use Rattle.kob_script.specs.Printed.{verdict_text};
 
 use crate::asked::Asked;
 use crate::item::LeftOut;
 use crate::judge::{Judge, deciding};
 use crate::origin::{Omission, Origin};
-use crate::quoted::{push_binding, push_name};
+use crate::parts::{Part, push_parts};
+use crate::quoted::push_binding;
 use kob_names::{Binding, Verdict};
 use kob_words::{operation_name, push_bytes, push_number, resource_name};
 use std::alloc::AllocError;
@@ -27,33 +26,10 @@ fn push_origin(out: &mut Vec<u8>, origin: &Origin) -> Result<(), AllocError>
 }
 
 /// `yes` or `no`.
-pub fn push_yes_or_no(out: &mut Vec<u8>, yes: bool) -> Result<(), AllocError>
-    ensures { OnOk result (out.new.items ≡ out.old.items ++ yes_or_no yes) }
+pub fn yes_or_no(yes: bool) -> &'static str
+    ensures { result.now ≡ yes_or_no yes }
 {
-    if yes {
-        out.extend_from_slice(b"yes")
-    } else {
-        out.extend_from_slice(b"no")
-    }
-}
-
-#[tactic(auto, using(kob_words::proofs::Appending::appending))]
-fn push_verdict(out: &mut Vec<u8>, verdict: Verdict) -> Result<(), AllocError>
-    ensures { OnOk result (out.new.items ≡ out.old.items ++ verdict_text verdict) }
-{
-    match verdict {
-        Verdict::DeniedBy(serial) => {
-            out.extend_from_slice(b"deny:")?;
-            push_number(out, serial)
-        }
-        Verdict::AllowedBy(serial) => {
-            out.extend_from_slice(b"allow:")?;
-            push_number(out, serial)
-        }
-        Verdict::NoAllow => out.extend_from_slice(b"no-allow"),
-        Verdict::Super => out.extend_from_slice(b"super"),
-        Verdict::NoAclFound => out.extend_from_slice(b"no-acl-found"),
-    }
+    if yes { "yes" } else { "no" }
 }
 
 /// Yes or no, and the verdict.
@@ -61,13 +37,24 @@ fn push_verdict(out: &mut Vec<u8>, verdict: Verdict) -> Result<(), AllocError>
 pub fn push_answer(out: &mut Vec<u8>, verdict: Verdict) -> Result<(), AllocError>
     ensures { OnOk result (out.new.items ≡ out.old.items ++ answer_text verdict) }
 {
-    push_yes_or_no(out, verdict.is_granted())?;
-    out.extend_from_slice(b" ")?;
-    push_verdict(out, verdict)
+    match verdict {
+        Verdict::DeniedBy(serial) => {
+            out.extend_from_slice(b"no deny:")?;
+            push_number(out, serial)
+        }
+        Verdict::AllowedBy(serial) => {
+            out.extend_from_slice(b"yes allow:")?;
+            push_number(out, serial)
+        }
+        Verdict::NoAllow => out.extend_from_slice(b"no no-allow"),
+        Verdict::Super => out.extend_from_slice(b"yes super"),
+        Verdict::NoAclFound => out.extend_from_slice(b"yes no-acl-found"),
+    }
 }
 
+/// From where a binding comes, behind a blank.
 #[tactic(auto, using(kob_words::proofs::Appending::appending))]
-fn push_origin_behind(out: &mut Vec<u8>, origin: Option<&Origin>) -> Result<(), AllocError>
+pub fn push_origin_behind(out: &mut Vec<u8>, origin: Option<&Origin>) -> Result<(), AllocError>
     ensures { OnOk result
         (out.new.items ≡ out.old.items ++ origin_behind (option_copied origin.entry)) }
 {
@@ -86,15 +73,6 @@ pub fn origin_by(judge: &Judge, serial: Option<u64>) -> Option<&Origin>
 {
     let place = judge.place_of(serial?)?;
     judge.policy().origins().get(place)
-}
-
-/// An answer, and from where the binding comes that decides.
-#[tactic(auto, using(kob_words::proofs::Appending::appending))]
-pub fn push_reason(out: &mut Vec<u8>, judge: &Judge, verdict: Verdict) -> Result<(), AllocError>
-    ensures { OnOk result (out.new.items ≡ out.old.items ++ reason_text judge.now verdict) }
-{
-    push_answer(out, verdict)?;
-    push_origin_behind(out, origin_by(judge, deciding(verdict)))
 }
 
 #[tactic(auto, using(kob_words::proofs::Appending::appending))]
@@ -140,9 +118,10 @@ pub fn push_line_by(out: &mut Vec<u8>, judge: &Judge, serial: u64) -> Result<(),
 pub fn push_may(out: &mut Vec<u8>, judge: &Judge, verdict: Verdict) -> Result<(), AllocError>
     ensures { OnOk result (out.new.items ≡ out.old.items ++ may_text judge.now verdict) }
 {
-    out.extend_from_slice(b"  ")?;
-    push_answer(out, verdict)?;
-    out.extend_from_slice(b"\n")?;
+    push_parts(
+        out,
+        &[Part::Words("  "), Part::Answer(verdict), Part::Words("\n")],
+    )?;
     match deciding(verdict) {
         None => Ok(()),
         Some(serial) => push_line_by(out, judge, serial),
@@ -154,11 +133,16 @@ pub fn push_may(out: &mut Vec<u8>, judge: &Judge, verdict: Verdict) -> Result<()
 pub fn push_right(out: &mut Vec<u8>, asked: &Asked<'_>) -> Result<(), AllocError>
     ensures { OnOk result (out.new.items ≡ out.old.items ++ right_text asked.now) }
 {
-    out.extend_from_slice(operation_name(asked.operation).as_bytes())?;
-    out.extend_from_slice(b" ")?;
-    out.extend_from_slice(resource_name(asked.resource).as_bytes())?;
-    out.extend_from_slice(b" ")?;
-    push_name(out, asked.name)
+    push_parts(
+        out,
+        &[
+            Part::Words(operation_name(asked.operation)),
+            Part::Words(" "),
+            Part::Words(resource_name(asked.resource)),
+            Part::Words(" "),
+            Part::Name(asked.name),
+        ],
+    )
 }
 
 /// The word for what was left out.
@@ -187,9 +171,14 @@ fn denial_text(denies: bool) -> &'static str
 pub fn push_omission(out: &mut Vec<u8>, omission: &Omission) -> Result<(), AllocError>
     ensures { OnOk result (out.new.items ≡ out.old.items ++ omission_line omission.now) }
 {
-    out.extend_from_slice(b"left out ")?;
-    push_origin(out, &omission.origin)?;
-    out.extend_from_slice(b" ")?;
-    out.extend_from_slice(left_out_word(omission.what).as_bytes())?;
-    out.extend_from_slice(denial_text(omission.denies).as_bytes())
+    push_parts(
+        out,
+        &[
+            Part::Words("left out"),
+            Part::Origin(Some(&omission.origin)),
+            Part::Words(" "),
+            Part::Words(left_out_word(omission.what)),
+            Part::Words(denial_text(omission.denies)),
+        ],
+    )
 }

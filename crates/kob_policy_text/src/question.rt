@@ -209,14 +209,6 @@ impl Questions {
         }
     }
 
-    fn add_plain(&mut self, alloc: Global, line: &[u8], are_names: bool) -> Result<(), LineError>
-        ensures { GivesSeen (λ _. self.new) result
-            (with_read are_names line.now self.old (words_in false line.now)) }
-    {
-        let words = words_of(alloc, line)?;
-        self.add_words(alloc, line, &words, are_names)
-    }
-
     #[tactic(auto, unfolding(crate::specs::Questions::with_line))]
     fn add_line(&mut self, alloc: Global, line: &[u8], are_names: bool) -> Result<(), LineError>
         ensures { GivesSeen (λ _. self.new) result
@@ -225,7 +217,8 @@ impl Questions {
         if has_quotes(line) {
             self.add_quoted(alloc, line, are_names)
         } else {
-            self.add_plain(alloc, line, are_names)
+            let words = words_of(alloc, line)?;
+            self.add_words(alloc, line, &words, are_names)
         }
     }
 }

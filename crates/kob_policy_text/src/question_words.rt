@@ -1,8 +1,8 @@
 //! What the words of a question ask.
 
 ghost use Rattle.std.specs.Prelude.{◌≡◌, IfOk};
-ghost use Rattle.kob_policy_text.specs.Questions.{access_of, alone, asker_of, expect_words, expected_by};
-ghost use Rattle.kob_policy_text.specs.Questions.{expects, full_name, host_in, may_repeat, may_six, may_transact};
+ghost use Rattle.kob_policy_text.specs.Questions.{access_by, alone, asker_of, expect_words, expected_by};
+ghost use Rattle.kob_policy_text.specs.Questions.{full_name, host_in, may_repeat, may_six, may_transact};
 ghost use Rattle.kob_policy_text.specs.Questions.{is_word, may_by, may_consume, may_produce, may_request};
 ghost use Rattle.kob_policy_text.specs.Questions.{may_right, may_words, produces, question_by};
 ghost use Rattle.kob_policy_text.specs.Questions.{right_of, rights_words, sees_words};
@@ -26,11 +26,16 @@ pub fn is_word(word: &Word<'_>, text: &[u8]) -> bool
     word.decoded() == text
 }
 
+/// A host that asks, and so not `*`, which stands for all hosts in a binding.
 #[tactic(auto, unfolding(crate::specs::Questions::host_in))]
 pub fn host_in(alloc: Global, word: &Word<'_>) -> Result<Host, LineError>
     ensures { Gives result (host_in word.now) }
 {
-    host_of(alloc, lent_text_of(word)?)
+    let text = lent_text_of(word)?;
+    if text == "*" {
+        return Err(LineError::Fault(FaultKind::BadHost));
+    }
+    host_of(alloc, text)
 }
 
 #[tactic(auto, unfolding(crate::specs::Questions::asker_of))]
@@ -182,9 +187,14 @@ fn may_consume(
     })
 }
 
-fn access_of(alloc: Global, event: Event) -> Result<Access, AllocError>
-    ensures { IfOk result (λ access. access ≡ access_of event) }
+/// What a request asks, unless it is said to come from `*`.
+fn access_by(alloc: Global, event: Event) -> Result<Access, LineError>
+    ensures { Gives result (access_by event) }
 {
+    if event.host.as_str() == "*" {
+        drop(event);
+        return Err(LineError::Fault(FaultKind::BadHost));
+    }
     Ok(Access {
         asker: Asker {
             principal: event.principal.copy(alloc)?,
@@ -201,7 +211,7 @@ fn may_request(alloc: Global, words: &[Word<'_>]) -> Result<Access, LineError>
 {
     let asked = events_of(alloc, words, &None)?;
     match only_event(asked) {
-        Some(event) => Ok(access_of(alloc, event)?),
+        Some(event) => access_by(alloc, event),
         None => Err(LineError::Fault(FaultKind::BadLine)),
     }
 }
@@ -284,19 +294,15 @@ fn expected_by(word: &Word<'_>) -> Result<bool, LineError>
 }
 
 #[tactic(auto, unfolding(crate::specs::Questions::expects))]
-fn expects(alloc: Global, answer: &Word<'_>, words: &[Word<'_>]) -> Result<Question, LineError>
-    ensures { Gives result (expects answer.now words.now) }
-{
-    let expected = expected_by(answer)?;
-    let asked = may_words(alloc, words)?;
-    Ok(Question::Expect(expected, asked))
-}
-
 fn expect_words(alloc: Global, words: &[Word<'_>]) -> Result<Question, LineError>
     ensures { Gives result (expect_words words.now) }
 {
     match words {
-        [answer, may, arguments @ ..] if is_word(may, b"may") => expects(alloc, answer, arguments),
+        [answer, may, arguments @ ..] if is_word(may, b"may") => {
+            let expected = expected_by(answer)?;
+            let asked = may_words(alloc, arguments)?;
+            Ok(Question::Expect(expected, asked))
+        }
         _ => Err(LineError::Fault(FaultKind::BadLine)),
     }
 }

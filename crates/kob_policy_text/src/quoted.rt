@@ -3,8 +3,7 @@
 ghost use Rattle.std.specs.Prelude.{◌≡◌, ◌++◌, OnOk, flat_map};
 ghost use Rattle.std.specs.List.{list_all};
 ghost use Rattle.kob_policy_text.specs.Quoted.{binding_text, grant_text, has_meaning, is_bare};
-ghost use Rattle.kob_policy_text.specs.Quoted.{is_shown, name_text, pattern_text, quoted};
-ghost use Rattle.kob_policy_text.specs.Quoted.{quoted_byte};
+ghost use Rattle.kob_policy_text.specs.Quoted.{is_shown, name_text, pattern_text, quoted_byte};
 
 use kob_names::{Binding, Draft};
 use kob_words::{
@@ -57,26 +56,18 @@ fn push_quoted_bytes(out: &mut Vec<u8>, name: &[u8]) -> Result<(), AllocError>
     Ok(())
 }
 
-#[tactic(auto, using(kob_words::proofs::Appending::appending))]
-fn push_quoted(out: &mut Vec<u8>, name: &[u8]) -> Result<(), AllocError>
-    ensures { OnOk result (out.new.items ≡ out.old.items ++ quoted name.now) }
-{
-    out.extend_from_slice(b"\"")?;
-    push_quoted_bytes(out, name)?;
-    out.extend_from_slice(b"\"")
-}
-
 /// Prints a name of a list: as it is if a shell leaves it so, else between double quotes. A byte
 /// that is no printed ASCII, and a percent sign, are `%` and two hexadecimal digits.
-#[tactic(auto, unfolding(crate::specs::Quoted::name_text))]
+#[tactic(auto, using(kob_words::proofs::Appending::appending), unfolding(crate::specs::Quoted::name_text))]
 pub fn push_name(out: &mut Vec<u8>, name: &str) -> Result<(), AllocError>
     ensures { OnOk result (out.new.items ≡ out.old.items ++ name_text name.now) }
 {
     if is_bare_name(name.as_bytes()) {
-        out.extend_from_slice(name.as_bytes())
-    } else {
-        push_quoted(out, name.as_bytes())
+        return out.extend_from_slice(name.as_bytes());
     }
+    out.extend_from_slice(b"\"")?;
+    push_quoted_bytes(out, name.as_bytes())?;
+    out.extend_from_slice(b"\"")
 }
 
 #[tactic(auto, using(kob_words::proofs::Appending::appending))]

@@ -1,51 +1,33 @@
 //! Who may do something on the names that begin with a prefix.
 
 ghost use Rattle.std.specs.Prelude.{◌≡◌, ◌++◌, OnOk, flat_map};
-ghost use Rattle.kob_policy_text.specs.Reaches.{asks_as_others, by_share, reach_from, reach_line};
-ghost use Rattle.kob_policy_text.specs.Reaches.{reach_text, reach_who, reached_text, reaches_text};
+ghost use Rattle.kob_policy_text.specs.Reaches.{asks_as_others, reach_line, reach_text, reached_text};
+ghost use Rattle.kob_policy_text.specs.Reaches.{reaches_text};
 
 use crate::at_hand::each_once;
-use crate::changes::push_party;
 use crate::judge::Judge;
+use crate::parts::{Part, push_parts};
 use crate::question::Right;
 use crate::remarks::push_none;
 use crate::who::push_supers;
 use kob_policy_review::{Reach, Share, names_all, who_below};
 use std::alloc::{AllocError, Global};
 
-#[tactic(auto, using(kob_words::proofs::Appending::appending))]
-fn push_who(out: &mut Vec<u8>, one: &Reach) -> Result<(), AllocError>
-    ensures { OnOk result (out.new.items ≡ out.old.items ++ reach_who one.now) }
-{
-    push_party(out, b"User:* (others)", &one.principal)?;
-    out.extend_from_slice(b" ")
-}
-
-#[tactic(auto, using(kob_words::proofs::Appending::appending))]
-fn push_from(out: &mut Vec<u8>, on: &[u8], one: &Reach) -> Result<(), AllocError>
-    ensures { OnOk result (out.new.items ≡ out.old.items ++ reach_from on.now one.now) }
-{
-    push_party(out, b"* (others)", &one.host)?;
-    out.extend_from_slice(on)
-}
-
-#[tactic(auto, using(kob_words::proofs::Appending::appending))]
-fn push_line(out: &mut Vec<u8>, on: &[u8], one: &Reach) -> Result<(), AllocError>
+#[tactic(auto, unfolding(crate::specs::Reaches::reach_line))]
+fn push_line<'a>(out: &mut Vec<u8>, on: &'a str, one: &'a Reach) -> Result<(), AllocError>
     ensures { OnOk result (out.new.items ≡ out.old.items ++ reach_line on.now one.now) }
 {
-    out.extend_from_slice(b"  ")?;
-    push_who(out, one)?;
-    push_from(out, on, one)
-}
-
-fn push_by_share(out: &mut Vec<u8>, one: &Reach) -> Result<(), AllocError>
-    ensures { OnOk result (out.new.items ≡ out.old.items ++ by_share one.now.share one.now) }
-{
-    match one.share {
-        Share::Nothing => Ok(()),
-        Share::Part => push_line(out, b" some\n", one),
-        Share::Everything => push_line(out, b" all\n", one),
-    }
+    push_parts(
+        out,
+        &[
+            Part::Words("  "),
+            Part::Party("User:* (others)", &one.principal),
+            Part::Words(" "),
+            Part::Party("* (others)", &one.host),
+            Part::Words(on),
+            Part::Words("\n"),
+        ],
+    )
 }
 
 /// Whether the principal or the host is the word for all, which asks as all others do.
@@ -62,7 +44,11 @@ fn push_reach(out: &mut Vec<u8>, one: &Reach) -> Result<(), AllocError>
     if asks_as_others(one) {
         return Ok(());
     }
-    push_by_share(out, one)
+    match one.share {
+        Share::Nothing => Ok(()),
+        Share::Part => push_line(out, " some", one),
+        Share::Everything => push_line(out, " all", one),
+    }
 }
 
 #[tactic(auto, using(kob_words::proofs::Appending::appending))]

@@ -28,7 +28,7 @@ fn push_nearest(out: &mut Vec<u8>, nearest: &Option<Text>) -> Result<(), AllocEr
     ensures { OnOk result (out.new.items ≡ out.old.items ++ nearest_text nearest.now) }
 {
     match nearest {
-        Some(name) => push_told(out, b"    the nearest name is ", name.as_str()),
+        Some(name) => push_told(out, "    the nearest name is ", name.as_str()),
         None => Ok(()),
     }
 }
@@ -45,7 +45,7 @@ pub fn push_no_taker(
 {
     let names = names_named(alloc, right.resource, judge.policy().bindings())?.into_vec();
     let nearest = nearest_of(alloc, right.name.as_str(), names.as_slice())?;
-    push_told(out, b"    no pattern takes ", right.name.as_str())?;
+    push_told(out, "    no pattern takes ", right.name.as_str())?;
     push_nearest(out, &nearest)
 }
 
@@ -68,7 +68,7 @@ pub fn push_taking(
 pub fn push_no_binding(out: &mut Vec<u8>, principal: &Principal) -> Result<(), AllocError>
     ensures { OnOk result (out.new.items ≡ out.old.items ++ no_binding_text principal.now) }
 {
-    push_told(out, b"    no binding names ", principal.as_str())
+    push_told(out, "    no binding names ", principal.as_str())
 }
 
 /// What is remarked below a list that stands on one line.

@@ -1,20 +1,21 @@
 //! The rights that an act needs, each clause with its answers.
 
 ghost use Rattle.std.specs.Prelude.{◌≡◌, ◌++◌, OnOk};
-ghost use Rattle.kob_policy_text.specs.Access.{act_rights, are_met, check_line, check_of, check_text};
+ghost use Rattle.kob_policy_text.specs.Access.{act_rights, are_met, check_of, check_text};
 ghost use Rattle.kob_policy_text.specs.Access.{clause_text, clauses_text, idempotent_rights, is_clause_met};
 ghost use Rattle.kob_policy_text.specs.Access.{on_transaction, question_on, rights_text, transactional_rights};
 ghost use Rattle.kob_rights.specs.Table.{check_view, clause_view, on_cluster, on_topic, rights_view};
 
 use crate::asked::Asked;
 use crate::hints::push_untaken;
-use crate::judge::Judge;
-use crate::printed::{push_reason, push_right, push_yes_or_no};
+use crate::judge::{Judge, deciding};
+use crate::parts::{Part, push_parts};
+use crate::printed::{origin_by, yes_or_no};
 use crate::question::{Act, Asker, Right};
 use crate::release::Release;
 use kob_names::{Operation, ResourceKind, Text};
 use kob_rights::{Check, Clause, Rights};
-use kob_words::push_number;
+use kob_words::{operation_name, resource_name};
 use std::alloc::AllocError;
 
 fn idempotent_write<'a>() -> Check<'a>
@@ -102,46 +103,44 @@ pub fn on<'a>(asker: &'a Asker, check: &Check<'a>) -> Asked<'a>
     }
 }
 
-#[tactic(auto, using(kob_words::proofs::Appending::appending), unfolding(crate::specs::Access::check_line))]
-fn push_check_line(
+#[tactic(auto, using(kob_words::proofs::Appending::appending), unfolding(crate::specs::Access::check_line, crate::specs::Access::check_text))]
+fn push_check<'a>(
     out: &mut Vec<u8>,
-    judge: &Judge,
+    judge: &'a Judge,
     number: u64,
-    asked: &Asked<'_>,
-) -> Result<(), AllocError>
-    ensures { OnOk result (out.new.items ≡ out.old.items
-        ++ check_line judge.now number asked.now) }
-{
-    out.extend_from_slice(b"  ")?;
-    push_number(out, number)?;
-    out.extend_from_slice(b" ")?;
-    push_right(out, asked)?;
-    out.extend_from_slice(b" ")?;
-    push_reason(out, judge, judge.verdict(asked))?;
-    out.extend_from_slice(b"\n")
-}
-
-#[tactic(auto, using(kob_words::proofs::Appending::appending), unfolding(crate::specs::Access::check_text))]
-fn push_check(
-    out: &mut Vec<u8>,
-    judge: &Judge,
-    number: u64,
-    asked: &Asked<'_>,
+    asked: &Asked<'a>,
 ) -> Result<(), AllocError>
     ensures { OnOk result (out.new.items ≡ out.old.items
         ++ check_text judge.now number asked.now) }
 {
-    push_check_line(out, judge, number, asked)?;
-    push_untaken(out, judge, judge.verdict(asked), asked)
+    let verdict = judge.verdict(asked);
+    push_parts(
+        out,
+        &[
+            Part::Words("  "),
+            Part::Number(number),
+            Part::Words(" "),
+            Part::Words(operation_name(asked.operation)),
+            Part::Words(" "),
+            Part::Words(resource_name(asked.resource)),
+            Part::Words(" "),
+            Part::Name(asked.name),
+            Part::Words(" "),
+            Part::Answer(verdict),
+            Part::Origin(origin_by(judge, deciding(verdict))),
+            Part::Words("\n"),
+        ],
+    )?;
+    push_untaken(out, judge, verdict, asked)
 }
 
 #[tactic(auto, using(kob_words::proofs::Appending::appending))]
-fn push_clause(
+fn push_clause<'a>(
     out: &mut Vec<u8>,
-    judge: &Judge,
+    judge: &'a Judge,
     number: u64,
-    asker: &Asker,
-    clause: &Clause<'_>,
+    asker: &'a Asker,
+    clause: &Clause<'a>,
 ) -> Result<(), AllocError>
     ensures { OnOk result (out.new.items ≡ out.old.items
         ++ clause_text judge.now number asker.now (clause_view clause.now)) }
@@ -156,11 +155,11 @@ fn push_clause(
 }
 
 #[tactic(auto, using(kob_words::proofs::Appending::appending), unfolding(crate::specs::Access::clauses_text))]
-fn push_clauses(
+fn push_clauses<'a>(
     out: &mut Vec<u8>,
-    judge: &Judge,
-    asker: &Asker,
-    rights: &Rights<'_>,
+    judge: &'a Judge,
+    asker: &'a Asker,
+    rights: &Rights<'a>,
 ) -> Result<(), AllocError>
     ensures { OnOk result (out.new.items ≡ out.old.items
         ++ clauses_text judge.now 1 asker.now (rights_view rights.now)) }
@@ -199,17 +198,19 @@ pub fn are_met(judge: &Judge, asker: &Asker, rights: &Rights<'_>) -> bool
 }
 
 #[tactic(auto, using(kob_words::proofs::Appending::appending))]
-pub fn push_rights(
+pub fn push_rights<'a>(
     out: &mut Vec<u8>,
-    judge: &Judge,
-    asker: &Asker,
-    rights: &Rights<'_>,
+    judge: &'a Judge,
+    asker: &'a Asker,
+    rights: &Rights<'a>,
 ) -> Result<(), AllocError>
     ensures { OnOk result (out.new.items ≡ out.old.items
         ++ rights_text judge.now asker.now (rights_view rights.now)) }
 {
-    out.extend_from_slice(b"  ")?;
-    push_yes_or_no(out, are_met(judge, asker, rights))?;
-    out.extend_from_slice(b"\n")?;
+    let answer = yes_or_no(are_met(judge, asker, rights));
+    push_parts(
+        out,
+        &[Part::Words("  "), Part::Words(answer), Part::Words("\n")],
+    )?;
     push_clauses(out, judge, asker, rights)
 }

@@ -1,15 +1,16 @@
 //! How many there are of what a policy has.
 
-ghost use Rattle.std.specs.Prelude.{◌≡◌, ◌++◌, IfOk, OnOk, codes, filter, length};
-ghost use Rattle.kob_policy_text.specs.AtHand.{each_once, hosts_named, names_named, principals_named};
+ghost use Rattle.std.specs.Prelude.{◌≡◌, ◌++◌, IfOk, OnOk, codes, length};
+ghost use Rattle.kob_policy_text.specs.AtHand.{each_once};
 ghost use Rattle.kob_policy_text.specs.Summary.{count_line, idle_text, is_told, parties_text};
 ghost use Rattle.kob_policy_text.specs.Summary.{patterns_text, summary_text, unused_count};
 
 use crate::at_hand::{each_once, hosts_named, names_named, principals_named};
 use crate::judge::Judge;
+use crate::parts::{Part, push_parts};
+use crate::texts::Texts;
 use kob_names::ResourceKind;
 use kob_policy_review::{Unneeded, shadowed, unused};
-use kob_words::push_number;
 use std::alloc::{AllocError, Global};
 
 /// A count behind what is counted, on a line of its own.
@@ -17,11 +18,16 @@ use std::alloc::{AllocError, Global};
 pub fn push_count(out: &mut Vec<u8>, what: &str, count: usize) -> Result<(), AllocError>
     ensures { OnOk result (out.new.items ≡ out.old.items ++ count_line what.now count) }
 {
-    out.extend_from_slice(b"  ")?;
-    out.extend_from_slice(what.as_bytes())?;
-    out.extend_from_slice(b" ")?;
-    push_number(out, count as u64)?;
-    out.extend_from_slice(b"\n")
+    push_parts(
+        out,
+        &[
+            Part::Words("  "),
+            Part::Words(what),
+            Part::Words(" "),
+            Part::Number(count as u64),
+            Part::Words("\n"),
+        ],
+    )
 }
 
 fn push_supers(alloc: Global, out: &mut Vec<u8>, judge: &Judge) -> Result<(), AllocError>
@@ -32,58 +38,36 @@ fn push_supers(alloc: Global, out: &mut Vec<u8>, judge: &Judge) -> Result<(), Al
     push_count(out, "super-users", supers.len())
 }
 
-fn push_principals(alloc: Global, out: &mut Vec<u8>, judge: &Judge) -> Result<(), AllocError>
-    ensures { OnOk result (out.new.items ≡ out.old.items
-        ++ count_line (codes "principals") (length (principals_named judge.now.bindings))) }
+fn push_texts(out: &mut Vec<u8>, what: &str, texts: Texts) -> Result<(), AllocError>
+    ensures { OnOk result
+        (out.new.items ≡ out.old.items ++ count_line what.now (length texts)) }
 {
-    let principals = principals_named(alloc, judge.policy().bindings())?;
-    push_count(out, "principals", principals.len())
-}
-
-fn push_hosts(alloc: Global, out: &mut Vec<u8>, judge: &Judge) -> Result<(), AllocError>
-    ensures { OnOk result (out.new.items ≡ out.old.items
-        ++ count_line (codes "hosts") (length (hosts_named judge.now.bindings))) }
-{
-    let hosts = hosts_named(alloc, judge.policy().bindings())?;
-    push_count(out, "hosts", hosts.len())
+    let count = texts.len();
+    drop(texts);
+    push_count(out, what, count)
 }
 
 #[tactic(auto, using(kob_words::proofs::Appending::appending), unfolding(crate::specs::Summary::parties_text))]
 fn push_parties(alloc: Global, out: &mut Vec<u8>, judge: &Judge) -> Result<(), AllocError>
     ensures { OnOk result (out.new.items ≡ out.old.items ++ parties_text judge.now) }
 {
+    let bindings = judge.policy().bindings();
     push_supers(alloc, out, judge)?;
-    push_principals(alloc, out, judge)?;
-    push_hosts(alloc, out, judge)
-}
-
-fn push_names(
-    alloc: Global,
-    out: &mut Vec<u8>,
-    what: &str,
-    resource: ResourceKind,
-    judge: &Judge,
-) -> Result<(), AllocError>
-    ensures { OnOk result (out.new.items ≡ out.old.items
-        ++ count_line what.now (length (names_named resource judge.now.bindings))) }
-{
-    let names = names_named(alloc, resource, judge.policy().bindings())?;
-    push_count(out, what, names.len())
+    push_texts(out, "principals", principals_named(alloc, bindings)?)?;
+    push_texts(out, "hosts", hosts_named(alloc, bindings)?)
 }
 
 #[tactic(auto, using(kob_words::proofs::Appending::appending), unfolding(crate::specs::Summary::patterns_text))]
 fn push_patterns(alloc: Global, out: &mut Vec<u8>, judge: &Judge) -> Result<(), AllocError>
     ensures { OnOk result (out.new.items ≡ out.old.items ++ patterns_text judge.now) }
 {
-    push_names(alloc, out, "topics", ResourceKind::Topic, judge)?;
-    push_names(alloc, out, "groups", ResourceKind::Group, judge)?;
-    push_names(
-        alloc,
-        out,
-        "transactional-ids",
-        ResourceKind::TransactionalId,
-        judge,
-    )
+    let bindings = judge.policy().bindings();
+    let topics = names_named(alloc, ResourceKind::Topic, bindings)?;
+    push_texts(out, "topics", topics)?;
+    let groups = names_named(alloc, ResourceKind::Group, bindings)?;
+    push_texts(out, "groups", groups)?;
+    let ids = names_named(alloc, ResourceKind::TransactionalId, bindings)?;
+    push_texts(out, "transactional-ids", ids)
 }
 
 fn is_told(judge: &Judge, one: &Unneeded) -> bool
@@ -92,18 +76,12 @@ fn is_told(judge: &Judge, one: &Unneeded) -> bool
     judge.place_of(one.serial).is_some()
 }
 
-fn told(judge: &Judge, found: &[Unneeded]) -> usize
-    ensures { result ≡ length (filter (is_told judge.now) found.now) }
-{
-    found.iter().filter(|one| is_told(judge, one)).count()
-}
-
 /// How many bindings are unused, without those that stand for what is left out.
 pub fn unused_count(alloc: Global, judge: &Judge) -> Result<usize, AllocError>
     ensures { IfOk result (λ count. count ≡ unused_count judge.now) }
 {
     let idle = unused(alloc, judge.authorizer())?;
-    Ok(told(judge, &idle))
+    Ok(idle.iter().filter(|one| is_told(judge, one)).count())
 }
 
 #[tactic(auto, using(kob_words::proofs::Appending::appending), unfolding(crate::specs::Summary::idle_text))]

@@ -1,33 +1,36 @@
 //! Bindings that no answer needs, over all principals, hosts, operations and names.
 
-ghost use Rattle.std.specs.Prelude.{◌≡◌, ◌++◌, OnOk, codes, flat_map};
-ghost use Rattle.std.specs.Fmt.{decimal};
+ghost use Rattle.std.specs.Prelude.{◌≡◌, ◌++◌, OnOk, flat_map};
 ghost use Rattle.kob_policy_text.specs.Review.{unneeded_text, unused_text, why_text};
 
 use crate::judge::Judge;
+use crate::parts::{Part, push_parts};
 use crate::printed::push_line_at;
 use crate::remarks::push_none;
 use kob_policy_review::{Reason, Unneeded, unused};
-use kob_words::push_number;
 use std::alloc::{AllocError, Global};
-
-#[tactic(auto, using(kob_words::proofs::Appending::appending))]
-fn push_behind(out: &mut Vec<u8>, what: &[u8], serial: u64) -> Result<(), AllocError>
-    ensures { OnOk result (out.new.items
-        ≡ out.old.items ++ (what.now ++ decimal serial ++ codes "\n")) }
-{
-    out.extend_from_slice(what)?;
-    push_number(out, serial)?;
-    out.extend_from_slice(b"\n")
-}
 
 fn push_why(out: &mut Vec<u8>, reason: Reason) -> Result<(), AllocError>
     ensures { OnOk result (out.new.items ≡ out.old.items ++ why_text reason) }
 {
     match reason {
         Reason::Super => out.extend_from_slice(b"    its principal is a super user\n"),
-        Reason::CoveredBy(serial) => push_behind(out, b"    covered by ", serial),
-        Reason::DeniedBy(serial) => push_behind(out, b"    denied by ", serial),
+        Reason::CoveredBy(serial) => push_parts(
+            out,
+            &[
+                Part::Words("    covered by "),
+                Part::Number(serial),
+                Part::Words("\n"),
+            ],
+        ),
+        Reason::DeniedBy(serial) => push_parts(
+            out,
+            &[
+                Part::Words("    denied by "),
+                Part::Number(serial),
+                Part::Words("\n"),
+            ],
+        ),
         Reason::Together => out.extend_from_slice(b"    covered by several, or nothing to deny\n"),
     }
 }

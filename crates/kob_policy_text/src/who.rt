@@ -1,51 +1,56 @@
 //! Who may do what, and which topics a principal sees.
 
-ghost use Rattle.std.specs.Prelude.{◌≡◌, ◌++◌, IfOk, OnOk, codes, flat_map};
+ghost use Rattle.std.specs.Prelude.{◌≡◌, ◌++◌, IfOk, OnOk, flat_map};
+ghost use Rattle.std.specs.List.{list_any};
 ghost use Rattle.kob_policy_text.specs.Answers.{from_text, is_seen, seen_text, seen_texts};
 ghost use Rattle.kob_policy_text.specs.Answers.{sees_text, topic_text, who_line};
-ghost use Rattle.kob_policy_text.specs.Review.{grant_if_told, grant_line, granted_text, is_told};
 ghost use Rattle.kob_policy_text.specs.Parties.{super_grant};
-ghost use Rattle.kob_policy_text.specs.Quoted.{name_text};
-ghost use Rattle.kob_policy_text.specs.Remarks.{or_none, taking_text};
-ghost use Rattle.kob_policy_text.specs.Review.{target_at, who_list, who_text};
-ghost use Rattle.kob_policy_text.specs.Review.{consumers_text, grants_text, right_line};
+ghost use Rattle.kob_policy_text.specs.Remarks.{taking_text};
+ghost use Rattle.kob_policy_text.specs.Review.{consumers_text, grant_line, granted_text, grants_text};
+ghost use Rattle.kob_policy_text.specs.Review.{is_taken_away, is_told, is_yes_for, speaks_for};
+ghost use Rattle.kob_policy_text.specs.Review.{target_at, told_text, who_list, who_text};
 
 use crate::asked::Asked;
 use crate::at_hand::{each_once, principals_at_hand, topics_named};
-use crate::changes::push_party;
-use crate::judge::Judge;
-use crate::printed::push_reason;
+use crate::judge::{Judge, deciding};
+use crate::parts::{Part, push_parts};
+use crate::printed::origin_by;
 use crate::question::{Asker, Right};
-use crate::quoted::push_name;
 use crate::remarks::{push_below_line, push_no_taker, push_none, push_taking};
-use kob_names::{Host, Operation, PlainValue, Principal, ResourceKind, Text};
+use kob_names::{Host, Operation, PlainValue, Principal, ResourceKind, Text, Verdict};
 use kob_policy_review::{Answer, Names, Target, names_all, who};
 use kob_words::{operation_name, resource_name};
 use std::alloc::{AllocError, Global};
 
 #[tactic(auto, using(kob_words::proofs::Appending::appending), unfolding(crate::specs::Answers::who_line))]
-fn push_who_line(
+fn push_who_line<'a>(
     out: &mut Vec<u8>,
-    judge: &Judge,
+    judge: &'a Judge,
     right: &Right,
     host: &Host,
-    principal: &Principal,
+    principal: &'a Principal,
 ) -> Result<(), AllocError>
     ensures { OnOk result (out.new.items ≡ out.old.items
         ++ who_line judge.now right.now host.now principal.now) }
 {
-    let asked = Asked {
+    let verdict = judge.verdict(&Asked {
         principal,
         host,
         operation: right.operation,
         resource: right.resource,
         name: right.name.as_str(),
-    };
-    out.extend_from_slice(b"  ")?;
-    push_name(out, principal.as_str())?;
-    out.extend_from_slice(b" ")?;
-    push_reason(out, judge, judge.verdict(&asked))?;
-    out.extend_from_slice(b"\n")
+    });
+    push_parts(
+        out,
+        &[
+            Part::Words("  "),
+            Part::Name(principal.as_str()),
+            Part::Words(" "),
+            Part::Answer(verdict),
+            Part::Origin(origin_by(judge, deciding(verdict))),
+            Part::Words("\n"),
+        ],
+    )
 }
 
 fn push_who_lines(
@@ -78,21 +83,18 @@ fn push_from(
     push_who_lines(out, judge, right, host, principals.as_slice())
 }
 
-#[tactic(auto, using(kob_words::proofs::Appending::appending))]
-fn push_user(out: &mut Vec<u8>, user: &Principal, what: &[u8]) -> Result<(), AllocError>
-    ensures { OnOk result (out.new.items
-        ≡ out.old.items ++ (codes "  " ++ name_text user.now ++ what.now)) }
-{
-    out.extend_from_slice(b"  ")?;
-    push_name(out, user.as_str())?;
-    out.extend_from_slice(what)
-}
-
 #[tactic(auto, unfolding(crate::specs::Parties::super_grant))]
 fn push_super(out: &mut Vec<u8>, user: &Principal) -> Result<(), AllocError>
     ensures { OnOk result (out.new.items ≡ out.old.items ++ super_grant user.now) }
 {
-    push_user(out, user, b" yes super\n")
+    push_parts(
+        out,
+        &[
+            Part::Words("  "),
+            Part::Name(user.as_str()),
+            Part::Words(" yes super\n"),
+        ],
+    )
 }
 
 /// Each super user, to whom all is granted.
@@ -116,40 +118,83 @@ pub fn target_at(alloc: Global, right: &Right) -> Result<Target, AllocError>
     })
 }
 
-/// Whether `who` lists the answer: a grant, of which no other row speaks.
-pub fn is_told(answer: &Answer) -> bool
-    ensures { result ≡ is_told answer.now }
+/// Whether a party is all others, or the other one.
+fn speaks_for(one: &Option<Text>, party: &Option<Text>) -> bool
+    ensures { result ≡ speaks_for one.now party.now }
 {
-    answer.verdict.is_granted()
+    match (one, party) {
+        (None, _) => true,
+        (Some(_), None) => false,
+        (Some(one), Some(party)) => one.as_str() == party.as_str(),
+    }
+}
+
+fn is_yes_for(answer: &Answer, other: &Answer) -> bool
+    ensures { result ≡ is_yes_for answer.now other.now }
+{
+    other.verdict.is_granted()
+        && speaks_for(&other.principal, &answer.principal)
+        && speaks_for(&other.host, &answer.host)
+}
+
+fn any_yes_for(answers: &[Answer], answer: &Answer) -> bool
+    ensures { result ≡ list_any (is_yes_for answer.now) answers.now }
+{
+    answers.iter().any(|other| is_yes_for(answer, other))
+}
+
+/// Whether a deny takes away what another answer grants.
+fn is_taken_away(answers: &[Answer], answer: &Answer) -> bool
+    ensures { result ≡ is_taken_away answer.now.verdict answers.now answer.now }
+{
+    match answer.verdict {
+        Verdict::DeniedBy(_) => any_yes_for(answers, answer),
+        Verdict::Super | Verdict::AllowedBy(_) | Verdict::NoAllow | Verdict::NoAclFound => false,
+    }
+}
+
+/// Whether `who` lists one of its answers: a yes, or a no by a deny that takes away what another of
+/// them grants. Of the words for all no row speaks, since they ask as all others do.
+pub fn is_told(answers: &[Answer], answer: &Answer) -> bool
+    ensures { result ≡ is_told answers.now answer.now }
+{
+    (answer.verdict.is_granted() || is_taken_away(answers, answer))
         && !(names_all("User:*", &answer.principal) || names_all("*", &answer.host))
 }
 
 #[tactic(auto, using(kob_words::proofs::Appending::appending), unfolding(crate::specs::Review::grant_line))]
-fn push_grant(out: &mut Vec<u8>, judge: &Judge, answer: &Answer) -> Result<(), AllocError>
+fn push_grant<'a>(out: &mut Vec<u8>, judge: &'a Judge, answer: &'a Answer) -> Result<(), AllocError>
     ensures { OnOk result (out.new.items ≡ out.old.items ++ grant_line judge.now answer.now) }
 {
-    out.extend_from_slice(b"  ")?;
-    push_party(out, b"User:* (others)", &answer.principal)?;
-    out.extend_from_slice(b" ")?;
-    push_party(out, b"* (others)", &answer.host)?;
-    out.extend_from_slice(b" ")?;
-    push_reason(out, judge, answer.verdict)?;
-    out.extend_from_slice(b"\n")
+    push_parts(
+        out,
+        &[
+            Part::Words("  "),
+            Part::Party("User:* (others)", &answer.principal),
+            Part::Words(" "),
+            Part::Party("* (others)", &answer.host),
+            Part::Words(" "),
+            Part::Answer(answer.verdict),
+            Part::Origin(origin_by(judge, deciding(answer.verdict))),
+            Part::Words("\n"),
+        ],
+    )
 }
 
 fn push_grants(out: &mut Vec<u8>, judge: &Judge, answers: &[Answer]) -> Result<(), AllocError>
     ensures { OnOk result (out.new.items
-        ≡ out.old.items ++ flat_map (grant_if_told judge.now) answers.now) }
+        ≡ out.old.items ++ told_text judge.now answers.now) }
 {
     for answer in answers {
-        if is_told(answer) {
+        if is_told(answers, answer) {
             push_grant(out, judge, answer)?;
         }
     }
     Ok(())
 }
 
-/// Super users, and then each principal and host to which the right is granted.
+/// Super users, and then each principal and host to which the right is granted, or from which a
+/// deny takes it away.
 #[tactic(auto, using(kob_words::proofs::Appending::appending))]
 fn push_granted(
     alloc: Global,
@@ -166,25 +211,8 @@ fn push_granted(
     push_grants(out, judge, found.as_slice())
 }
 
-/// The same, or that there are none.
-#[tactic(auto, using(kob_words::proofs::Appending::appending, crate::proofs::Remarking::empty_since))]
-fn push_granted_or_none(
-    alloc: Global,
-    out: &mut Vec<u8>,
-    judge: &Judge,
-    right: &Right,
-) -> Result<(), AllocError>
-    ensures { OnOk result
-        (out.new.items ≡ out.old.items ++ or_none (granted_text judge.now right.now)) }
-{
-    let start = out.len();
-    push_granted(alloc, out, judge, right)?;
-    let is_empty = out.len() == start;
-    push_none(out, is_empty)
-}
-
 /// The same, and what is remarked below it.
-#[tactic(auto, using(kob_words::proofs::Appending::appending))]
+#[tactic(auto, using(kob_words::proofs::Appending::appending, crate::proofs::Remarking::empty_since))]
 fn push_who_list(
     alloc: Global,
     out: &mut Vec<u8>,
@@ -193,10 +221,12 @@ fn push_who_list(
 ) -> Result<(), AllocError>
     ensures { OnOk result (out.new.items ≡ out.old.items ++ who_list judge.now right.now) }
 {
-    if judge.is_name_taken(right.resource, right.name.as_str()) {
-        return push_granted_or_none(alloc, out, judge, right);
-    }
+    let start = out.len();
     push_granted(alloc, out, judge, right)?;
+    if judge.is_name_taken(right.resource, right.name.as_str()) {
+        let is_empty = out.len() == start;
+        return push_none(out, is_empty);
+    }
     push_no_taker(alloc, out, judge, right)
 }
 
@@ -235,19 +265,6 @@ pub fn push_who(
 }
 
 #[tactic(auto, using(kob_words::proofs::Appending::appending), unfolding(crate::specs::Review::right_line))]
-fn push_right_line(out: &mut Vec<u8>, right: &Right) -> Result<(), AllocError>
-    ensures { OnOk result (out.new.items ≡ out.old.items ++ right_line right.now) }
-{
-    out.extend_from_slice(b"  ")?;
-    out.extend_from_slice(operation_name(right.operation).as_bytes())?;
-    out.extend_from_slice(b" ")?;
-    out.extend_from_slice(resource_name(right.resource).as_bytes())?;
-    out.extend_from_slice(b" ")?;
-    push_name(out, right.name.as_str())?;
-    out.extend_from_slice(b"\n")
-}
-
-#[tactic(auto, using(kob_words::proofs::Appending::appending))]
 fn push_grants_of(
     alloc: Global,
     out: &mut Vec<u8>,
@@ -256,7 +273,18 @@ fn push_grants_of(
 ) -> Result<(), AllocError>
     ensures { OnOk result (out.new.items ≡ out.old.items ++ grants_text judge.now right.now) }
 {
-    push_right_line(out, right)?;
+    push_parts(
+        out,
+        &[
+            Part::Words("  "),
+            Part::Words(operation_name(right.operation)),
+            Part::Words(" "),
+            Part::Words(resource_name(right.resource)),
+            Part::Words(" "),
+            Part::Name(right.name.as_str()),
+            Part::Words("\n"),
+        ],
+    )?;
     push_who_list(alloc, out, judge, right)
 }
 
@@ -293,8 +321,7 @@ pub fn is_seen(judge: &Judge, asker: &Asker, topic: &Text) -> bool
 fn push_topic(out: &mut Vec<u8>, topic: &Text) -> Result<(), AllocError>
     ensures { OnOk result (out.new.items ≡ out.old.items ++ topic_text topic.now) }
 {
-    out.extend_from_slice(b" ")?;
-    push_name(out, topic.as_str())
+    push_parts(out, &[Part::Words(" "), Part::Name(topic.as_str())])
 }
 
 fn push_topics(

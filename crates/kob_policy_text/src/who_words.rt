@@ -1,8 +1,8 @@
 //! What the words after `who` ask.
 
 ghost use Rattle.std.specs.Prelude.{◌≡◌};
-ghost use Rattle.kob_policy_text.specs.Questions.{right_to_read, who_consumes, who_may, who_produces};
-ghost use Rattle.kob_policy_text.specs.Questions.{has_prefixes, who_below, who_from, who_words};
+ghost use Rattle.kob_policy_text.specs.Questions.{right_to_read, who_consumes, who_produces};
+ghost use Rattle.kob_policy_text.specs.Questions.{has_prefixes, who_from, who_words};
 ghost use Rattle.kob_script.specs.Words.{Gives};
 
 use crate::question::{Question, Right};
@@ -43,18 +43,6 @@ fn who_consumes(alloc: Global, topic: &Word<'_>, group: &Word<'_>) -> Result<Que
     Ok(Question::WhoConsumes(read, joined))
 }
 
-fn who_may(
-    alloc: Global,
-    operation: &Word<'_>,
-    resource: &Word<'_>,
-    name: &Word<'_>,
-) -> Result<Question, LineError>
-    ensures { Gives result (who_may operation.now resource.now name.now) }
-{
-    let right = right_of(alloc, operation, resource, name)?;
-    Ok(Question::Who(right, None))
-}
-
 /// The cluster has one name, and no names that begin with a prefix.
 fn has_prefixes(right: Right) -> Result<Question, LineError>
     ensures { Gives result (has_prefixes right) }
@@ -64,17 +52,6 @@ fn has_prefixes(right: Right) -> Result<Question, LineError>
         return Err(LineError::Fault(FaultKind::BadWord));
     }
     Ok(Question::WhoBelow(right))
-}
-
-fn who_below(
-    alloc: Global,
-    operation: &Word<'_>,
-    resource: &Word<'_>,
-    name: &Word<'_>,
-) -> Result<Question, LineError>
-    ensures { Gives result (who_below operation.now resource.now name.now) }
-{
-    has_prefixes(right_of(alloc, operation, resource, name)?)
 }
 
 fn who_from(
@@ -100,9 +77,12 @@ pub fn who_words(alloc: Global, words: &[Word<'_>]) -> Result<Question, LineErro
         [command, topic, group] if is_word(command, b"consume") => {
             who_consumes(alloc, topic, group)
         }
-        [operation, resource, name] => who_may(alloc, operation, resource, name),
+        [operation, resource, name] => {
+            let right = right_of(alloc, operation, resource, name)?;
+            Ok(Question::Who(right, None))
+        }
         [operation, resource, prefix, name] if is_word(prefix, b"prefix") => {
-            who_below(alloc, operation, resource, name)
+            has_prefixes(right_of(alloc, operation, resource, name)?)
         }
         [operation, resource, name, host] => who_from(alloc, operation, resource, name, host),
         _ => Err(LineError::Fault(FaultKind::BadLine)),

@@ -4,4 +4,4 @@ use Rattle.kob_policy_text.proofs.who.push_grants.Given as goal
 
 abbrev pub invariant-loop-answer : goal.invariant-loop-answer
 invariant-loop-answer l =
-    l.out.items ≡ l.initial.out.items ++ flat_map (grant_if_told l.judge) (take l.answer-index l.answers)
+    l.out.items ≡ l.initial.out.items ++ flat_map (grant_if_told l.judge l.answers) (take l.answer-index l.answers)

@@ -1,7 +1,0 @@
-use Rattle.std.proofs.Common.{flat_map, take, ◌++◌, ◌≡◌}
-use Rattle.kob_policy_text.specs.Removable.{removable_line}
-use Rattle.kob_policy_text.proofs.removable.push_each.Given as goal
-
-abbrev pub invariant-loop-serial : goal.invariant-loop-serial
-invariant-loop-serial l =
-    l.out.items ≡ l.initial.out.items ++ flat_map (removable_line l.judge) (take l.serial-index l.serials)
