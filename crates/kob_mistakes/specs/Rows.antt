@@ -7,7 +7,7 @@ use Rattle.kob_names.specs.Same.{same_resource}
 use Rattle.kob_names.specs.declared.kinds.ResourceKind.{ResourceKind}
 use Rattle.kob_names.specs.declared.kinds.ResourceKind.TheVariants.{Cluster}
 use Rattle.std.specs.Option.{is_some}
-use Rattle.std.specs.Prelude.{ℕ, ◌+◌, ◌==◌, ◌||◌, not, Bool, true, Option, None, Some, List, [], ◌∷◌, codes, if◌then◌else◌, bytes_eq}
+use Rattle.std.specs.Prelude.{ℕ, ◌+◌, ◌==◌, ◌&&◌, ◌||◌, not, Bool, true, Option, None, Some, List, [], ◌∷◌, codes, if◌then◌else◌, bytes_eq}
 use Rattle.std.specs.List.{list_any}
 use Rattle.std.specs.Result.{is_ok}
 
@@ -36,6 +36,10 @@ is_answer word = bytes_eq word (codes "yes") || bytes_eq word (codes "no")
 abbrev pub is_how : List ℕ → Bool
 is_how word = bytes_eq word (codes "idempotent") || bytes_eq word (codes "transactional")
 
+-- a host that asks; * is every host, in bindings alone
+abbrev pub is_host : Word → Bool
+is_host word = not (bytes_eq word.decoded (codes "*")) && is_ok (named_host word)
+
 -- a word may stand at such a place
 abbrev pub fits : Fit → Word → Bool
 fits fit.Act word = true
@@ -45,7 +49,7 @@ fits fit.Name word = true
 fits fit.Id word = true
 fits fit.Prefix word = bytes_eq word.decoded (codes "prefix")
 fits fit.Principal word = is_ok (named_principal word)
-fits fit.Host word = is_ok (named_host word)
+fits fit.Host word = is_host word
 fits fit.Operation word = is_operation word.decoded
 fits fit.Resource word = is_resource word.decoded
 fits fit.ManyNamed word = is_many_named word.decoded

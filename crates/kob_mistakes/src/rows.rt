@@ -4,7 +4,7 @@ ghost use Rattle.std.specs.Prelude.{◌≡◌, ◌≤◌, IfOk, length};
 ghost use Rattle.std.specs.Result.{is_ok};
 ghost use Rattle.kob_script.specs.Words.{named_host, named_principal};
 ghost use Rattle.kob_mistakes.specs.Rows.{fits, is_answer, is_how, is_listed, is_many_named};
-ghost use Rattle.kob_mistakes.specs.Rows.{is_operation, is_resource, misfit};
+ghost use Rattle.kob_mistakes.specs.Rows.{is_host, is_operation, is_resource, misfit};
 
 use kob_names::ResourceKind;
 use kob_script::{LineError, Word, host_of, lent_text_of, principal_of};
@@ -112,8 +112,11 @@ fn is_principal(alloc: Global, word: &Word<'_>) -> Result<bool, AllocError>
 }
 
 fn is_host(alloc: Global, word: &Word<'_>) -> Result<bool, AllocError>
-    ensures { IfOk result (λ is. is ≡ is_ok (named_host word.now)) }
+    ensures { IfOk result (λ is. is ≡ is_host word.now) }
 {
+    if word.decoded() == b"*".as_slice() {
+        return Ok(false);
+    }
     let Ok(text) = lent_text_of(word) else {
         return Ok(false);
     };
