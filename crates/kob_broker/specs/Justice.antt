@@ -6,11 +6,11 @@ use Rattle.kob_rights.specs.declared.code.Code.TheVariants.{ClusterAuthorization
 use Rattle.kob_names.specs.declared.batch.Idem.{Idem}
 use Rattle.kob_rights.specs.declared.request.Request.TheVariants as requests
 use Rattle.std.specs.Option.{option_map}
-use Rattle.kob_rights.specs.declared.reason.Reason.TheVariants.{OffsetsSpent, ProducerIdsSpent, SerialsSpent}
+use Rattle.kob_rights.specs.declared.reason.Reason.TheVariants as reasons
 use Rattle.kob_rights.specs.declared.reply.Body.TheVariants.{Groups, Topics}
 use Rattle.kob_rights.specs.declared.request.Request.TheVariants.{ListGroups}
 use Rattle.kob_broker.specs.Denial.{Check, Denied, Done, Refused, Verdict, denial_code, describes_cluster, describes_group, describes_topic, is_granted, question, rights, verdict}
-use Rattle.kob_broker.specs.State.{Contents, Event, Meaning, Reason, Reply, Request, State, listed, with_bindings, without_taken, IsTrueVerdict, group_names, AddBindings, Append, GiveProducerId, RemoveBindings, Write, write_of}
+use Rattle.kob_broker.specs.State.{Contents, Event, Meaning, Reason, Reply, Request, State, listed, with_bindings, without_taken, IsTrueVerdict, group_names, AddBindings, AddTopic, AdvanceStart, Append, CommitOffset, GiveProducerId, RemoveBindings, RemoveGroup, RemoveTopic, Write, write_of}
 use Rattle.kob_broker.specs.Step.{replies_of, state_after, step}
 use Rattle.kob_broker.specs.Topics.{metadata_request}
 
@@ -18,7 +18,14 @@ use Rattle.kob_broker.specs.Topics.{metadata_request}
 abbrev pub changed_access : Option Write → Contents → Contents
 changed_access (Some (AddBindings create)) access = with_bindings create.drafts access
 changed_access (Some (RemoveBindings delete)) access = without_taken delete.filter access
-changed_access _ access = access
+changed_access (Some (Append produce)) access = access
+changed_access (Some (CommitOffset commit)) access = access
+changed_access (Some (RemoveGroup delete)) access = access
+changed_access (Some (AddTopic create)) access = access
+changed_access (Some (RemoveTopic delete)) access = access
+changed_access (Some (AdvanceStart delete)) access = access
+changed_access (Some GiveProducerId) access = access
+changed_access None access = access
 
 -- they are changed by what was done, and by nothing else
 abbrev pub access_after : Reply → Request → Contents → Contents
@@ -196,7 +203,13 @@ abbrev pub asked_of : Option Write → ℕ
 asked_of (Some (Append produce)) = length produce.batch.records
 asked_of (Some (AddBindings create)) = length create.drafts
 asked_of (Some GiveProducerId) = 1
-asked_of _ = 0
+asked_of (Some (CommitOffset commit)) = 0
+asked_of (Some (RemoveGroup delete)) = 0
+asked_of (Some (AddTopic create)) = 0
+asked_of (Some (RemoveTopic delete)) = 0
+asked_of (Some (AdvanceStart delete)) = 0
+asked_of (Some (RemoveBindings delete)) = 0
+asked_of None = 0
 
 abbrev pub asked_in : List Event → ℕ
 asked_in [] = 0
@@ -204,10 +217,31 @@ asked_in (event ∷ events) = asked_of (write_of event.request) + asked_in event
 
 -- no offset, producer id or serial is left
 abbrev pub is_spent : Reason → Bool
-is_spent OffsetsSpent = true
-is_spent ProducerIdsSpent = true
-is_spent SerialsSpent = true
-is_spent _ = false
+is_spent reasons.OffsetsSpent = true
+is_spent reasons.ProducerIdsSpent = true
+is_spent reasons.SerialsSpent = true
+is_spent reasons.UnknownTopic = false
+is_spent reasons.UnknownPartition = false
+is_spent reasons.NoRecords = false
+is_spent reasons.TooManyRecords = false
+is_spent reasons.TooLarge = false
+is_spent reasons.OutOfRange = false
+is_spent reasons.BadTopicName = false
+is_spent reasons.TopicExists = false
+is_spent reasons.BadPartitions = false
+is_spent reasons.TooManyTopics = false
+is_spent reasons.EmptyName = false
+is_spent reasons.BadCluster = false
+is_spent reasons.NameTooLong = false
+is_spent reasons.TooManyBindings = false
+is_spent reasons.BadSequence = false
+is_spent reasons.UnknownProducer = false
+is_spent reasons.OldEpoch = false
+is_spent reasons.OutOfOrder = false
+is_spent reasons.BadGroupName = false
+is_spent reasons.BadOffset = false
+is_spent reasons.TooManyGroups = false
+is_spent reasons.GroupNotFound = false
 
 -- the reply doesn't say that a limit is spent
 abbrev pub SaysNothingSpent : Reply → Type 0

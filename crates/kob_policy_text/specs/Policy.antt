@@ -98,11 +98,15 @@ closing_of binding = record {
   pattern = binding.pattern;
 }
 
+abbrev pub with_closed : Policy → Binding → Policy
+with_closed policy closing = record policy { closings = policy.closings ++ closing ∷ [] }
+
 -- A binding that is left out still closes its pattern where everyone may do what no binding
 -- matches; one on a kind of resource that is not supported has no pattern here.
 abbrev pub with_closing : Policy → LeftOut → Binding → Policy
 with_closing policy left_out.Resource closing = policy
-with_closing policy _ closing = record policy { closings = policy.closings ++ closing ∷ [] }
+with_closing policy left_out.Principal closing = with_closed policy closing
+with_closing policy left_out.Operation closing = with_closed policy closing
 
 -- a binding whose pattern's name is one that a binding may have
 abbrev pub binding_of : Binding → Result Binding FaultKind
@@ -287,4 +291,6 @@ first_place None stands more = if stands then Some more else None
 abbrev pub deciding : Verdict → Option ℕ
 deciding (verdict.DeniedBy serial) = Some serial
 deciding (verdict.AllowedBy serial) = Some serial
-deciding _ = None
+deciding verdict.Super = None
+deciding verdict.NoAllow = None
+deciding verdict.NoAclFound = None

@@ -96,7 +96,10 @@ is_yes_for answer other =
 -- a deny takes away what another answer grants
 abbrev pub is_taken_away : Verdict → List Answer → Answer → Bool
 is_taken_away (verdict.DeniedBy serial) answers answer = list_any (is_yes_for answer) answers
-is_taken_away _ answers answer = false
+is_taken_away verdict.Super answers answer = false
+is_taken_away (verdict.AllowedBy serial) answers answer = false
+is_taken_away verdict.NoAllow answers answer = false
+is_taken_away verdict.NoAclFound answers answer = false
 
 -- a yes, or a no that is an exception to one; the words for all ask as all others do
 abbrev pub is_told : List Answer → Answer → Bool

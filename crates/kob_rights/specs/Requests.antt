@@ -74,7 +74,16 @@ partition_named (requests.Fetch fetch) = Some (fetch.topic, fetch.partition)
 partition_named (requests.ListOffsets asked) = Some (asked.topic, asked.partition)
 partition_named (requests.OffsetCommit commit) = Some (commit.topic, commit.partition)
 partition_named (requests.DeleteRecords delete) = Some (delete.topic, delete.partition)
-partition_named _ = None
+partition_named (requests.Metadata asked) = None
+partition_named (requests.OffsetFetch asked) = None
+partition_named requests.ListGroups = None
+partition_named (requests.DeleteGroups delete) = None
+partition_named (requests.CreateTopics create) = None
+partition_named (requests.DeleteTopics delete) = None
+partition_named requests.InitProducerId = None
+partition_named (requests.DescribeAcls asked) = None
+partition_named (requests.CreateAcls create) = None
+partition_named (requests.DeleteAcls delete) = None
 
 -- a request of a kind that writes
 pub data Write : Type 0 where
@@ -99,4 +108,9 @@ write_of (requests.DeleteRecords delete) = Some (AdvanceStart delete)
 write_of requests.InitProducerId = Some GiveProducerId
 write_of (requests.CreateAcls create) = Some (AddBindings create)
 write_of (requests.DeleteAcls delete) = Some (RemoveBindings delete)
-write_of _ = None
+write_of (requests.Fetch fetch) = None
+write_of (requests.ListOffsets asked) = None
+write_of (requests.Metadata asked) = None
+write_of (requests.OffsetFetch asked) = None
+write_of requests.ListGroups = None
+write_of (requests.DescribeAcls asked) = None
