@@ -1,5 +1,5 @@
 -- One call of a connection, and what all its calls make of each server.
-use Rattle.kob_lines.proofs.Words.{All-append, All-cons, All-nil, ArePassedOn, AreServed, Call, Delivered, Delivery, Event, Fits, GainsAtMost, GoesOnBy, IsEntryOf, IsHeardOf, IsJournaled, IsMadeBelow, IsSent, IsServedIfHeard, IsServedInSession, Journals, KeepsSeat, List, Loss, Lost, MakesCalls, None, Option, PassesCallsOn, PassesOn, Record, Reply, Request, Retained, Seat, ServesAs, ServesEach, Settings, Some, [], added_append, after_event, ap, append-nil, arith, calls_are_made, each_gives, entry, event_by, false, inl, inr, map, map-append, nat_tests, no_call_is_made, outcome_of, refl, reply_fits, reply_of, retained_meaning, Served, served_in, step, subst, sym, ℕ, ◌++◌, ◌+◌, ◌∙◌, ◌∷◌, ◌≡◌, ◌⊎◌}
+use Rattle.kob_lines.proofs.Words.{All-append, All-cons, All-nil, ArePassedOn, AreServed, Call, Delivered, Delivery, Event, Fits, GainsAtMost, IsEntryOf, IsHeardOf, IsJournaled, IsSent, IsServedIfHeard, IsServedInSession, Journals, KeepsSeat, List, Loss, Lost, MakesCalls, None, Option, PassesCallsOn, PassesOn, Record, Reply, Request, Retained, Seat, ServesAs, ServesEach, Settings, Some, [], added_append, after_event, ap, append-nil, arith, calls_are_made, each_gives, entry, event_by, false, inl, inr, map, map-append, nat_tests, no_call_is_made, outcome_of, refl, reply_fits, reply_of, retained_meaning, Served, served_in, step, subst, sym, ℕ, ◌++◌, ◌∙◌, ◌∷◌, ◌≡◌, ◌⊎◌}
 use Rattle.kob_broker.specs.State.{State}
 use Rattle.kob_lines.specs.Servers.{ServesLossy, ServesRecorded}
 use Rattle.kob_lines.specs.declared.lossy.Loss.TheVariants as losses
@@ -23,6 +23,15 @@ module _ {S : Type 0} (serves : S → S → Request → Option Reply → Type 0)
     made = record { request = request; heard = reply_of delivery } ∷ [];
     added = noted;
     served = (new, heard_as heard delivery served told, refl);
+  }
+
+  -- a call that the server refused is not made
+  pub no_call_of_it : (calls then_calls : List Call) → then_calls ≡ calls → new ≡ old
+      → MakesCalls serves old new calls then_calls
+  no_call_of_it calls then_calls same kept = record {
+    made = [];
+    added = same ∙ sym (append-nil calls);
+    served = kept;
   }
 
   -- and sent

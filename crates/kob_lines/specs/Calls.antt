@@ -161,6 +161,11 @@ abbrev pub reply_of : Delivery → Option Reply
 reply_of (Delivered reply) = Some reply
 reply_of Lost = None
 
+-- why a call has no reply, after the server's answer: its fault, if it returned one
+abbrev pub fault_kept : Option CallFault → Result (Option Reply) CallFault → Option CallFault
+fault_kept fault (Ok there) = fault
+fault_kept fault (Err refused) = Some refused
+
 -- why a call has no reply, after it was noted: a reply that was there could not be kept
 abbrev pub fault_after : Option CallFault → Option Reply → Delivery → Option CallFault
 fault_after fault None delivery = fault

@@ -78,9 +78,11 @@ impl<'a> BrokerServer<'a> {
 }
 
 impl<'a> Serve for BrokerServer<'a> {
-    ghost use Rattle.kob_lines.specs.Servers.{ServesBroker};
+    ghost use Rattle.kob_lines.specs.Servers.{RefusesBroker, ServesBroker};
 
     ghost serves = { ServesBroker };
+
+    ghost refuses = { RefusesBroker };
 
     fn serve(&mut self, alloc: Global, request: Request) -> Result<Option<Reply>, CallFault> {
         match self.call(alloc, request) {

@@ -17,8 +17,8 @@ use std::alloc::{AllocError, Global};
 #[derive(Drop)]
 pub struct Calls {
     pub made: Vec<Call>,
-    /// How many calls were not made, since there was no memory to note them, counted up to
-    /// 18,446,744,073,709,551,615.
+    /// How many calls were not made, since there was no memory to note them or no entry left in the
+    /// journal, counted up to 18,446,744,073,709,551,615.
     pub unmade: u64,
     /// Why the last call has no reply: it was not made or not served, or its reply could not be
     /// kept. `None` if a reply was received, or lost on purpose.
@@ -56,11 +56,20 @@ impl Calls {
                 Some(noted)
             }
             Err(refused) => {
-                self.unmade = self.unmade.saturating_add(1);
-                self.fault = Some(CallFault::Memory(refused));
+                self.refuse(CallFault::Memory(refused));
                 None
             }
         }
+    }
+
+    /// Counts a call that was not made, and keeps why. Does not allocate.
+    pub fn refuse(&mut self, fault: CallFault)
+        ensures made { self.new.made.items ≡ self.old.made.items }
+        ensures counted { self.new.unmade ≡ one_more self.old.unmade }
+        ensures fault { self.new.fault ≡ Some fault }
+    {
+        self.unmade = self.unmade.saturating_add(1);
+        self.fault = Some(fault);
     }
 
     /// Notes a call, for which capacity is reserved, with its reply, if one was received. If there

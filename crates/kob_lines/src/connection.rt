@@ -1,7 +1,8 @@
 //! A line over anything that serves requests.
 
-ghost use Rattle.std.specs.Prelude.{◌≡◌, [], None, IfSome, Option, Some};
-ghost use Rattle.kob_lines.specs.Calls.{IsSent, MakesCalls, ServesAs, reply_in};
+ghost use Rattle.std.specs.Prelude.{◌≡◌, ◌≢◌, [], None, IfErr, IfSome, IsErrOf, Option, Some};
+ghost use Rattle.std.specs.Prelude.{◌⊎◌, alloc_error};
+ghost use Rattle.kob_lines.specs.Calls.{IsSent, MakesCalls, fault_kept, reply_in};
 ghost use Rattle.kob_rights.specs.Requests.{Fits, OffsetsWithin};
 ghost use Rattle.kob_router.specs.Line.{Adds, IsFaithful};
 
@@ -16,15 +17,23 @@ use std::alloc::Global;
 pub trait Serve {
     ghost use Rattle.kob_rights.specs.declared.reply.Reply.{Reply};
     ghost use Rattle.kob_rights.specs.declared.request.Request.{Request};
+    ghost use Rattle.kob_shared.specs.declared.faults.CallFault.{CallFault};
 
     /// What serving a request makes of the server, and of which reply. Nothing is known of a server
     /// that does not say it.
     ghost serves: { Self → Self → Request → Option Reply → Type 0 } = { λ _ _ _ _. Unit {0} };
 
+    /// When serving a request ends with which fault. Nothing is known of a server that does not say
+    /// it.
+    ghost refuses: { Self → Request → CallFault → Type 0 } = { λ _ _ _. Unit {0} };
+
     /// Serves a request, and returns the reply. `Ok(None)` is returned if no reply was received. Then
-    /// the request may have been served, or not. The error is the fault that the connection keeps.
+    /// the request may have been served, or not. The error is the fault that the connection keeps;
+    /// after `JournalFull` the request was not served.
     fn serve(&mut self, alloc: Global, request: Request) -> Result<Option<Reply>, CallFault>
-        ensures { serves self.old self.new request (reply_in result) };
+        ensures served { serves self.old self.new request (reply_in result) }
+        ensures refused { IfErr result (refuses self.old request) }
+        ensures full { IsErrOf result CallFault.JournalFull → self.new ≡ self.old };
 }
 
 /// A line: it notes each call that is made of a server. A reply that can't be one to the request
@@ -58,23 +67,6 @@ impl<S: Serve> Connection<S> {
         let Connection { server, calls } = self;
         (server, calls.made)
     }
-
-    /// Lets the server serve a request, and keeps why there is no reply.
-    fn hear(&mut self, alloc: Global, noted: &Request, request: Request) -> Option<Reply>
-        ensures made { self.new.calls.made ≡ self.old.calls.made }
-        ensures unmade { self.new.calls.unmade ≡ self.old.calls.unmade }
-        ensures served { ServesAs S.serves self.old.server self.new.server request result }
-        ensures fits { IfSome result (λ reply. Fits noted.now reply) }
-        ensures within { IfSome result (λ reply. OffsetsWithin reply) }
-    {
-        match self.server.serve(alloc, request) {
-            Ok(there) => received(noted, there),
-            Err(fault) => {
-                self.calls.fault = Some(fault);
-                None
-            }
-        }
-    }
 }
 
 impl<S: Serve> Line for Connection<S> {
@@ -88,7 +80,8 @@ impl<S: Serve> Line for Connection<S> {
     ghost becomes = { λ old new. MakesCalls S.serves old.server new.server
         old.calls.made.items new.calls.made.items };
 
-    /// Makes a call of the server.
+    /// Makes a call of the server, and notes it. A call for which there was no entry left in the
+    /// journal is counted among those that were not made.
     #[tactic(auto, using(crate::proofs::Adding::one_call_is_made, crate::proofs::Adding::sent))]
     fn send(&mut self, alloc: Global, request: Request) -> Delivery
         ensures added { Adds self.old.calls.made.items self.new.calls.made.items
@@ -98,12 +91,24 @@ impl<S: Serve> Line for Connection<S> {
             self.old.calls.made.items self.new.calls.made.items }
         ensures served { IsSent S.serves self.old.server self.new.server
             self.old.calls.unmade self.new.calls.unmade request result }
+        ensures fault { result ≢ Delivery.Lost → self.new.calls.fault ≡ None }
+        ensures refused { IfSome self.new.calls.fault (λ fault.
+            (fault ≡ CallFault.Memory alloc_error) ⊎ S.refuses self.old.server request fault) }
+        ensures full { self.new.calls.fault ≡ Some CallFault.JournalFull
+            → self.new.calls.made.items ≡ self.old.calls.made.items }
     {
         let Some(noted) = self.calls.room_for(alloc, &request) else {
             drop(request);
             return Delivery::Lost;
         };
-        let heard = self.hear(alloc, &noted, request);
+        let answer = self.server.serve(alloc, request);
+        if let Err(CallFault::JournalFull) = answer {
+            drop(answer);
+            drop(noted);
+            self.calls.refuse(CallFault::JournalFull);
+            return Delivery::Lost;
+        }
+        let heard = heard(&mut self.calls, &noted, answer);
         self.calls.note(alloc, noted, heard)
     }
 
@@ -119,6 +124,26 @@ impl<S: Serve> Line for Connection<S> {
 
     ghost goes_on = { λ a b c. calls_are_made S.serves a.server b.server c.server
         a.calls.made.items b.calls.made.items c.calls.made.items };
+}
+
+/// The reply that a server returned, if it may be one to the request. A fault is kept.
+fn heard(
+    calls: &mut Calls,
+    request: &Request,
+    answer: Result<Option<Reply>, CallFault>,
+) -> Option<Reply>
+    ensures same { IfSome result (λ reply. reply_in answer ≡ Some reply) }
+    ensures fits { IfSome result (λ reply. Fits request.now reply) }
+    ensures within { IfSome result (λ reply. OffsetsWithin reply) }
+    ensures kept { calls.new ≡ record calls.old { fault = fault_kept calls.old.fault answer } }
+{
+    match answer {
+        Ok(there) => received(request, there),
+        Err(fault) => {
+            calls.fault = Some(fault);
+            None
+        }
+    }
 }
 
 /// The reply, if it may be one to the request.

@@ -67,6 +67,8 @@ impl<L: Line> Serve for LossyServer<L> {
     ghost serves = { λ old new request there. ServesLossy L.becomes L.calls L.unmade
         old.loss new.loss old.line new.line request there };
 
+    ghost refuses = { λ _ _ _. ⊥ };
+
     /// Makes a call of the line, unless it is lost before. Returns the reply, unless it is lost.
     fn serve(&mut self, alloc: Global, request: Request) -> Result<Option<Reply>, CallFault> {
         let loss = self.loss;

@@ -72,6 +72,7 @@ impl<'a> RecordedServer<'a> {
         ensures stale { IfErr result (IsStaleOnlyBelow 0) }
         ensures full { IsErrOf result CallFault.JournalFull
             → length self.old.recorded.now.journal ≡ self.old.recorded.now.limit }
+        ensures same { IsErrOf result CallFault.JournalFull → self.new ≡ self.old }
         ensures fits { IfOk result (λ reply. Fits request reply) }
         ensures offsets { IfOk result (λ reply. OffsetsWithin reply) }
     {
@@ -87,9 +88,11 @@ impl<'a> RecordedServer<'a> {
 }
 
 impl<'a> Serve for RecordedServer<'a> {
-    ghost use Rattle.kob_lines.specs.Servers.{ServesRecorded};
+    ghost use Rattle.kob_lines.specs.Servers.{RefusesRecorded, ServesRecorded};
 
     ghost serves = { ServesRecorded };
+
+    ghost refuses = { RefusesRecorded };
 
     fn serve(&mut self, alloc: Global, request: Request) -> Result<Option<Reply>, CallFault> {
         match self.call(alloc, request) {

@@ -33,10 +33,13 @@ impl<'a, R: Wait> Connection<SessionServer<'a, R>> {
 
 impl<'a, R: Wait> Serve for SessionServer<'a, R> {
     ghost use Rattle.kob_lines.specs.Calls.{IsServedInSession};
+    ghost use Rattle.kob_shared.specs.Journals.{IsStaleOnlyBelow};
 
     /// As [`Session::call`] does.
     ghost serves = { λ old new request there.
         IsServedInSession old.session new.session request there };
+
+    ghost refuses = { λ old request fault. IsStaleOnlyBelow old.session.seen fault };
 
     fn serve(&mut self, alloc: Global, request: Request) -> Result<Option<Reply>, CallFault> {
         match self.session.call(self.rt, alloc, request) {
