@@ -1,5 +1,6 @@
 -- What ends a scene before its last step, by what ended a part of a step.
-use Rattle.std.specs.Prelude.{Option, Some, None}
+use Rattle.std.specs.Prelude.{Bool, true, false, Option, Some, None, Result, Ok, Err}
+use Rattle.std.specs.Option.{option_map}
 use Rattle.kob_inbox.specs.declared.fault.InboxFault.{InboxFault}
 use Rattle.kob_inbox.specs.declared.fault.InboxFault.TheVariants as of_inbox
 use Rattle.kob_inbox.specs.declared.tick.StopReason.TheVariants as consumer_stop
@@ -11,7 +12,7 @@ use Rattle.kob_router.specs.declared.tick.StopReason.TheVariants as service_stop
 use Rattle.kob_router.specs.declared.tick.Tick.{Tick as ServiceTick}
 use Rattle.kob_router.specs.declared.tick.Tick.TheVariants as service_tick
 use Rattle.kob_scene_play.specs.declared.fault.PlayFault.{PlayFault}
-use Rattle.kob_scene_play.specs.declared.fault.PlayFault.TheVariants.{Memory, JournalFull, Store}
+use Rattle.kob_scene_play.specs.declared.fault.PlayFault.TheVariants.{Memory, JournalFull, NotLost, Store}
 use Rattle.kob_shared.specs.declared.faults.CallFault.{CallFault}
 use Rattle.kob_shared.specs.declared.faults.CallFault.TheVariants as of_call
 
@@ -19,6 +20,17 @@ abbrev pub fault_of_call : CallFault → PlayFault
 fault_of_call (of_call.Memory e) = Memory e
 fault_of_call of_call.JournalFull = JournalFull
 fault_of_call (of_call.Stale length) = JournalFull
+
+-- the fault that a line keeps itself, or else that of the line below
+abbrev pub line_fault : Option CallFault → Option CallFault → Option PlayFault
+line_fault (Some fault) below = Some (fault_of_call fault)
+line_fault None below = option_map fault_of_call below
+
+-- a step that failed has no result, nor one whose loss was not as it was set
+abbrev pub unless_failed : {T : Type 0} → Option PlayFault → Bool → T → Result T PlayFault
+unless_failed (Some fault) is_lost answer = Err fault
+unless_failed None true answer = Ok answer
+unless_failed None false answer = Err NotLost
 
 abbrev pub fault_of_outbox : OutboxFault → PlayFault
 fault_of_outbox (of_outbox.Memory e) = Memory e

@@ -1,7 +1,8 @@
 //! What ends a scene before its last step.
 
-ghost use Rattle.std.specs.Prelude.{◌≡◌, IfOk, IsTrue, OnOk, true};
+ghost use Rattle.std.specs.Prelude.{◌≡◌, IsTrue, true};
 ghost use Rattle.kob_scene_play.specs.Asked.{HasLoss};
+ghost use Rattle.kob_scene_play.specs.Faults.{line_fault, unless_failed};
 ghost use Rattle.kob_scene_play.specs.Steps.{LosesFirst};
 
 use kob_inbox::InboxFault;
@@ -105,7 +106,9 @@ impl From<InboxFault> for PlayFault {
 
 /// Why the last call of a line has no reply, if no loss was set for it, by what it says itself and
 /// what the line below it says.
-pub(crate) fn line_fault(own: Option<CallFault>, below: Option<CallFault>) -> Option<PlayFault> {
+pub(crate) fn line_fault(own: Option<CallFault>, below: Option<CallFault>) -> Option<PlayFault>
+    ensures { result ≡ line_fault own below }
+{
     match own.or(below) {
         Some(fault) => Some(fault.into()),
         None => None,
@@ -144,8 +147,7 @@ pub(crate) fn unless<T: Drop>(
     is_lost: bool,
     answer: T,
 ) -> Result<T, PlayFault>
-    ensures same { IfOk result (λ given. given ≡ answer) }
-    ensures lost { OnOk result (IsTrue is_lost) }
+    ensures { result ≡ unless_failed fault is_lost answer }
 {
     match fault {
         None if is_lost => Ok(answer),

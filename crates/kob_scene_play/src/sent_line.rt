@@ -21,11 +21,13 @@ pub(crate) struct SentServer<'a> {
 pub(crate) type SentLine<'a> = Connection<SentServer<'a>>;
 
 impl<'a> Serve for SentServer<'a> {
-    ghost use Rattle.kob_lines.specs.Servers.{ServesRecorded};
+    ghost use Rattle.kob_lines.specs.Servers.{RefusesRecorded, ServesRecorded};
 
     /// The broker serves the request at once, as it is sent.
     ghost serves = { λ old new request there. (new.is_bare ≡ old.is_bare)
         × ServesRecorded old.below new.below (asked_as old.is_bare request) there };
+
+    ghost refuses = { λ old request fault. RefusesRecorded old.below request fault };
 
     fn serve(&mut self, alloc: Global, request: Request) -> Result<Option<Reply>, CallFault> {
         self.below.serve(alloc, asked_as(self.is_bare, request))
