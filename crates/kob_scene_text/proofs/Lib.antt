@@ -7,6 +7,7 @@ pub mod ReadBackLine
 pub mod ReadBackProduce
 pub mod ReadBackRecords
 pub mod ReadBackRequests
+pub mod ReadBackScenes
 pub mod ReadBackTexts
 pub mod ReadBackWords
 pub mod SceneLines

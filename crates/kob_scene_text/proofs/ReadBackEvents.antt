@@ -50,11 +50,14 @@ begins_by false byte n rest same =
     let next : 1 + n ≡ suc n = omega arith in
     let user = rw next at same in grind (arith, nat_tests)
 
+pub begins_so : (byte : ℕ) (rest : List ℕ) → principal_fault (byte ∷ rest) ≡ None → byte ≡ 85
+begins_so byte rest valid =
+    let user = user_by (is_none (position is_colon (byte ∷ rest))) (bytes_eq (before_first is_colon (byte ∷ rest)) (codes "User")) _ valid in
+    begins_by (is_colon byte) byte (position_or_len is_colon rest) rest user
+
 pub begins : (text : List ℕ) → principal_fault text ≡ None → bytes_text text ≡ 85 ∷ bytes_text (drop 1 text)
 begins [] valid = absurd cc
-begins (byte ∷ rest) valid =
-    let user = user_by (is_none (position is_colon (byte ∷ rest))) (bytes_eq (before_first is_colon (byte ∷ rest)) (codes "User")) _ valid in
-    ap (λ first. bytes_text (first ∷ rest)) (begins_by (is_colon byte) byte (position_or_len is_colon rest) rest user)
+begins (byte ∷ rest) valid = ap (λ first. bytes_text (first ∷ rest)) (begins_so byte rest valid)
 
 -- The words of a line that name a principal and a host, and then ask for a request.
 
@@ -103,18 +106,27 @@ module _ (answer : Option CliArgs) (who from : Word) (principal host : List ℕ)
       ∙ ap (λ read. asked_for (Ok principal) read (requests_by answer asked.name asked.words)) is_from
       ∙ ap (asked_for (Ok principal) (Ok host)) requests_read
 
-pub event_back : (event : Event) → IsPrincipal event.principal → IsHost event.host → IsAsked event.request
-    → ReadsBack event
-event_back event who from asked answer =
-    let request : List Word = plain_word asked.name ∷ asked.words in
-    let words : List Word = text_word event.principal ∷ text_word event.host ∷ request in
-    let printed : event_text event ≡ line_of words =
-    ap (λ text. spaced event.principal ++ spaced event.host ++ text) asked.printed
-    ∙ append_assoc (spaced event.principal) (spaced event.host) (line_of request) in
-    let read : words_of (line_of words) ≡ Ok words =
-    words_read 85 (bytes_text (drop 1 event.principal)) (text_word event.principal) (text_word event.host ∷ request)
-    (begins event.principal who.valid) refl refl
-    (principal_is_word event.principal who, (host_is_word event.host from, asked.are)) in
-    ap (λ text. words_of text >>= events_of answer) printed ∙ ap (λ found. found >>= events_of answer) read
-    ∙ events_read answer (text_word event.principal) (text_word event.host) event.principal event.host event.request asked
-    (principal_read (text_word event.principal) who) (host_read (text_word event.host) from)
+module _ (event : Event) (who : IsPrincipal event.principal) (from : IsHost event.host) (asked : IsAsked event.request) where
+  abbrev pub behind : List Word
+  behind = text_word event.host ∷ plain_word asked.name ∷ asked.words
+
+  -- the words of the line
+  pub words_back : words_of (event_text event) ≡ Ok (text_word event.principal ∷ behind)
+  words_back =
+      let request : List Word = plain_word asked.name ∷ asked.words in
+      let printed : event_text event ≡ line_of (text_word event.principal ∷ behind) =
+      ap (λ text. spaced event.principal ++ spaced event.host ++ text) asked.printed
+      ∙ append_assoc (spaced event.principal) (spaced event.host) (line_of request) in
+      ap words_of printed
+      ∙ words_read 85 (bytes_text (drop 1 event.principal)) (text_word event.principal) behind
+      (begins event.principal who.valid) refl refl
+      (principal_is_word event.principal who, (host_is_word event.host from, asked.are))
+
+  -- what they ask for
+  pub asked_back : (answer : Option CliArgs) → events_of answer (text_word event.principal ∷ behind) ≡ Ok (event ∷ [])
+  asked_back answer =
+      events_read answer (text_word event.principal) (text_word event.host) event.principal event.host event.request asked
+      (principal_read (text_word event.principal) who) (host_read (text_word event.host) from)
+
+  pub event_back : ReadsBack event
+  event_back answer = ap (λ found. found >>= events_of answer) words_back ∙ asked_back answer

@@ -15,7 +15,7 @@ one_draft [] is = absurd is
 one_draft (draft ∷ []) is = create_acl draft is
 one_draft (draft ∷ other ∷ drafts) is = absurd is
 
-is_asked : (request : Request) → IsWritten request → IsAsked request
+pub is_asked : (request : Request) → IsWritten request → IsAsked request
 is_asked (ask.Produce p) is = produce p is.0 is.1 is.2 is.3
 is_asked (ask.Fetch f) is = fetch f is.0 is.1 is.2 is.3
 is_asked (ask.ListOffsets o) is = list_offsets o is.0 is.1

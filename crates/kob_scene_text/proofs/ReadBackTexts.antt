@@ -1,9 +1,8 @@
 -- The bytes of a text in UTF-8 are bytes.
-use Rattle.kob_scene_text.proofs.Words.{Bool, List, [], ap, arith, false, nat_lt, nat_tests, refl, subst, true, ℕ, ◌++◌, ◌+◌, ◌∙◌, ◌∷◌, ◌≡◌}
-use Rattle.std.proofs.Common.{ltb, ltb-true, cond, ◌&&◌, ◌%◌, ◌/◌, ◌<◌, ◌≤◌}
+use Rattle.kob_scene_text.proofs.Words.{Bool, List, [], arith, false, nat_lt, nat_tests, refl, subst, true, ℕ, ◌+◌, ◌∙◌, ◌∷◌, ◌≡◌}
+use Rattle.std.proofs.Common.{ltb, ltb-true, cond, ◌/◌, ◌<◌, ◌≤◌}
 use Rattle.std.proofs.lemmas.List.Folds.{list_all-append}
 use Rattle.std.proofs.lemmas.Str.{IsUtf8-from_is_utf8}
-use Rattle.std.specs.List.{list_all}
 use Rattle.std.specs.Str.{is_utf8}
 use Rattle.kob_scene_text.specs.Rereading.{AreBytes}
 use Rattle.kob_words.proofs.Choices.{both}

@@ -1,8 +1,8 @@
--- Which events a script can write, so that what a journal prints of one is read back as that event.
+-- Which events and bindings a script can write, so that what is printed of one is read back as it.
 -- Not among them are a batch with headers, which aren't printed; a creation of several bindings or
 -- of none, whose printed form no line has (an `acl` line asks for several by its options); and a
 -- name without a byte, since each word has one.
-use Rattle.std.specs.Prelude.{◌≡◌, ◌⊎◌, ◌<◌, ◌^◌, ℕ, List, [], ◌∷◌, Option, None, Some, Ok, length, nat_lt, true, is_some}
+use Rattle.std.specs.Prelude.{◌≡◌, ◌⊎◌, ◌<◌, ◌^◌, ◌++◌, ℕ, List, [], ◌∷◌, Option, None, Some, Ok, codes, length, nat_lt, true, is_some}
 use Rattle.std.specs.List.{AllByRecursion, list_all}
 use Rattle.std.specs.Str.{is_utf8}
 use Rattle.kob_acl_cli.specs.declared.args.CliArgs.{CliArgs}
@@ -16,14 +16,28 @@ use Rattle.kob_rights.specs.declared.on_partitions.Before.{Before}
 use Rattle.kob_rights.specs.declared.on_partitions.Before.TheVariants as bounds
 use Rattle.kob_rights.specs.declared.request.Request.{Request}
 use Rattle.kob_rights.specs.declared.request.Request.TheVariants as requests
-use Rattle.kob_script.specs.CommandLines.{events_of}
+use Rattle.kob_script.specs.CommandLines.{draft_of, events_of}
 use Rattle.kob_script.specs.Words.{words_of, ◌>>=◌}
 use Rattle.kob_scene_text.specs.PrintedRequest.{event_text}
+use Rattle.kob_scene_text.specs.Scenes.{Seen, asked, with_line, with_steps}
+use Rattle.kob_words.specs.Words.{grant_text, target_text}
 
 -- The words of what is printed ask for this event alone, whatever clap answers to them.
 abbrev pub ReadsBack : Event → Type 0
 ReadsBack event =
     (answer : Option CliArgs) → (words_of (event_text event) >>= events_of answer) ≡ Ok (event ∷ [])
+
+-- The same in a scene, whatever it says before and whichever workers it declares.
+abbrev pub ReadsBackInScene : Event → Type 0
+ReadsBackInScene event =
+    (answer : Option CliArgs) (so_far : Seen)
+    → with_line answer so_far (event_text event) ≡ Ok (with_steps so_far (asked event ∷ []))
+
+-- What is printed of a binding behind its serial is written in the words of a creation of it.
+abbrev pub ReadsBackBinding : Draft → Type 0
+ReadsBackBinding draft =
+    (words_of (codes " " ++ grant_text draft ++ codes " " ++ target_text draft) >>= draft_of)
+    ≡ Ok draft
 
 -- bytes, and a number of 64 bits
 abbrev pub AreBytes : List ℕ → Type 0

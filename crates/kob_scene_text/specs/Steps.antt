@@ -1,5 +1,5 @@
 -- Lines that are a step of a worker, and steps as they are seen.
-use Rattle.std.specs.Prelude.{ℕ, Bool, ◌||◌, ◌&&◌, List, [], ◌∷◌, Option, Some, None, Result, Ok, Err, codes, if◌then◌else◌, string_bytes, false, true, ◌==◌}
+use Rattle.std.specs.Prelude.{ℕ, Bool, ◌&&◌, List, [], ◌∷◌, Option, Some, None, Result, Ok, Err, codes, if◌then◌else◌, string_bytes, false, true, ◌==◌}
 use Rattle.std.specs.Str.{bytes_eq}
 use Rattle.uuid.specs.Text.{parsed}
 use Rattle.kob_outbox.specs.Contents.{Event, Key, id_text, key_of, stored_event}

@@ -26,7 +26,9 @@ mod word_faults;
 mod workers_before;
 
 pub use fault::{SceneError, SceneFault, SceneFaultKind};
-pub use laws::{entries_read_back, scripts_are_scenes};
+pub use laws::{
+    bindings_read_back, entries_read_back, entries_read_back_in_scenes, scripts_are_scenes,
+};
 pub use misuse::{Misuse, misuse_at};
 pub use place::fault_place;
 pub use printed_fault::print_scene_fault;
