@@ -111,15 +111,22 @@ is_listed line =
 abbrev pub said_if : Result (Option Item) FaultKind → Result (List Item) FaultKind
 said_if read = read >>= λ item. Ok (option_to_list item)
 
+abbrev pub one_said : Result Item FaultKind → Result (Option Item) FaultKind
+one_said read = read >>= λ item. Ok (Some item)
+
+-- the one thing that a line of a list says, or a row of a table, if it says anything
+abbrev pub listed_item : List ℕ → Result (Option Item) FaultKind
+listed_item line =
+    if is_heading line then one_said (heading_item line)
+    else (if is_newer_grant line then one_said (newer_grant line)
+    else (if is_tabular line then tabular_item line
+    else one_said (older_grant line)))
+
 -- what such a line says
 unfoldable pub listed_items : List ℕ → Result (List Item) FaultKind
 listed_items line =
     if is_comment line || is_principal_heading line then Ok []
-    else (if is_heading line then said (heading_item line)
-    else (if is_newer_grant line then said (newer_grant line)
-    else (if is_property line then property_items line
-    else (if is_tabular line then said_if (tabular_item line)
-    else said (older_grant line)))))
+    else (if is_property line then property_items line else said_if (listed_item line))
 
 -- what stands after the last slash of a path
 abbrev pub base_by : List ℕ → Option (List ℕ × List ℕ) → List ℕ

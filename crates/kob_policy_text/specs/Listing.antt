@@ -227,13 +227,15 @@ abbrev pub target_item : TargetWords → Result Item FaultKind
 target_item words = target_of words >>= λ target. Ok (item.Resource target)
 
 -- ResourcePattern(resourceType=RESOURCE, name=NAME, patternType=PATTERN)
-unfoldable pub newer_resource : List ℕ → Result Item FaultKind
-newer_resource text = do
+unfoldable pub newer_target : List ℕ → Result TargetWords FaultKind
+newer_target text = do
   by_name ← around_first text (codes ", name=")
   by_kind ← around_first by_name.0 (codes "resourceType=")
   by_pattern ← around_last by_name.1 (codes ", patternType=")
-  target_item
-      (record { resource = by_kind.1; pattern = by_pattern.1; name = by_pattern.0 })
+  Ok (record { resource = by_kind.1; pattern = by_pattern.1; name = by_pattern.0 })
+
+abbrev pub newer_resource : List ℕ → Result Item FaultKind
+newer_resource text = newer_target text >>= target_item
 
 -- the word is a kind of pattern, as it stands before a name
 abbrev pub is_pattern_word : List ℕ → Bool
@@ -259,9 +261,13 @@ resource_item text =
     if starts_with nat_eq text (codes "ResourcePattern(") then newer_resource text
     else older_resource text
 
--- Current ACLs for resource `RESOURCE`:
-unfoldable pub heading_item : List ℕ → Result Item FaultKind
-heading_item line = do
+-- what a heading has between its quotes, behind which a colon ends it
+unfoldable pub heading_text : List ℕ → Result (List ℕ) FaultKind
+heading_text line = do
   quoted ← around_first line (codes "`")
   text ← around_last quoted.1 (codes "`")
-  if bytes_eq text.1 (codes ":") then resource_item text.0 else Err BadLine
+  if bytes_eq text.1 (codes ":") then Ok text.0 else Err BadLine
+
+-- Current ACLs for resource `RESOURCE`:
+abbrev pub heading_item : List ℕ → Result Item FaultKind
+heading_item line = heading_text line >>= resource_item

@@ -5,7 +5,7 @@ ghost use Rattle.kob_policy_text.specs.Lines.{SaysAt, SaysByWords, SaysIn, SaysT
 ghost use Rattle.kob_policy_text.specs.Lines.{are_foreign, asker_of, held_words, is_creation};
 ghost use Rattle.kob_policy_text.specs.Lines.{is_for_other_kind, is_foreign, is_heading};
 ghost use Rattle.kob_policy_text.specs.Lines.{is_heading_line, is_listed, is_release, is_skipped};
-ghost use Rattle.kob_policy_text.specs.Lines.{listed_items, names_other_kind, only_event};
+ghost use Rattle.kob_policy_text.specs.Lines.{listed_item, listed_items, names_other_kind, only_event};
 ghost use Rattle.kob_policy_text.specs.Lines.{release_line, rules_in, rules_of, setting_items};
 ghost use Rattle.kob_policy_text.specs.Lines.{texts_behind, words_items};
 ghost use Rattle.kob_policy_text.specs.Outcomes.{MayGive};
@@ -59,6 +59,21 @@ fn is_listed(line: &[u8]) -> bool
         || holds_mark(line, b" permission for operations: ")
 }
 
+/// The one thing that a line of a list says, or a row of a table, if it says anything.
+fn listed_item(alloc: Global, line: &[u8]) -> Result<Option<Item>, LineError>
+    ensures { Gives result (listed_item line.now) }
+{
+    if is_heading(line) {
+        Ok(Some(heading_item(alloc, line)?))
+    } else if line.starts_with(b"(principal=") {
+        Ok(Some(newer_grant(alloc, line)?))
+    } else if is_tabular(line) {
+        tabular_item(alloc, line)
+    } else {
+        Ok(Some(older_grant(alloc, line)?))
+    }
+}
+
 /// What a line that is read as a whole says.
 #[tactic(auto, unfolding(crate::specs::Lines::listed_items))]
 fn listed_items(alloc: Global, line: &[u8]) -> Result<Vec<Item>, LineError>
@@ -66,19 +81,13 @@ fn listed_items(alloc: Global, line: &[u8]) -> Result<Vec<Item>, LineError>
 {
     if line.starts_with(b"#") || line.starts_with(b"ACLs for principal ") {
         Ok(Vec::new(alloc))
-    } else if is_heading(line) {
-        one(alloc, heading_item(alloc, line)?)
-    } else if line.starts_with(b"(principal=") {
-        one(alloc, newer_grant(alloc, line)?)
     } else if is_property(line) {
         property_items(alloc, line)
-    } else if is_tabular(line) {
-        match tabular_item(alloc, line)? {
+    } else {
+        match listed_item(alloc, line)? {
             Some(item) => one(alloc, item),
             None => Ok(Vec::new(alloc)),
         }
-    } else {
-        one(alloc, older_grant(alloc, line)?)
     }
 }
 

@@ -1,12 +1,13 @@
 //! The lines that `kafka-acls --list` prints.
 
 ghost use Rattle.std.specs.Prelude.{◌≡◌, codes, ok_or};
-ghost use Rattle.kob_policy_text.specs.Listing.{grant_item, grant_of, headed, heading_item, holder_by};
+ghost use Rattle.kob_policy_text.specs.Listing.{grant_item, grant_of, headed, heading_item};
+ghost use Rattle.kob_policy_text.specs.Listing.{heading_text, holder_by};
 ghost use Rattle.kob_policy_text.specs.Listing.{is_other_operation, is_other_resource, known_operation};
 ghost use Rattle.kob_policy_text.specs.Listing.{known_resource};
 ghost use Rattle.kob_policy_text.specs.Listing.{listed_operation, listed_resource, one_principal};
 ghost use Rattle.kob_policy_text.specs.Listing.{unclosed};
-ghost use Rattle.kob_policy_text.specs.Listing.{newer_grant, newer_resource};
+ghost use Rattle.kob_policy_text.specs.Listing.{newer_grant, newer_resource, newer_target};
 ghost use Rattle.kob_policy_text.specs.Listing.{older_grant, older_resource, older_target};
 ghost use Rattle.kob_policy_text.specs.Listing.{target_item, target_of, first_parts};
 ghost use Rattle.kob_script.specs.Words.{Gives, GivesSeen};
@@ -273,18 +274,24 @@ fn target_item(alloc: Global, words: &TargetWords<'_>) -> Result<Item, LineError
     Ok(Item::Resource(target_of(alloc, words)?))
 }
 
-#[tactic(auto, unfolding(crate::specs::Listing::newer_resource))]
-fn newer_resource(alloc: Global, text: &[u8]) -> Result<Item, LineError>
-    ensures { Gives result (newer_resource text.now) }
+#[tactic(auto, unfolding(crate::specs::Listing::newer_target))]
+fn newer_target(text: &[u8]) -> Result<TargetWords<'_>, LineError>
+    ensures { Gives result (newer_target text.entry.now) }
 {
     let (front, rest) = around_first(text, b", name=")?;
     let (_, resource) = around_first(front, b"resourceType=")?;
     let (name, pattern) = around_last(rest, b", patternType=")?;
-    let words = TargetWords {
+    Ok(TargetWords {
         resource,
         pattern,
         name,
-    };
+    })
+}
+
+fn newer_resource(alloc: Global, text: &[u8]) -> Result<Item, LineError>
+    ensures { Gives result (newer_resource text.now) }
+{
+    let words = newer_target(text)?;
     target_item(alloc, &words)
 }
 
@@ -317,16 +324,25 @@ fn older_resource(alloc: Global, text: &[u8]) -> Result<Item, LineError>
     target_item(alloc, &older_target(kind, rest))
 }
 
-/// ``Current ACLs for resource `RESOURCE`:``
-#[tactic(auto, unfolding(crate::specs::Listing::heading_item))]
-pub fn heading_item(alloc: Global, line: &[u8]) -> Result<Item, LineError>
-    ensures { Gives result (heading_item line.now) }
+/// The part of a heading between its quotes.
+#[tactic(auto, unfolding(crate::specs::Listing::heading_text))]
+fn heading_text(line: &[u8]) -> Result<&[u8], LineError>
+    ensures { GivesSeen (λ text. text.now) result (heading_text line.entry.now) }
 {
     let (_, quoted) = around_first(line, b"`")?;
     let (text, end) = around_last(quoted, b"`")?;
     if end != b":".as_slice() {
-        Err(LineError::Fault(FaultKind::BadLine))
-    } else if text.starts_with(b"ResourcePattern(") {
+        return Err(LineError::Fault(FaultKind::BadLine));
+    }
+    Ok(text)
+}
+
+/// ``Current ACLs for resource `RESOURCE`:``
+pub fn heading_item(alloc: Global, line: &[u8]) -> Result<Item, LineError>
+    ensures { Gives result (heading_item line.now) }
+{
+    let text = heading_text(line)?;
+    if text.starts_with(b"ResourcePattern(") {
         newer_resource(alloc, text)
     } else {
         older_resource(alloc, text)
