@@ -45,7 +45,7 @@ ending_of_fault play.WriteFailed = Failed
 
 abbrev pub ending_of_play : Result Ended PlayFault → Ending
 ending_of_play (Ok ended.Clean) = Whole
-ending_of_play (Ok ended.Unmet) = Differs
+ending_of_play (Ok (ended.Unmet unmet)) = Differs
 ending_of_play (Ok (ended.Fault fault)) = Failed
 ending_of_play (Ok (ended.Stopped fault)) = ending_of_fault fault
 ending_of_play (Err fault) = ending_of_fault fault

@@ -65,7 +65,7 @@ pub fn ending_of_play(played: Result<Ended, PlayFault>) -> Ending
 {
     match played {
         Ok(Ended::Clean) => Ending::Whole,
-        Ok(Ended::Unmet) => Ending::Differs,
+        Ok(Ended::Unmet(_)) => Ending::Differs,
         Ok(Ended::Fault(_)) => Ending::Failed,
         Ok(Ended::Stopped(fault)) => ending_of_fault(fault),
         Err(fault) => ending_of_fault(fault),

@@ -5,7 +5,6 @@
 mod commands;
 mod connect;
 mod ending;
-mod expected;
 mod export;
 mod exporting;
 mod help;

@@ -5,7 +5,6 @@ ghost use Rattle.kob.specs.Ending.{ending_of_play};
 ghost use Rattle.kob.specs.Headings.{file_line, heading_text, word_at};
 
 use crate::ending::{Ending, ending_of_play};
-use crate::expected::{Expected, line_of};
 use crate::exporting::export;
 use crate::input::{Kind, text_of};
 use crate::options::ExportForm;
@@ -15,7 +14,7 @@ use kob_mistakes::{
     Mistake, doubtful_state, mistake_in, push_doubtful, push_misused, push_quoted, quoted_name,
 };
 use kob_scene_play::{Ended, Form, PlayFault, play_text, push_json_string};
-use kob_scene_text::{SceneFault, read_scene};
+use kob_scene_text::SceneFault;
 use std::alloc::{AllocError, Global};
 use std::rt::{Clock, Files};
 
@@ -110,9 +109,9 @@ fn do_file<R: AllocGlobal + Clock + Files + Input + Print + Eprint>(
     };
     match work {
         Work::Play { form, is_watched } => {
-            let mut writer = Watched::new(rt, file, form, is_watched);
+            let mut writer = Watched::new(rt, file, is_watched);
             let played = play_text(rt.alloc(), form, &text, &mut writer);
-            report_play(rt, file, &text, played, writer.expected)
+            report_play(rt, file, &text, played)
         }
         Work::Export(form, service) => export(rt, form, service, file, &text),
     }
@@ -125,14 +124,14 @@ fn report_play<R: AllocGlobal + Eprint>(
     name: &str,
     text: &[u8],
     played: Result<Ended, PlayFault>,
-    expected: Expected,
 ) -> Ending
     ensures { result ≡ ending_of_play played }
 {
     match played {
         Ok(Ended::Clean) => say_remarks(rt, name, text),
-        Ok(Ended::Unmet) => {
-            say_unmet(rt, name, text, expected);
+        Ok(Ended::Unmet(unmet)) => {
+            let (count, line) = (unmet.count, unmet.line);
+            tell(rt, Report::Unmet { name, count, line });
             say_remarks(rt, name, text);
         }
         Ok(Ended::Fault(fault)) => {
@@ -143,15 +142,6 @@ fn report_play<R: AllocGlobal + Eprint>(
         }
     }
     ending_of_play(played)
-}
-
-/// Says how many things are not as the scene expects them, and the line of the first.
-fn say_unmet<R: AllocGlobal + Eprint>(rt: &R, name: &str, text: &[u8], expected: Expected) {
-    if let Ok(scene) = read_scene(rt.alloc(), text) {
-        let line = line_of(&scene.steps, &scene.lines, expected.first);
-        let count = expected.unmet;
-        tell(rt, Report::Unmet { name, count, line });
-    }
 }
 
 /// Says which name has quotes that a shell would have removed, and which record has a state that is

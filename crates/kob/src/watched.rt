@@ -2,8 +2,6 @@
 
 ghost use Rattle.std.specs.Prelude.{◌≡◌, None, false};
 
-use crate::expected::{Expected, after_answers};
-use kob_scene_play::Form;
 use std::io::{self, Write};
 use std::rt::Clock;
 use std::time::{Duration, Instant};
@@ -11,26 +9,21 @@ use std::time::{Duration, Instant};
 /// The seconds after which work is reported, and then again.
 const PATIENCE: u64 = 2;
 
-/// Standard output, the name of the text that is played, how many bytes of answers were written, and
-/// what they say of its expectations.
+/// Standard output, the name of the text that is played, and how many bytes of answers were written.
 #[derive(Drop)]
 pub struct Watched<'a, R> {
     rt: &'a R,
     pub name: &'a str,
-    pub form: Form,
     pub bytes: u64,
-    pub expected: Expected,
     /// When the playing began or was last reported; none if it is not to be reported.
     pub reported: Option<Instant>,
 }
 
 impl<'a, R: Clock> Watched<'a, R> {
-    /// Standard output for the answers of a text in this form, which are reported if `is_watched`.
-    pub fn new(rt: &'a R, name: &'a str, form: Form, is_watched: bool) -> Watched<'a, R>
+    /// Standard output for the answers of a text, which are reported if `is_watched`.
+    pub fn new(rt: &'a R, name: &'a str, is_watched: bool) -> Watched<'a, R>
         ensures name { result.name ≡ name.entry }
-        ensures form { result.form ≡ form }
         ensures bytes { result.bytes ≡ 0 }
-        ensures unmet { result.expected.unmet ≡ 0 }
         ensures reported { is_watched ≡ false → result.reported ≡ None }
     {
         let reported = if is_watched {
@@ -41,23 +34,16 @@ impl<'a, R: Clock> Watched<'a, R> {
         Watched {
             rt,
             name,
-            form,
             bytes: 0,
-            expected: Expected {
-                answered: 0,
-                unmet: 0,
-                first: 0,
-            },
             reported,
         }
     }
 }
 
 impl<R: Clock + Eprint> Watched<'_, R> {
-    /// Counts what is written, whole lines at a time, and reports after two seconds.
+    /// Counts what is written, and reports after two seconds.
     fn count(&mut self, written: &[u8]) {
         self.bytes = self.bytes.saturating_add(written.len() as u64);
-        self.expected = after_answers(self.expected, self.form, written);
         if let Some(since) = self.reported {
             if let Ok(now) = Instant::now(self.rt) {
                 if now.duration_since(since) >= Duration::from_secs(PATIENCE) {

@@ -2,11 +2,11 @@
 use Rattle.kob_scene_play.proofs.Words.{Appends, Appends-trans, ArePlayed, Consumer, ConsumerStep, EndsAs, EndsScene, EndsSteps, Entry, Err, IfOk, IsAnswered, IsChecked, IsConsumerChange, IsConsumerStep, IsRead, IsReady, IsServed, IsServiceChange, IsServiceStep, IsShown, IsStep, Leaves, List, None, Ok, OnOk, Option, OthersStay, PlayFault, PlayedConsumer, PlayedService, Record, Result, Scene, Service, ServiceStep, Show, Shown, Some, Stage, Step, StopsIn, Tells, Writes, WritesSteps, [], ap, append-nil, append_assoc, arith, declared_consumer, declared_service, inl, inr, length, map, named_consumer, named_service, one_more, refl, set, show_of, slice_get, stopped_shown, subst, suc, sym, ℕ, ◌++◌, ◌+◌, ◌∙◌, ◌∷◌, ◌≡◌}
 use Rattle.kob_scene_play.proofs.Places.{put_at}
 use Rattle.kob_scene_play.specs.Expectations.{IsExpected}
-use Rattle.kob_scene_play.specs.Scenes.{IsPlayed}
+use Rattle.kob_scene_play.specs.Scenes.{EndsWhole, IsPlayed}
+use Rattle.kob_scene_play.specs.declared.stage.Unmet.{Unmet}
 use Rattle.kob_scene_play.specs.declared.playing.Played.TheVariants as played
 use Rattle.kob_scene_play.specs.declared.text.Ended.TheVariants as ended
 use Rattle.kob_scene_text.specs.declared.scene.Expected.{Expected}
-use Rattle.std.proofs.Common.{Bool}
 use Rattle.kob_scene_text.specs.declared.scene.ConsumerStep.TheVariants as consumer_steps
 use Rattle.kob_scene_text.specs.declared.scene.ServiceStep.TheVariants as service_steps
 use Rattle.kob_scene_text.specs.declared.scene.Step.TheVariants as steps
@@ -93,18 +93,18 @@ one_step_stops show all before later step old mid new told mid_told then_told fi
 pub step_shown : (show : Show) (place before : ℕ) (step : Step) (old new : Stage) (journal : List Entry)
     (told begun then_told shown_told : ℕ) (begin answers held then_held : List ℕ) → begun ≡ told → begin ≡ []
     → before ≡ length old.recorded.journal → journal ≡ new.recorded.journal
-    → Tells (IsStep step old new begun then_told) begin answers → shown_told ≡ then_told
-    → then_held ≡ held ++ show place before journal answers
+    → Tells (IsStep step (show.line place) old new begun then_told) begin answers → shown_told ≡ then_told
+    → then_held ≡ held ++ show.text place before journal answers
     → Tells (IsShown show place step old new told shown_told) held then_held
 step_shown show place before step old new journal told begun then_told shown_told begin answers held then_held counted empty
     entries now (text, is, printed) same added =
     let whole : text ≡ answers = sym (printed ∙ ap (λ xs. xs ++ text) empty) in
-    let first = subst (λ n. IsStep step old new n then_told text) counted is in
-    let last = subst (λ n. IsStep step old new told n text) (sym same) first in (
-      show place (length old.recorded.journal) new.recorded.journal answers,
-      (answers, subst (λ xs. IsStep step old new told shown_told xs) whole last, refl),
-      added ∙ ap (λ n. held ++ show place n journal answers) entries
-          ∙ ap (λ entries. held ++ show place (length old.recorded.journal) entries answers) now,
+    let first = subst (λ n. IsStep step (show.line place) old new n then_told text) counted is in
+    let last = subst (λ n. IsStep step (show.line place) old new told n text) (sym same) first in (
+      show.text place (length old.recorded.journal) new.recorded.journal answers,
+      (answers, subst (λ xs. IsStep step (show.line place) old new told shown_told xs) whole last, refl),
+      added ∙ ap (λ n. held ++ show.text place n journal answers) entries
+          ∙ ap (λ entries. held ++ show.text place (length old.recorded.journal) entries answers) now,
     )
 
 -- a scene whose stage was not opened
@@ -118,7 +118,7 @@ pub scene_whole : (shown : Shown) (scene : Scene)
     (opened closed : Stage) (told then_told : ℕ) (first second : Option (List ℕ)) (held then_held : List ℕ)
     → told ≡ 0 → held ≡ [] → IsReady scene opened
     → EndsSteps (show_of shown scene) scene.steps.items opened closed told then_told first held second then_held None
-    → EndsScene shown scene then_told first second then_held (played.Whole closed.is_unmet)
+    → EndsScene shown scene then_told first second then_held (played.Whole closed.unmet)
 scene_whole shown scene opened closed told then_told first second held then_held none empty ready
     (text, are, written) = (
       text,
@@ -151,11 +151,11 @@ scene_cut shown scene opened closed told then_told first second held then_held f
     )
 
 -- what was held is written at the end
-pub scene_written : (shown : Shown) (scene : Scene) (is_unmet : Bool) (told : ℕ)
+pub scene_written : (shown : Shown) (scene : Scene) (unmet : Unmet) (told : ℕ)
     (first second third : Option (List ℕ)) (held : List ℕ)
-    → EndsScene shown scene told first second held (played.Whole is_unmet) → Appends second third held
-    → (text : List ℕ) × IsPlayed (show_of shown scene) scene is_unmet text × Appends first third text
-scene_written shown scene is_unmet told first second third held (text, is, (front, split, appended)) rest =
+    → EndsScene shown scene told first second held (played.Whole unmet) → Appends second third held
+    → EndsWhole shown scene first third unmet
+scene_written shown scene unmet told first second third held (text, is, (front, split, appended)) rest =
     (text, is, subst (λ xs. Appends first third xs) (sym split) (Appends-trans first second third front held appended rest))
 
 -- and after it that the scene stopped
@@ -173,56 +173,56 @@ scene_stopped shown scene told first second third held fault (text, is, (front, 
     )
 
 -- a step of a service
-pub service_played : {E : Type 0} (result : Result (Unit {0}) E) (which : ℕ) (step : ServiceStep) (old new : Stage)
-    (told then_told : ℕ) (held then_held : List ℕ) → new.consumers ≡ old.consumers → new.is_unmet ≡ old.is_unmet
+pub service_played : {E : Type 0} (result : Result (Unit {0}) E) (line which : ℕ) (step : ServiceStep) (old new : Stage)
+    (told then_told : ℕ) (held then_held : List ℕ) → new.consumers ≡ old.consumers → new.unmet ≡ old.unmet
     → OthersStay which old.services.items new.services.items
     → OnOk result (Tells (IsServed which step old.services.items new.services.items old.recorded new.recorded told
     then_told) held then_held)
-    → OnOk result (Tells (IsStep (steps.Service which step) old new told then_told) held then_held)
-service_played (Ok done) which step old new told then_told held then_held consumers unmet others (text, made, prints) =
+    → OnOk result (Tells (IsStep (steps.Service which step) line old new told then_told) held then_held)
+service_played (Ok done) line which step old new told then_told held then_held consumers unmet others (text, made, prints) =
     (text, (consumers, unmet, others, made), prints)
-service_played (Err fault) which step old new told then_told held then_held consumers unmet others made = tt
+service_played (Err fault) line which step old new told then_told held then_held consumers unmet others made = tt
 
 -- a step of a consumer
-pub consumer_played : {E : Type 0} (result : Result (Unit {0}) E) (which : ℕ) (step : ConsumerStep) (old new : Stage)
-    (told then_told : ℕ) (held then_held : List ℕ) → new.services ≡ old.services → new.is_unmet ≡ old.is_unmet
+pub consumer_played : {E : Type 0} (result : Result (Unit {0}) E) (line which : ℕ) (step : ConsumerStep) (old new : Stage)
+    (told then_told : ℕ) (held then_held : List ℕ) → new.services ≡ old.services → new.unmet ≡ old.unmet
     → OthersStay which old.consumers.items new.consumers.items
     → OnOk result (Tells (IsRead which step old.consumers.items new.consumers.items old.recorded new.recorded told
     then_told) held then_held)
-    → OnOk result (Tells (IsStep (steps.Consumer which step) old new told then_told) held then_held)
-consumer_played (Ok done) which step old new told then_told held then_held services unmet others (text, made, prints) =
+    → OnOk result (Tells (IsStep (steps.Consumer which step) line old new told then_told) held then_held)
+consumer_played (Ok done) line which step old new told then_told held then_held services unmet others (text, made, prints) =
     (text, (services, unmet, others, made), prints)
-consumer_played (Err fault) which step old new told then_told held then_held services unmet others made = tt
+consumer_played (Err fault) line which step old new told then_told held then_held services unmet others made = tt
 
 -- a question about the laws
-pub law_played : {E : Type 0} (result : Result (Unit {0}) E) (service consumer : ℕ) (old new : Stage) (told then_told : ℕ)
+pub law_played : {E : Type 0} (result : Result (Unit {0}) E) (line service consumer : ℕ) (old new : Stage) (told then_told : ℕ)
     (held then_held : List ℕ) → new.recorded ≡ old.recorded → new.services ≡ old.services
-    → new.consumers.items ≡ old.consumers.items → new.is_unmet ≡ old.is_unmet → OnOk result (then_told ≡ one_more told)
+    → new.consumers.items ≡ old.consumers.items → new.unmet ≡ old.unmet → OnOk result (then_told ≡ one_more told)
     → OnOk result (Tells (IsAnswered service consumer old told) held then_held)
-    → OnOk result (Tells (IsStep (steps.Law service consumer) old new told then_told) held then_held)
-law_played (Ok done) service consumer old new told then_told held then_held recorded services consumers unmet counted (text, answered, prints) =
+    → OnOk result (Tells (IsStep (steps.Law service consumer) line old new told then_told) held then_held)
+law_played (Ok done) line service consumer old new told then_told held then_held recorded services consumers unmet counted (text, answered, prints) =
     (text, (recorded, services, consumers, unmet, counted, answered), prints)
-law_played (Err fault) service consumer old new told then_told held then_held recorded services consumers unmet counted answered = tt
+law_played (Err fault) line service consumer old new told then_told held then_held recorded services consumers unmet counted answered = tt
 
 -- a question about where the events are
-pub check_played : {E : Type 0} (result : Result (Unit {0}) E) (service consumer : ℕ) (old new : Stage) (told then_told : ℕ)
+pub check_played : {E : Type 0} (result : Result (Unit {0}) E) (line service consumer : ℕ) (old new : Stage) (told then_told : ℕ)
     (held then_held : List ℕ) → new.recorded ≡ old.recorded → new.services.items ≡ old.services.items
-    → new.consumers.items ≡ old.consumers.items → new.is_unmet ≡ old.is_unmet → OnOk result (then_told ≡ one_more told)
+    → new.consumers.items ≡ old.consumers.items → new.unmet ≡ old.unmet → OnOk result (then_told ≡ one_more told)
     → OnOk result (Tells (IsChecked service consumer old told) held then_held)
-    → OnOk result (Tells (IsStep (steps.Check service consumer) old new told then_told) held then_held)
-check_played (Ok done) service consumer old new told then_told held then_held recorded services consumers unmet counted (text, checked, prints) =
+    → OnOk result (Tells (IsStep (steps.Check service consumer) line old new told then_told) held then_held)
+check_played (Ok done) line service consumer old new told then_told held then_held recorded services consumers unmet counted (text, checked, prints) =
     (text, (recorded, services, consumers, unmet, counted, checked), prints)
-check_played (Err fault) service consumer old new told then_told held then_held recorded services consumers unmet counted checked = tt
+check_played (Err fault) line service consumer old new told then_told held then_held recorded services consumers unmet counted checked = tt
 
 -- a question whether they are where they are expected to be
-pub expect_played : {E : Type 0} (result : Result (Unit {0}) E) (service consumer : ℕ) (what : Expected) (old new : Stage)
+pub expect_played : {E : Type 0} (result : Result (Unit {0}) E) (line service consumer : ℕ) (what : Expected) (old new : Stage)
     (told then_told : ℕ) (held then_held : List ℕ) → new.recorded ≡ old.recorded → new.services.items ≡ old.services.items
     → new.consumers.items ≡ old.consumers.items → OnOk result (then_told ≡ one_more told)
-    → OnOk result (Tells (IsExpected service consumer what old new.is_unmet told) held then_held)
-    → OnOk result (Tells (IsStep (steps.Expect service consumer what) old new told then_told) held then_held)
-expect_played (Ok done) service consumer what old new told then_told held then_held recorded services consumers counted (text, expected, prints) =
+    → OnOk result (Tells (IsExpected service consumer what line old new.unmet told) held then_held)
+    → OnOk result (Tells (IsStep (steps.Expect service consumer what) line old new told then_told) held then_held)
+expect_played (Ok done) line service consumer what old new told then_told held then_held recorded services consumers counted (text, expected, prints) =
     (text, (recorded, services, consumers, counted, expected), prints)
-expect_played (Err fault) service consumer what old new told then_told held then_held recorded services consumers counted expected = tt
+expect_played (Err fault) line service consumer what old new told then_told held then_held recorded services consumers counted expected = tt
 
 -- the service at a place made its step
 pub served_at : {E : Type 0} (result : Result (Unit {0}) E) (which : ℕ) (step : ServiceStep) (old : List PlayedService)

@@ -1,6 +1,6 @@
 -- Whether the events of a service are where they are expected to be.
 use Rattle.std.specs.List.{list_all}
-use Rattle.std.specs.Prelude.{◌≡◌, ◌==◌, ◌&&◌, ◌||◌, ℕ, Bool, true, false, is_some, not, List, ◌++◌, Option, None, Some, codes, length, slice_get}
+use Rattle.std.specs.Prelude.{◌≡◌, ◌==◌, ◌&&◌, ◌||◌, ℕ, Bool, true, false, if◌then◌else◌, is_some, List, ◌++◌, Option, None, Some, codes, length, slice_get}
 use Rattle.std.specs.Fmt.{decimal}
 use Rattle.kob_delivery_check.specs.Fates.{is_delivered, is_lost}
 use Rattle.kob_delivery_check.specs.Logs.{number_of}
@@ -14,6 +14,7 @@ use Rattle.kob_scene_play.specs.Steps.{Consumer, Service}
 use Rattle.kob_scene_play.specs.declared.stage.PlayedConsumer.{PlayedConsumer}
 use Rattle.kob_scene_play.specs.declared.stage.PlayedService.{PlayedService}
 use Rattle.kob_scene_play.specs.declared.stage.Stage.{Stage}
+use Rattle.kob_scene_play.specs.declared.stage.Unmet.{Unmet}
 use Rattle.kob_scene_text.specs.declared.scene.Expected.{Expected}
 use Rattle.kob_scene_text.specs.declared.scene.Expected.TheVariants as expectations
 use Rattle.kob_shared.specs.declared.journal.Entry.{Entry}
@@ -53,12 +54,24 @@ abbrev pub expected_text : Bool → List ℕ
 expected_text true = codes " as expected\n"
 expected_text false = codes " not as expected\n"
 
--- the answer about the service and the consumer at these places; what is not as expected is noted
-abbrev pub IsExpected : ℕ → ℕ → Expected → Stage → Bool → ℕ → List ℕ → Type 0
-IsExpected service consumer what stage is_unmet told text =
+-- nothing was expected that is not so
+abbrev pub all_met : Unmet
+all_met = record { count = 0; line = 0 }
+
+-- after one thing more, which is expected on this line
+abbrev pub unmet_after : Unmet → Bool → ℕ → Unmet
+unmet_after unmet true line = unmet
+unmet_after unmet false line = record {
+  count = one_more unmet.count;
+  line = if unmet.count == 0 then line else unmet.line;
+}
+
+-- the answer about the service and the consumer at these places; what is not as expected is counted
+abbrev pub IsExpected : ℕ → ℕ → Expected → ℕ → Stage → Unmet → ℕ → List ℕ → Type 0
+IsExpected service consumer what line stage unmet told text =
     (sender : PlayedService) × (taker : PlayedConsumer) × (is_met : Bool)
     × (slice_get stage.services.items service ≡ Some sender)
     × (slice_get stage.consumers.items consumer ≡ Some taker)
     × IsMet what sender.service taker.consumer stage.recorded.journal is_met
-    × (is_unmet ≡ (stage.is_unmet || not is_met))
+    × (unmet ≡ unmet_after stage.unmet is_met line)
     × (text ≡ decimal (one_more told) ++ expected_text is_met)

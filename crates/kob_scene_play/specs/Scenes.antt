@@ -3,12 +3,13 @@ use Rattle.std.specs.Prelude.{◌≡◌, ◌≢◌, ◌⊎◌, ◌+◌, ℕ, Lis
 use Rattle.kob_router.specs.Line.{one_more}
 use Rattle.kob_scene_play.specs.Stages.{journal_text, IsOpened, declared_consumer, declared_service, named_consumer, named_service}
 use Rattle.kob_scene_play.specs.Checks.{IsChecked}
-use Rattle.kob_scene_play.specs.Expectations.{IsExpected}
+use Rattle.kob_scene_play.specs.Expectations.{IsExpected, all_met}
 use Rattle.kob_scene_play.specs.Laws.{IsAnswered}
 use Rattle.kob_scene_play.specs.Steps.{IsConsumerStep, IsServiceStep, Writes}
 use Rattle.kob_scene_play.specs.declared.stage.PlayedConsumer.{PlayedConsumer}
 use Rattle.kob_scene_play.specs.declared.stage.PlayedService.{PlayedService}
 use Rattle.kob_scene_play.specs.declared.stage.Stage.{Stage}
+use Rattle.kob_scene_play.specs.declared.stage.Unmet.{Unmet}
 use Rattle.kob_scene_text.specs.declared.scene.ConsumerStep.{ConsumerStep}
 use Rattle.kob_scene_text.specs.declared.scene.Scene.{Scene}
 use Rattle.kob_scene_text.specs.declared.scene.ServiceStep.{ServiceStep}
@@ -18,7 +19,7 @@ use Rattle.kob_shared.specs.Journals.{Record, after_event, outcome_of}
 use Rattle.kob_shared.specs.declared.journal.Entry.{Entry}
 use Rattle.std.specs.Io.KnownBytes.{Appends}
 use Rattle.kob_scene_play.specs.declared.text.Ended.{Ended}
-use Rattle.kob_scene_play.specs.Forms.{fault_shown, shown_by, shown_text, stopped_shown}
+use Rattle.kob_scene_play.specs.Forms.{fault_shown, line_at, shown_by, shown_text, stopped_shown}
 use Rattle.kob_scene_play.specs.declared.fault.PlayFault.{PlayFault}
 use Rattle.kob_scene_play.specs.declared.form.Form.{Form}
 use Rattle.kob_scene_play.specs.declared.form.Shown.{Shown}
@@ -55,64 +56,65 @@ IsRead which step old new before after told then_told text =
     × (is.name ≡ was.name)
     × IsConsumerStep step was.consumer is.consumer before after told then_told text
 
--- What a step changes, and what it prints; before it so many answers were printed, and then so many.
--- A request is one entry more, of worker 0. A step of a worker changes no other worker, and the
--- journal by its own calls alone; a question changes nothing. Something expected that is not so stays
--- noted.
-abbrev pub IsStep : Step → Stage → Stage → ℕ → ℕ → List ℕ → Type 0
-IsStep (steps.Request event) old new told then_told text =
+-- What a step on a line changes, and what it prints; before it so many answers were printed, and
+-- then so many. A request is one entry more, of worker 0. A step of a worker changes no other worker,
+-- and the journal by its own calls alone; a question changes nothing. Things that are expected and
+-- not so are counted.
+abbrev pub IsStep : Step → ℕ → Stage → Stage → ℕ → ℕ → List ℕ → Type 0
+IsStep (steps.Request event) line old new told then_told text =
     (new.recorded ≡ after_event old.recorded 0 event)
     × (new.services ≡ old.services)
     × (new.consumers ≡ old.consumers)
-    × (new.is_unmet ≡ old.is_unmet)
+    × (new.unmet ≡ old.unmet)
     × (then_told ≡ one_more told)
     × (text ≡ reply_text (one_more told) (outcome_of old.recorded event).reply)
-IsStep (steps.Service which step) old new told then_told text =
+IsStep (steps.Service which step) line old new told then_told text =
     (new.consumers ≡ old.consumers)
-    × (new.is_unmet ≡ old.is_unmet)
+    × (new.unmet ≡ old.unmet)
     × OthersStay which old.services.items new.services.items
     × IsServed which step old.services.items new.services.items old.recorded new.recorded told
     then_told text
-IsStep (steps.Consumer which step) old new told then_told text =
+IsStep (steps.Consumer which step) line old new told then_told text =
     (new.services ≡ old.services)
-    × (new.is_unmet ≡ old.is_unmet)
+    × (new.unmet ≡ old.unmet)
     × OthersStay which old.consumers.items new.consumers.items
     × IsRead which step old.consumers.items new.consumers.items old.recorded new.recorded told
     then_told text
-IsStep steps.Journal old new told then_told text =
+IsStep steps.Journal line old new told then_told text =
     (new ≡ old) × (then_told ≡ one_more told) × (text ≡ journal_text (one_more told) old)
-IsStep (steps.Law service consumer) old new told then_told text =
+IsStep (steps.Law service consumer) line old new told then_told text =
     (new.recorded ≡ old.recorded)
     × (new.services ≡ old.services)
     × (new.consumers.items ≡ old.consumers.items)
-    × (new.is_unmet ≡ old.is_unmet)
+    × (new.unmet ≡ old.unmet)
     × (then_told ≡ one_more told)
     × IsAnswered service consumer old told text
-IsStep (steps.Check service consumer) old new told then_told text =
+IsStep (steps.Check service consumer) line old new told then_told text =
     (new.recorded ≡ old.recorded)
     × (new.services.items ≡ old.services.items)
     × (new.consumers.items ≡ old.consumers.items)
-    × (new.is_unmet ≡ old.is_unmet)
+    × (new.unmet ≡ old.unmet)
     × (then_told ≡ one_more told)
     × IsChecked service consumer old told text
-IsStep (steps.Expect service consumer what) old new told then_told text =
+IsStep (steps.Expect service consumer what) line old new told then_told text =
     (new.recorded ≡ old.recorded)
     × (new.services.items ≡ old.services.items)
     × (new.consumers.items ≡ old.consumers.items)
     × (then_told ≡ one_more told)
-    × IsExpected service consumer what old new.is_unmet told text
+    × IsExpected service consumer what line old new.unmet told text
 
--- how the answers to the step at a place are shown, by the number of entries of the journal before
--- it, and by the journal after it
-abbrev pub Show : Type 0
-Show = ℕ → ℕ → List Entry → List ℕ → List ℕ
+-- the line of the step at a place, and how its answers are shown, by the number of entries of the
+-- journal before it, and by the journal after it
+pub record Show : Type 0 where
+  pub line : ℕ → ℕ
+  pub text : ℕ → ℕ → List Entry → List ℕ → List ℕ
 
 -- a step as it is shown
 abbrev pub IsShown : Show → ℕ → Step → Stage → Stage → ℕ → ℕ → List ℕ → Type 0
 IsShown show place step old new told then_told text =
     (answers : List ℕ)
-    × IsStep step old new told then_told answers
-    × (text ≡ show place (length old.recorded.journal) new.recorded.journal answers)
+    × IsStep step (show.line place) old new told then_told answers
+    × (text ≡ show.text place (length old.recorded.journal) new.recorded.journal answers)
 
 -- steps from a place on, each from where the one before it ended: what they change, how many answers
 -- are printed, and what is shown of them, one text behind the other
@@ -150,17 +152,17 @@ StopsIn show all old told then_told text =
 abbrev pub IsReady : Scene → Stage → Type 0
 IsReady scene opened =
     IsOpened scene.settings opened
-    × (opened.is_unmet ≡ false)
+    × (opened.unmet ≡ all_met)
     × (map named_service opened.services.items ≡ map declared_service scene.services.items)
     × (map named_consumer opened.consumers.items ≡ map declared_consumer scene.consumers.items)
 
--- all steps of a scene, and whether something expected was not so
-abbrev pub IsPlayed : Show → Scene → Bool → List ℕ → Type 0
-IsPlayed show scene is_unmet text =
+-- all steps of a scene, and what was expected in them and not so
+abbrev pub IsPlayed : Show → Scene → Unmet → List ℕ → Type 0
+IsPlayed show scene unmet text =
     (opened closed : Stage) × (told : ℕ)
     × IsReady scene opened
     × ArePlayed show 0 scene.steps.items opened closed 0 told text
-    × (is_unmet ≡ closed.is_unmet)
+    × (unmet ≡ closed.unmet)
 
 -- a scene that stopped after so many answers: before its first step, or at one of its steps
 abbrev pub IsCut : Show → Scene → ℕ → List ℕ → Type 0
@@ -188,26 +190,34 @@ EndsSteps show steps old new told then_told before held now then_held (Some faul
     × StopsIn show steps old told then_told text
     × Writes before held now then_held text
 
+abbrev pub show_by : Shown → List ℕ → Show
+show_by shown lines = record { line = line_at lines; text = shown_text shown lines }
+
 abbrev pub show_of : Shown → Scene → Show
-show_of shown scene = shown_text shown scene.lines.items
+show_of shown scene = show_by shown scene.lines.items
 
 -- a scene was played, or stopped after so many answers, and what is shown of it was written, but for
 -- what is held
 abbrev pub EndsScene : Shown → Scene → ℕ → Option (List ℕ) → Option (List ℕ) → List ℕ
     → Played → Type 0
-EndsScene shown scene told before now held (played.Whole is_unmet) =
-    (text : List ℕ) × IsPlayed (show_of shown scene) scene is_unmet text
+EndsScene shown scene told before now held (played.Whole unmet) =
+    (text : List ℕ) × IsPlayed (show_of shown scene) scene unmet text
     × Writes before [] now held text
 EndsScene shown scene told before now held (played.Stopped fault) =
     (text : List ℕ) × IsCut (show_of shown scene) scene told text × Writes before [] now held text
+
+-- all steps were played, and what is shown of them was written
+abbrev pub EndsWhole : Shown → Scene → Option (List ℕ) → Option (List ℕ) → Unmet → Type 0
+EndsWhole shown scene before now unmet =
+    (text : List ℕ) × IsPlayed (show_of shown scene) scene unmet text × Appends before now text
 
 -- How the playing of a scene ended, and what was written. Where it stopped, the answers before are
 -- written, and then their number.
 abbrev pub EndsAs : Shown → Scene → Option (List ℕ) → Option (List ℕ) → Ended → Type 0
 EndsAs shown scene before now ended.Clean =
-    (text : List ℕ) × IsPlayed (show_of shown scene) scene false text × Appends before now text
-EndsAs shown scene before now ended.Unmet =
-    (text : List ℕ) × IsPlayed (show_of shown scene) scene true text × Appends before now text
+    (unmet : Unmet) × (unmet.count ≡ 0) × EndsWhole shown scene before now unmet
+EndsAs shown scene before now (ended.Unmet unmet) =
+    (unmet.count ≢ 0) × EndsWhole shown scene before now unmet
 EndsAs shown scene before now (ended.Fault fault) = ⊥
 EndsAs shown scene before now (ended.Stopped fault) =
     (told : ℕ) × (text : List ℕ)
@@ -219,9 +229,9 @@ abbrev pub IsWritten : Form → List ℕ → Option (List ℕ) → Option (List 
 IsWritten form source before now ended.Clean =
     (scene : Scene) × MayRead source (Ok scene) × HasLines source (seen scene) scene.lines.items
     × EndsAs (shown_by form source) scene before now ended.Clean
-IsWritten form source before now ended.Unmet =
+IsWritten form source before now (ended.Unmet unmet) =
     (scene : Scene) × MayRead source (Ok scene) × HasLines source (seen scene) scene.lines.items
-    × EndsAs (shown_by form source) scene before now ended.Unmet
+    × EndsAs (shown_by form source) scene before now (ended.Unmet unmet)
 IsWritten form source before now (ended.Fault fault) =
     MayRead source (Err (scene_error.Fault fault)) × Appends before now (fault_shown form fault)
 IsWritten form source before now (ended.Stopped fault) =

@@ -38,7 +38,7 @@ pub(crate) fn show_check(
     ensures recorded { stage.new.recorded ≡ stage.old.recorded }
     ensures services { stage.new.services.items ≡ stage.old.services.items }
     ensures consumers { stage.new.consumers.items ≡ stage.old.consumers.items }
-    ensures unmet { stage.new.is_unmet ≡ stage.old.is_unmet }
+    ensures unmet { stage.new.unmet ≡ stage.old.unmet }
     ensures done { OnOk result (Tells (IsChecked service consumer stage.old out.old.told)
         out.old.text.items out.new.text.items) }
     ensures told { OnOk result (out.new.told ≡ one_more out.old.told) }

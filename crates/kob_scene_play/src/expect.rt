@@ -1,6 +1,6 @@
 //! Whether the events of a service are where they are expected to be.
 
-ghost use Rattle.std.specs.Prelude.{◌≡◌, ◌++◌, ◌==◌, ◌||◌, IfOk, OnOk, length, map, not, slice_get};
+ghost use Rattle.std.specs.Prelude.{◌≡◌, ◌++◌, ◌==◌, ◌||◌, IfOk, OnOk, length, map, slice_get};
 ghost use Rattle.std.specs.Fmt.{decimal};
 ghost use Rattle.std.specs.List.{list_all};
 ghost use Rattle.std.specs.Option.{option_copied};
@@ -28,21 +28,22 @@ use kob_words::push_number;
 use std::alloc::{AllocError, Global};
 use uuid::Uuid;
 
-/// Prints whether the events of the service are where they are expected to be, and notes it if they
-/// are not.
+/// Prints whether the events of the service are where they are expected to be on this line, and
+/// counts it if they are not.
 pub(crate) fn show_expected(
     alloc: Global,
     stage: &mut Stage<'_>,
     service: usize,
     consumer: usize,
     what: Expected,
+    line: u64,
     out: &mut Output,
 ) -> Result<(), PlayFault>
     ensures recorded { stage.new.recorded ≡ stage.old.recorded }
     ensures services { stage.new.services.items ≡ stage.old.services.items }
     ensures consumers { stage.new.consumers.items ≡ stage.old.consumers.items }
     ensures done { OnOk result (Tells
-        (IsExpected service consumer what stage.old stage.new.is_unmet out.old.told)
+        (IsExpected service consumer what line stage.old stage.new.unmet out.old.told)
         out.old.text.items out.new.text.items) }
     ensures told { OnOk result (out.new.told ≡ one_more out.old.told) }
 {
@@ -61,7 +62,7 @@ pub(crate) fn show_expected(
         &mut taker.consumer,
     )?;
     print(out, is_met)?;
-    stage.is_unmet = stage.is_unmet || !is_met;
+    stage.unmet = stage.unmet.after(is_met, line);
     Ok(())
 }
 

@@ -1,6 +1,6 @@
 //! What ends a scene before its last step.
 
-ghost use Rattle.std.specs.Prelude.{◌≡◌, IsTrue, true};
+ghost use Rattle.std.specs.Prelude.{◌≡◌, IfOk, IsTrue, OnOk, true};
 ghost use Rattle.kob_scene_play.specs.Asked.{HasLoss};
 ghost use Rattle.kob_scene_play.specs.Faults.{line_fault, unless_failed};
 ghost use Rattle.kob_scene_play.specs.Steps.{LosesFirst};
@@ -147,7 +147,9 @@ pub(crate) fn unless<T: Drop>(
     is_lost: bool,
     answer: T,
 ) -> Result<T, PlayFault>
-    ensures { result ≡ unless_failed fault is_lost answer }
+    ensures whole { result ≡ unless_failed fault is_lost answer }
+    ensures same { IfOk result (λ given. given ≡ answer) }
+    ensures lost { OnOk result (IsTrue is_lost) }
 {
     match fault {
         None if is_lost => Ok(answer),

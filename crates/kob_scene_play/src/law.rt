@@ -56,7 +56,7 @@ pub(crate) fn show_law(
     ensures recorded { stage.new.recorded ≡ stage.old.recorded }
     ensures services { stage.new.services ≡ stage.old.services }
     ensures consumers { stage.new.consumers.items ≡ stage.old.consumers.items }
-    ensures unmet { stage.new.is_unmet ≡ stage.old.is_unmet }
+    ensures unmet { stage.new.unmet ≡ stage.old.unmet }
     ensures done { OnOk result (Tells (IsAnswered service consumer stage.old out.old.told)
         out.old.text.items out.new.text.items) }
     ensures told { OnOk result (out.new.told ≡ one_more out.old.told) }

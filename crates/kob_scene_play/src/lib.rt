@@ -37,5 +37,5 @@ pub use form::{Form, Shown};
 pub use json::push_json_string;
 pub use playing::play;
 pub use service_worker::ServiceWorker;
-pub use stage::{PlayedConsumer, PlayedService, Stage};
+pub use stage::{PlayedConsumer, PlayedService, Stage, Unmet};
 pub use text::{Ended, play_text};

@@ -2,11 +2,10 @@
 
 ghost use Rattle.std.specs.Prelude.{◌≡◌, ◌++◌, [], IfOk, OnErr, OnOk};
 ghost use Rattle.kob_router.specs.Line.{one_more};
-ghost use Rattle.kob_scene_play.specs.Forms.{shown_text};
 ghost use Rattle.kob_scene_play.specs.Steps.{Tells};
 ghost use Rattle.kob_scene_play.specs.Scenes.{IsRead, IsServed, IsShown, IsStep, Leaves};
 ghost use Rattle.kob_scene_play.specs.Scenes.{OthersStay, is_run};
-ghost use Rattle.kob_scene_play.specs.Scenes.{EndsAs, EndsScene, EndsSteps};
+ghost use Rattle.kob_scene_play.specs.Scenes.{EndsAs, EndsScene, EndsSteps, show_by};
 ghost use Rattle.kob_script.specs.Printed.{reply_text};
 ghost use Rattle.kob_shared.specs.Journals.{after_event, outcome_of};
 
@@ -14,13 +13,13 @@ use crate::check::show_check;
 use crate::consumer_steps::play_consumer;
 use crate::expect::show_expected;
 use crate::fault::PlayFault;
-use crate::form::{Showing, Shown};
+use crate::form::{Showing, Shown, line_at};
 use crate::journal::show_journal;
 use crate::law::show_law;
 use crate::output::Output;
 use crate::page::Page;
 use crate::service_steps::play_service;
-use crate::stage::Stage;
+use crate::stage::{Stage, Unmet};
 use crate::text::Ended;
 use kob_rights::Event;
 use kob_scene_text::{ConsumerStep, Scene, ServiceStep, Step};
@@ -48,13 +47,13 @@ pub fn play<W: Write>(
         }
     };
     match play_scene(alloc, shown, scene, &mut page, writer)? {
-        Played::Whole { is_unmet: false } => {
+        Played::Whole(unmet) => {
             page.write(writer)?;
-            Ok(Ended::Clean)
-        }
-        Played::Whole { is_unmet: true } => {
-            page.write(writer)?;
-            Ok(Ended::Unmet)
+            if unmet.count == 0 {
+                Ok(Ended::Clean)
+            } else {
+                Ok(Ended::Unmet(unmet))
+            }
         }
         Played::Stopped(fault) => {
             page.stop(shown, writer)?;
@@ -66,8 +65,8 @@ pub fn play<W: Write>(
 /// How the steps of a scene were played.
 #[derive(Clone, Copy)]
 pub(crate) enum Played {
-    /// All of them, and whether something that was expected was not so.
-    Whole { is_unmet: bool },
+    /// All of them, and what was expected in them and not so.
+    Whole(Unmet),
     /// Up to one that this fault stopped.
     Stopped(PlayFault),
 }
@@ -104,11 +103,11 @@ fn play_scene<W: Write>(
         lines: &lines,
     };
     let played = play_steps(alloc, showing, &mut stage, &steps, page, writer);
-    let is_unmet = stage.is_unmet;
+    let unmet = stage.unmet;
     drop(stage);
     drop(steps);
     match played? {
-        None => Ok(Played::Whole { is_unmet }),
+        None => Ok(Played::Whole(unmet)),
         Some(fault) => Ok(Played::Stopped(fault)),
     }
 }
@@ -123,7 +122,7 @@ fn play_steps<'s, W: Write>(
     writer: &mut W,
 ) -> Result<Option<PlayFault>, PlayFault>
     ensures { IfOk result
-        (EndsSteps (shown_text showing.entry.shown.now showing.entry.lines.now) steps.now
+        (EndsSteps (show_by showing.entry.shown.now showing.entry.lines.now) steps.now
         stage.old stage.new page.old.told page.new.told (W.contents writer.old)
         page.old.text.items (W.contents writer.new) page.new.text.items) }
 {
@@ -149,7 +148,7 @@ fn show_step<'s>(
     page: &mut Page,
 ) -> Result<(), PlayFault>
     ensures shown { OnOk result (Tells
-        (IsShown (shown_text showing.entry.shown.now showing.entry.lines.now) place step.now
+        (IsShown (show_by showing.entry.shown.now showing.entry.lines.now) place step.now
         stage.old stage.new page.old.told page.new.told)
         page.old.text.items page.new.text.items) }
     ensures stopped { OnErr result (Tells (Leaves step.now page.old.told page.new.told)
@@ -157,7 +156,7 @@ fn show_step<'s>(
 {
     out.begin(page.told);
     let before = stage.recorded.journal().len();
-    match play_step(alloc, stage, step, out) {
+    match play_step(alloc, stage, step, line_at(showing.lines, place), out) {
         Ok(()) => Ok(page.show(alloc, showing, place, before, stage.recorded.journal(), out)?),
         Err(fault) => {
             if is_run(step) {
@@ -180,14 +179,16 @@ fn is_run(step: &Step) -> bool
     }
 }
 
-/// Plays a step.
+/// Plays the step on this line.
 fn play_step<'s>(
     alloc: Global,
     stage: &mut Stage<'s>,
     step: &'s Step,
+    line: u64,
     out: &mut Output,
 ) -> Result<(), PlayFault>
-    ensures { OnOk result (Tells (IsStep step.now stage.old stage.new out.old.told out.new.told)
+    ensures { OnOk result (Tells
+        (IsStep step.now line stage.old stage.new out.old.told out.new.told)
         out.old.text.items out.new.text.items) }
 {
     match step {
@@ -201,7 +202,7 @@ fn play_step<'s>(
             service,
             consumer,
             what,
-        } => show_expected(alloc, stage, *service, *consumer, *what, out),
+        } => show_expected(alloc, stage, *service, *consumer, *what, line, out),
     }
 }
 
@@ -214,7 +215,7 @@ fn play_service_at<'s>(
     out: &mut Output,
 ) -> Result<(), PlayFault>
     ensures consumers { stage.new.consumers ≡ stage.old.consumers }
-    ensures unmet { stage.new.is_unmet ≡ stage.old.is_unmet }
+    ensures unmet { stage.new.unmet ≡ stage.old.unmet }
     ensures others { OthersStay which stage.old.services.items stage.new.services.items }
     ensures done { OnOk result (Tells (IsServed which step.now stage.old.services.items
         stage.new.services.items stage.old.recorded stage.new.recorded out.old.told
@@ -235,7 +236,7 @@ fn play_consumer_at(
     out: &mut Output,
 ) -> Result<(), PlayFault>
     ensures services { stage.new.services ≡ stage.old.services }
-    ensures unmet { stage.new.is_unmet ≡ stage.old.is_unmet }
+    ensures unmet { stage.new.unmet ≡ stage.old.unmet }
     ensures others { OthersStay which stage.old.consumers.items stage.new.consumers.items }
     ensures done { OnOk result (Tells (IsRead which step.now stage.old.consumers.items
         stage.new.consumers.items stage.old.recorded stage.new.recorded out.old.told

@@ -1,6 +1,7 @@
 //! What a scene is played on.
 
-ghost use Rattle.std.specs.Prelude.{◌≡◌, ◌++◌, ◌∷◌, [], IfOk, OnOk, false, map};
+ghost use Rattle.std.specs.Prelude.{◌≡◌, ◌++◌, ◌∷◌, [], IfOk, OnOk, map};
+ghost use Rattle.kob_scene_play.specs.Expectations.{all_met};
 ghost use Rattle.std.specs.Option.{option_copied};
 ghost use Rattle.kob_broker.specs.Step.{state_of};
 ghost use Rattle.kob_broker.specs.State.{settings_of};
@@ -38,8 +39,40 @@ pub struct Stage<'s> {
     pub recorded: Recorded,
     pub services: Vec<PlayedService<'s>>,
     pub consumers: Vec<PlayedConsumer>,
-    /// Whether something was expected that is not so.
-    pub is_unmet: bool,
+    pub unmet: Unmet,
+}
+
+/// How many things were expected that are not so, and the line of the first of them.
+#[derive(Clone, Copy, Debug, PartialEq, Eq)]
+pub struct Unmet {
+    /// 0 if all is as expected; counted up to 18,446,744,073,709,551,615.
+    pub count: u64,
+    /// From 1 on; 0 if all is as expected.
+    pub line: u64,
+}
+
+impl Unmet {
+    ghost use Rattle.kob_scene_play.specs.Expectations.{all_met, unmet_after};
+
+    /// All is as expected.
+    pub(crate) fn none() -> Unmet
+        ensures { result ≡ all_met }
+    {
+        Unmet { count: 0, line: 0 }
+    }
+
+    /// Counts one thing more, which is expected on this line.
+    pub(crate) fn after(self, is_met: bool, line: u64) -> Unmet
+        ensures { result ≡ unmet_after self is_met line }
+    {
+        if is_met {
+            return self;
+        }
+        Unmet {
+            count: self.count.saturating_add(1),
+            line: if self.count == 0 { line } else { self.line },
+        }
+    }
 }
 
 impl<'s> Stage<'s> {
@@ -55,7 +88,7 @@ impl<'s> Stage<'s> {
             ≡ map declared_service services.items) }
         ensures consumers { IfOk result (λ stage. map named_consumer stage.consumers.items
             ≡ map declared_consumer consumers.items) }
-        ensures met { IfOk result (λ stage. stage.is_unmet ≡ false) }
+        ensures met { IfOk result (λ stage. stage.unmet ≡ all_met) }
     {
         let services = match all_services(alloc, services) {
             Ok(services) => services,
@@ -76,7 +109,7 @@ impl<'s> Stage<'s> {
                 recorded,
                 services,
                 consumers,
-                is_unmet: false,
+                unmet: Unmet::none(),
             }),
             Err(fault) => {
                 drop(services);

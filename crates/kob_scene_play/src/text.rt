@@ -10,6 +10,7 @@ use crate::fault::PlayFault;
 use crate::form::{Form, Shown};
 use crate::json::push_json;
 use crate::playing::play;
+use crate::stage::Unmet;
 use kob_scene_text::{SceneError, SceneFault, print_scene_fault, read_scene};
 use std::alloc::{AllocError, Global};
 use std::io::Write;
@@ -19,8 +20,8 @@ use std::io::Write;
 pub enum Ended {
     /// All steps were played, and all that was expected is so.
     Clean,
-    /// All steps were played, and something that was expected is not so.
-    Unmet,
+    /// All steps were played, and so many things that were expected are not so.
+    Unmet(Unmet),
     /// The text has a fault, and no step was played.
     Fault(SceneFault),
     /// The scene stopped after some of the steps.

@@ -1,4 +1,5 @@
-use Rattle.kob_scene_play.proofs.Words.{[], ap, append_assoc, arith, drop, length-take-le, shown_text, sym, take, take-append-drop, take_all, take_more, ◌++◌, ◌+◌, ◌∙◌, ◌∷◌}
+use Rattle.kob_scene_play.proofs.Words.{[], ap, append_assoc, arith, drop, length-take-le, sym, take, take-append-drop, take_all, take_more, ◌++◌, ◌+◌, ◌∙◌, ◌∷◌}
+use Rattle.kob_scene_play.specs.Scenes.{show_by}
 use Rattle.kob_scene_play.proofs.Played.{one_step_more, one_step_stops}
 use Rattle.kob_scene_play.proofs.playing.play_steps.Goals as goal
 
@@ -11,7 +12,7 @@ loop-place-preserved g c =
     take_more steps c.loop-place.place step c.loop-place-test.true
     ∙ ap (λ next. before ++ next ∷ []) (sym c.index-steps-place.is) in
     rw more (rw c.in_ok-write_piece-in-Ok.ensures.told (one_step_more
-    (shown_text c.args.showing.shown.now c.args.showing.lines.now) c.loop-place.place before step c.args.stage.now
+    (show_by c.args.showing.shown.now c.args.showing.lines.now) c.loop-place.place before step c.args.stage.now
     c.loop-place.stage c.show_step.new.stage c.args.page.now.told c.loop-place.page.told c.show_step.new.page.told _ _ _
     c.args.page.now.text.items c.loop-place.page.text.items c.show_step.new.page.text.items
     c.write_piece.new.self.text.items (length-take-le c.loop-place.place steps (omega (arith, c.loop-place-test.true)))
@@ -29,7 +30,7 @@ returns-in-Err g c =
     take_more steps place step c.loop-place-test.true ∙ ap (λ next. before ++ next ∷ []) (sym c.index-steps-place.is) in
     let split =
     sym (take-append-drop (place + 1) steps) ∙ ap (λ front. front ++ later) more ∙ append_assoc before (step ∷ []) later in
-    one_step_stops (shown_text c.args.showing.shown.now c.args.showing.lines.now) steps before later step c.args.stage.now
+    one_step_stops (show_by c.args.showing.shown.now c.args.showing.lines.now) steps before later step c.args.stage.now
     c.loop-place.stage c.show_step.new.stage c.args.page.now.told c.loop-place.page.told c.show_step.new.page.told _ _
     c.args.page.now.text.items c.loop-place.page.text.items c.show_step.new.page.text.items c.in-Err.fault split
     c.loop-place.invariant c.in-Err.ensures.stopped

@@ -1,10 +1,11 @@
-use Rattle.kob_scene_play.proofs.Words.{ap, length, shown_text, ◌∙◌}
+use Rattle.kob_scene_play.proofs.Words.{ap, length, ◌∙◌}
+use Rattle.kob_scene_play.specs.Scenes.{show_by}
 use Rattle.kob_scene_play.proofs.Played.{step_shown}
 use Rattle.kob_scene_play.proofs.playing.show_step.Goals as goal
 
 pub returns-in_ok-show-in-Ok-clause-shown : goal.returns-in_ok-show-in-Ok-clause-shown
 returns-in_ok-show-in-Ok-clause-shown c =
-    step_shown (shown_text c.args.showing.shown.now c.args.showing.lines.now) c.args.place c.len-before.result
+    step_shown (show_by c.args.showing.shown.now c.args.showing.lines.now) c.args.place c.len-before.result
     c.args.step.now c.args.stage.now c.play_step.new.stage c.journal-in-Ok.result.now c.args.page.now.told
     c.begin.new.self.told c.play_step.new.out.told c.show.new.self.told c.begin.new.self.text.items
     c.play_step.new.out.text.items c.args.page.now.text.items c.show.new.self.text.items c.begin.ensures.told
