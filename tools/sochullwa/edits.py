@@ -1,4 +1,4 @@
-"""Reads wrong bodies, the files NAME.edit: the texts that they change, and the functions that these are
+"""Reads mutants, the files NAME.edit: the texts that they change, and the functions that these are
 in."""
 import dataclasses
 import difflib
@@ -49,7 +49,7 @@ class Function:
 
 @dataclasses.dataclass(frozen=True)
 class Edit:
-    """A wrong body: its changes, the functions that these are in (None: not all are in one), and the files
+    """A mutant: its changes, the functions that these are in (None: not all are in one), and the files
     that it changes as it leaves them."""
 
     at: pathlib.Path

@@ -15,7 +15,7 @@ def edit(name: str, *functions: str, file: str = "src/a.rt") -> Edit:
 
 
 SOURCE = "pub fn f() -> u8 {\n    1\n}\n\npub fn g() -> u8 {\n    2\n}\n\npub fn h() -> u8 {\n    3\n}\n"
-# A prover that sees the wrong bodies of f and g, the second only by its stored answer.
+# A prover that sees the mutants of f and g, the second only by its stored answer.
 PROVER = """
 answers=proofs/a/g/Answers.antt
 grep -q wrong_f src/a.rt && echo 'src/a.rt:2:5: error: the goal is open' && exit 1
