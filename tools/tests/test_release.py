@@ -58,6 +58,16 @@ class Release(unittest.TestCase):
         for text, wanted in cases:
             self.assertEqual(release.shown([text]), [f"crates/kob/{it}" for it in wanted])
 
+    def test_a_link_to_a_file_that_a_release_lacks_is_its_text(self) -> None:
+        there = ["README.md", "docs/GUIDE.md", "docs/guide/RULES.md", "examples/scenes/a.txt"]
+        for page, text, wanted in (
+            ("README.md", "[the guide](docs/GUIDE.md#start)", "[the guide](docs/GUIDE.md#start)"),
+            ("README.md", "[docs/THEOREMS.md](docs/THEOREMS.md#5-delivery), ", "docs/THEOREMS.md, "),
+            ("docs/guide/RULES.md", "[x](../GUIDE.md) [`f`](../../src/f.rt#L1)", "[x](../GUIDE.md) `f`"),
+            ("docs/GUIDE.md", "[all](../examples/scenes) [here](#a) [out](https://x.org)", None),
+        ):
+            self.assertEqual(release.without_dead_links(page, text, there), wanted or text)
+
     def test_options_are_those_of_the_program(self) -> None:
         text = "kafka-acls --list --add, kob play --json, \\-\\-trace and -l skip; no--option"
         self.assertEqual(release.options_in(text), {"--json", "--trace", "--skip"})
