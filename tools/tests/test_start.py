@@ -49,9 +49,18 @@ class Start(unittest.TestCase):
             with self.assertRaises(SystemExit):
                 start.start(place)
         self.assertFalse((TOP / "shop").exists())
-        with contextlib.redirect_stdout(io.StringIO()) as said:
-            start.start(str(self.room / "shop"))
-        self.assertEqual(said.getvalue(), f"cd {self.room}/shop/crates/shop && rt try\n")
+        self.assertFalse((self.room / "Shop").exists())
+
+    def test_a_program_that_is_begun_is_run(self) -> None:
+        put(self.room, {"bin/rt": f"#!/bin/sh\necho $PWD $* > {self.room}/ran\nexit 3\n"})
+        how = {"PATH": f"{self.room / 'bin'}:/usr/bin:/bin"}
+        with (
+            mock.patch.dict(start.subprocess.os.environ, how),
+            contextlib.redirect_stderr(io.StringIO()) as said,
+        ):
+            self.assertEqual(start.main([str(self.room / "shop")]), 3)
+        self.assertEqual((self.room / "ran").read_text(), f"{self.room}/shop/crates/shop try\n")
+        self.assertIn(f"cd {self.room}/shop/crates/shop && rt try\n", said.getvalue())
 
     def test_a_program_that_prints_something_else_is_wrong(self) -> None:
         put(self.room, {"bin/right": "#!/bin/sh\necho done\n", "bin/wrong": "#!/bin/sh\necho done\nexit 1\n"})
