@@ -6,7 +6,7 @@ import tempfile
 import unittest
 from unittest import mock
 
-from sochullwa import quoting, repository
+from sochullwa import citing, quoting, repository
 from tests import program, put
 
 guide = program("tools/guide")
@@ -43,13 +43,14 @@ class Guide(unittest.TestCase):
         picture = f"<svg/>\n<!-- drawn of two.dot, {told.split()[0]} -->\n"
         put(self.room, {"docs/pictures/two.svg": picture})
         subprocess.run(["git", "init", "-q", "."], cwd=self.room, check=True)
-        for module in (repository, quoting, guide):
+        for module in (repository, quoting, citing, guide):
             change = mock.patch.object(module, "TOP", self.room)
             change.start()
             self.addCleanup(change.stop)
-        change = mock.patch.object(quoting, "CRATES", self.room / "crates")
-        change.start()
-        self.addCleanup(change.stop)
+        for module in (quoting, citing):
+            change = mock.patch.object(module, "CRATES", self.room / "crates")
+            change.start()
+            self.addCleanup(change.stop)
 
     def guide(self, *words: str) -> tuple[int, str]:
         subprocess.run(["git", "add", "-A"], cwd=self.room, check=True)
@@ -134,6 +135,16 @@ class Guide(unittest.TestCase):
         put(self.room, {"docs/PAGE.md": index.format("`Mark::next`, `gone`")})
         text = "docs/PAGE.md quotes what is not there: no crate of its row in PAGE.md declares gone\n"
         self.assertIn(text, self.guide()[1])
+
+    def test_what_quotations_cite_is_linked(self) -> None:
+        text = "two : Nat\ntwo = first\n"
+        put(self.room, {"crates/kob_low/specs/Uses.antt": f"use Rattle.kob_low.specs.Marks.{{first}}\n\n{text}"})
+        page = f"```contract crates/kob_low/specs/Uses.antt two\n{text}```\n\n"
+        page += "<!-- cited -->\n{}<!-- end of cited -->\n"
+        table = "\n| Contract | Definitions | Lines | Lines by crate |\n|---|---|---|---|\n\n"
+        table += "| Crate | Cited above and not quoted |\n|---|---|\n"
+        link = "[`first`](../crates/kob_low/specs/Marks.antt#L2)"
+        self.written(page.format(""), page.format(f"{table}| kob_low | {link} |\n\n"))
 
     def test_contents_list_the_headings(self) -> None:
         page = "<!-- contents -->\n{}<!-- end of contents -->\n\n## Its `first` part\n\n"
