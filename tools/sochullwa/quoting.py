@@ -1,11 +1,15 @@
 """What pages quote of the repository: files, contracts, lists of files, and counts of crates and mutants."""
+import collections
+import json
 import pathlib
 import re
 from collections.abc import Callable, Iterable
 
 from sochullwa.repository import CRATES, TOP, listed
 
-BLOCK = re.compile(r"```(script|output|contract|function|files|layers|edits|sizes|lines) ([^\n]+)\n(.*?)```\n", re.S)
+BLOCK = re.compile(
+    r"```(script|output|contract|function|files|layers|edits|tried|sizes|lines) ([^\n]+)\n(.*?)```\n", re.S
+)
 # The crates by subject, for the table of sizes; the tests and all other crates have rows of their own.
 SUBJECTS = {
     "names, lists and trees": "names words ordered chunks prefix_tree",
@@ -145,6 +149,20 @@ def edits(name: str) -> str:
     return "".join(f"{it}\n" for it in [*rows, f"all {sum(counts.values())}"])
 
 
+def tried(name: str) -> str:
+    """What came of the mutants of each crate when they were tried last, by the file that keeps it."""
+    verdicts = {it: kept["verdict"] for it, kept in json.loads((TOP / name).read_text()).items()}
+    rows, whole = [], collections.Counter[str]()
+    for folder in sorted(it for it in (TOP / name).parent.iterdir() if it.is_dir()):
+        found = (f"{folder.name}/{it.name}" for it in folder.glob("*.edit"))
+        counts = collections.Counter(verdicts.get(it, "untried") for it in found)
+        rows.append((folder.name, counts))
+        whole += counts
+    kinds = sorted(whole, key=lambda it: (it == "untried", it))
+    lines = [(crate, [counts[it] or "-" for it in kinds]) for crate, counts in [*rows, ("all", whole)]]
+    return "".join(row_of(crate, cells) for crate, cells in [("", kinds), *lines])
+
+
 KINDS: dict[str, Callable[[str], str]] = {
     "script": file,
     "output": file,
@@ -153,6 +171,7 @@ KINDS: dict[str, Callable[[str], str]] = {
     "files": files_with,
     "layers": layers,
     "edits": edits,
+    "tried": tried,
     "sizes": sizes,
     "lines": lines_of_each,
 }

@@ -27,7 +27,8 @@ FILES = {
     "crates/kob/proofs/Lib.antt": "lemma : Nat\n",
     "examples/one.txt": "first line\n",
     "mutants/kob/wrong.edit": "file: src/main.rt\n",
-    "mutants/tried.json": "{}\n",
+    "mutants/kob/new.edit": "file: src/main.rt\n",
+    "mutants/tried.json": '{"kob/wrong.edit": {"verdict": "clause"}, "kob/gone.edit": {"verdict": "stored"}}',
     "docs/pictures/two.dot": "digraph {}\n",
 }
 
@@ -93,7 +94,11 @@ class Guide(unittest.TestCase):
             "files Mark": "kob_low: specs/Marks.antt, src/lib.rt\n",
             "files Mark in kob_low kob": "kob_low: specs/Marks.antt, src/lib.rt\n",
             "layers crates.txt": " 2  kob\n 1  low\n",
-            "edits mutants": "kob 1\nall 1\n",
+            "edits mutants": "kob 2\nall 2\n",
+            "tried mutants/tried.json": (
+                f"{'':32}{'clause':>13}{'untried':>13}\n"
+                f"{'kob':32}{1:>13}{1:>13}\n{'all':32}{1:>13}{1:>13}\n"
+            ),
             "lines crates.txt": (
                 f"{'lines':32}{'code':>13}{'contracts':>13}{'definitions':>13}{'proofs':>13}\n"
                 f"{'kob_low':32}{7:>13}{1:>13}{4:>13}{0:>13}\n"
