@@ -152,7 +152,8 @@ def edits(name: str) -> str:
 def tried(name: str) -> str:
     """What came of the mutants of each crate when they were tried last, by the file that keeps it."""
     verdicts = {it: kept["verdict"] for it, kept in json.loads((TOP / name).read_text()).items()}
-    rows, whole = [], collections.Counter[str]()
+    whole: collections.Counter[str] = collections.Counter()
+    rows: list[tuple[str, collections.Counter[str]]] = []
     for folder in sorted(it for it in (TOP / name).parent.iterdir() if it.is_dir()):
         found = (f"{folder.name}/{it.name}" for it in folder.glob("*.edit"))
         counts = collections.Counter(verdicts.get(it, "untried") for it in found)
