@@ -1,8 +1,8 @@
 -- The steps of a scene, one after another.
-use Rattle.kob_scene_play.proofs.Words.{Appends, Appends-trans, ArePlayed, Consumer, ConsumerStep, EndsAs, EndsScene, EndsSteps, Entry, Err, IfOk, IsAnswered, IsChecked, IsConsumerChange, IsConsumerStep, IsRead, IsReady, IsServed, IsServiceChange, IsServiceStep, IsShown, IsStep, Leaves, List, None, Ok, OnOk, Option, OthersStay, PlayFault, PlayedConsumer, PlayedService, Record, Result, Scene, Service, ServiceStep, Show, Shown, Some, Stage, Step, StopsIn, Tells, Writes, WritesSteps, [], ap, append-nil, append_assoc, arith, declared_consumer, declared_service, inl, inr, length, map, named_consumer, named_service, one_more, refl, set, show_of, slice_get, stopped_shown, subst, suc, sym, ℕ, ◌++◌, ◌+◌, ◌∙◌, ◌∷◌, ◌≡◌}
+use Rattle.kob_scene_play.proofs.Words.{Appends, Appends-trans, ArePlayed, Consumer, ConsumerStep, EndsAs, EndsScene, EndsSteps, Entry, Err, IsAnswered, IsChecked, IsConsumerChange, IsConsumerStep, IsRead, IsReady, IsServed, IsServiceChange, IsServiceStep, IsShown, IsStep, Leaves, List, None, Ok, OnOk, Option, OthersStay, PlayFault, PlayedConsumer, PlayedService, Record, Result, Scene, Service, ServiceStep, Show, Shown, Some, Stage, Step, StopsIn, Tells, Writes, WritesSteps, [], ap, append-nil, append_assoc, arith, inl, inr, length, one_more, refl, set, show_of, slice_get, stopped_shown, subst, suc, sym, ℕ, ◌++◌, ◌+◌, ◌∙◌, ◌∷◌, ◌≡◌}
 use Rattle.kob_scene_play.proofs.Places.{put_at}
 use Rattle.kob_scene_play.specs.Expectations.{IsExpected}
-use Rattle.kob_scene_play.specs.Scenes.{EndsWhole, IsPlayed}
+use Rattle.kob_scene_play.specs.Scenes.{EndsWhole}
 use Rattle.kob_scene_play.specs.declared.stage.Unmet.{Unmet}
 use Rattle.kob_scene_play.specs.declared.playing.Played.TheVariants as played
 use Rattle.kob_scene_play.specs.declared.text.Ended.TheVariants as ended

@@ -1,5 +1,5 @@
 -- Services that send otherwise than the proved router.
-use Rattle.kob_scene_play.proofs.Words.{ArePassedOn, Bool, Call, Contents, Journals, List, Loss, None, Option, PassesCallsOn, Record, Service, Some, [], ap, false, inl, inr, map, map-append, refl, subst, sym, true, ℕ, ◌++◌, ◌∙◌, ◌∷◌, ◌≡◌}
+use Rattle.kob_scene_play.proofs.Words.{ArePassedOn, Bool, Call, Journals, List, Loss, None, Option, PassesCallsOn, Record, Service, Some, [], ap, false, inl, inr, map, map-append, refl, subst, sym, true, ◌++◌, ◌∙◌, ◌∷◌, ◌≡◌}
 use Rattle.kob_lines.proofs.Adding as adding
 use Rattle.kob_lines.specs.Calls.{MakesCalls, ServesAs, ServesEach}
 use Rattle.kob_lines.specs.Joined.{each_append, each_gives}

@@ -10,8 +10,8 @@ pub scene_written : (form : Form) (source : List ℕ) (shown : Shown) (scene : S
     → IfOk result (EndsAs shown scene before now) → IfOk result (IsWritten form source before now)
 scene_written form source shown scene (Ok variants.Clean) before now same read lines is =
     (scene, read, lines, subst (λ (by : Shown). EndsAs by scene before now variants.Clean) same is)
-scene_written form source shown scene (Ok variants.Unmet) before now same read lines is =
-    (scene, read, lines, subst (λ (by : Shown). EndsAs by scene before now variants.Unmet) same is)
+scene_written form source shown scene (Ok (variants.Unmet unmet)) before now same read lines is =
+    (scene, read, lines, subst (λ (by : Shown). EndsAs by scene before now (variants.Unmet unmet)) same is)
 scene_written form source shown scene (Ok (variants.Fault fault)) before now same read lines none = absurd none
 scene_written form source shown scene (Ok (variants.Stopped fault)) before now same read lines is =
     (scene, read, lines, subst (λ (by : Shown). EndsAs by scene before now (variants.Stopped fault)) same is)

@@ -2,7 +2,6 @@ use Rattle.kob_scene_play.proofs.Words.{rules, subst, sym}
 use Rattle.std.specs.Bool.{nat_eq}
 use Rattle.kob_scene_play.specs.Expectations.{IsMet}
 use Rattle.kob_scene_text.specs.declared.scene.Expected.{Expected}
-use Rattle.kob_scene_text.specs.declared.scene.Expected.TheVariants as expectations
 use Rattle.kob_scene_play.proofs.expect.is_met.Goals as goal
 
 pub returns-in_ok-early-in-Order-clause-met : goal.returns-in_ok-early-in-Order-clause-met
