@@ -49,13 +49,14 @@ class Function:
 
 @dataclasses.dataclass(frozen=True)
 class Edit:
-    """A mutant: its changes, the functions that these are in (None: not all are in one), and the files
-    that it changes as it leaves them."""
+    """A mutant: its changes, the functions that these are in (None: not all are in one), the files that it
+    changes as it leaves them, and whether it is one that the compiler refuses: it has a line `by: type`."""
 
     at: pathlib.Path
     changes: tuple[Change, ...]
     functions: tuple[Function, ...] | None
     texts: dict[str, str]
+    is_by_type: bool = False
 
     @property
     def names(self) -> list[str]:
@@ -123,7 +124,8 @@ def read(at: pathlib.Path, crate: pathlib.Path) -> Edit | None:
         functions.append(function_at(it.file, text, place) if is_code else None)
         texts[it.file] = text.replace(it.old, it.new)
     known = tuple(dict.fromkeys(it for it in functions if it))
-    return Edit(at, changed, None if None in functions else known, texts)
+    is_by_type = "by: type" in at.read_text().split("\n")
+    return Edit(at, changed, None if None in functions else known, texts, is_by_type)
 
 
 TOKENS = re.compile(r"\w+|\s+|.")
@@ -160,4 +162,5 @@ def repaired(text: str, texts: dict[str, str]) -> str:
     before = list(changes(text))
     after = [renamed(it, texts) for it in before]
     lines = [f"file: {it.file}\nold: {it.old}\nnew: {it.new}\n" for it in after]
+    lines += ["by: type\n"] * ("by: type" in text.split("\n"))
     return "".join(lines) if after != before else ""

@@ -50,6 +50,12 @@ class Edits(unittest.TestCase):
         assert found
         self.assertIsNone(found.functions)
 
+    def test_an_edit_says_that_the_compiler_refuses_it(self) -> None:
+        for text, is_by_type in ((EDIT, False), (EDIT + "by: type\n", True), ("by: type\n" + EDIT, True)):
+            found = self.read(text)
+            assert found
+            self.assertEqual((found.is_by_type, len(found.changes)), (is_by_type, 1))
+
     def test_an_impl_is_called_as_the_prover_calls_it(self) -> None:
         for head, name in {
             " Tree": "Tree",
@@ -77,6 +83,8 @@ class Edits(unittest.TestCase):
         wanted = "file: src/marks.rt\nold:         let place = self.start + 1;\n"
         wanted += "new:         let place = self.start;\n"
         self.assertEqual(edits.repaired(EDIT, {"src/marks.rt": renamed}), wanted)
+        by_type = edits.repaired("by: type\n" + EDIT, {"src/marks.rt": renamed})
+        self.assertEqual(by_type, wanted + "by: type\n")
 
     def test_an_edit_follows_a_function_to_its_file(self) -> None:
         moved = {"src/marks.rt": "//! Marks.\n", "src/iter.rt": SOURCE.replace("mark", "place")}

@@ -1,9 +1,11 @@
+import dataclasses
 import pathlib
 import tempfile
 import unittest
 from unittest import mock
 
 from sochullwa.edits import Change, Edit, Function
+from sochullwa.evidence import MADE
 from tests import program, put
 
 mutants = program("tools/mutants")
@@ -58,6 +60,12 @@ class Mutants(unittest.TestCase):
         outside, one = edit("outside"), edit("one", "f")
         self.assertEqual(list(mutants.rounds([outside, one])), [[outside], [one]])
 
+    def test_an_edit_by_type_is_alone_in_its_round(self) -> None:
+        one, two, three = edit("one", "f"), edit("two", "g"), edit("three", "h")
+        two = dataclasses.replace(two, is_by_type=True)
+        self.assertEqual(list(mutants.rounds([one, two, three])), [[one, three], [two]])
+        self.assertEqual(list(mutants.rounds([two, one, three])), [[two], [one, three]])
+
     def test_each_answer_of_the_prover_is_a_verdict(self) -> None:
         goal = "src/a.rt:12:5: error: the goal is open"
         stored = "proofs/a/f/Answers.antt:3:1: error: the value is another"
@@ -74,6 +82,23 @@ class Mutants(unittest.TestCase):
             self.assertEqual(mutants.verdict(edit("it", "a::f"), status, lines), verdict)
         self.assertEqual(mutants.verdict(edit("it"), 1, [stored])[0], "stored")
 
+    def test_an_edit_by_type_is_refused_where_types_are_at_odds(self) -> None:
+        types = "src/a.rt:12:5: error[mismatched-types]: expected `AllocError`, found an integer"
+        count = "src/a.rt:12:5: error[mismatched-argument-count]: `f` takes 2 arguments"
+        name = "src/a.rt:12:5: error[unknown-name]: cannot find value `it` in this scope"
+        goal = "src/a.rt:12:5: error: the goal is open"
+        by_type = dataclasses.replace(edit("it", "a::f"), is_by_type=True)
+        for status, lines, verdict in (
+            (1, [types], ("type", types)),
+            (1, [count], ("type", count)),
+            (1, [types, name], ("not applicable", types)),
+            (1, [name], ("not applicable", name)),
+            (1, [goal], ("clause", goal)),
+            (0, [], ("PROVED", "")),
+        ):
+            self.assertEqual(mutants.verdict(by_type, status, lines), verdict)
+        self.assertEqual(mutants.verdict(edit("it", "a::f"), 1, [types]), ("not applicable", types))
+
     def test_only_a_refusal_of_the_present_text_counts(self) -> None:
         with tempfile.TemporaryDirectory() as folder:
             put(pathlib.Path(folder), {"crate/it.edit": "file: src/a.rt\n"})
@@ -81,6 +106,7 @@ class Mutants(unittest.TestCase):
             for verdict, text, is_refused in (
                 ("clause", mutants.sum_of_text(at), True),
                 ("rule", mutants.sum_of_text(at), True),
+                ("type", mutants.sum_of_text(at), True),
                 ("stored", mutants.sum_of_text(at), False),
                 ("clause", "0", False),
             ):
@@ -99,10 +125,13 @@ class Mutants(unittest.TestCase):
             self.assertEqual((room / "tried.json").read_text(), wanted)
 
     def test_an_edit_that_makes_an_error_breaks_the_rule(self) -> None:
-        with tempfile.TemporaryDirectory() as folder:
-            put(pathlib.Path(folder), {"crate/src/a.rt": "fn f() {\n    Err(AllocError)\n}\n"})
-            with mock.patch.object(mutants, "CRATES", pathlib.Path(folder)):
-                texts = {"Err(AllocError)": False, "Err(AllocError)?; Err(AllocError)": True}
-                for text, is_broken in texts.items():
-                    made = Edit(pathlib.Path("it.edit"), (), (), {"src/a.rt": text})
-                    self.assertEqual(mutants.breaks_the_rule("crate", made), is_broken)
+        for may, text, is_broken in (
+            (0, "fn f() {}", False),
+            (0, "Err(AllocError)", True),
+            (1, "Err(AllocError)", False),
+            (1, "Err(AllocError)?; Err(AllocError)", True),
+            (0, "use std::alloc::AllocError as Refused;", True),
+        ):
+            made = Edit(pathlib.Path("it.edit"), (), (), {"src/a.rt": text})
+            with mock.patch.dict(MADE, {"kob_a/src/a.rt": (may, "it")} if may else {}, clear=True):
+                self.assertEqual(mutants.breaks_the_rule("kob_a", made), is_broken)
