@@ -158,7 +158,7 @@ fn push_remarks(
     name: &str,
     text: &[u8],
 ) -> Result<(), AllocError> {
-    if let Some((line, word)) = quoted_name(text) {
+    if let Some((line, word)) = quoted_name(alloc, text)? {
         push_quoted(out, name, line, word)?;
     }
     if let Some((line, word)) = doubtful_state(alloc, text)? {

@@ -5,7 +5,6 @@ ghost use Rattle.kob_mistakes.specs.Hints.{begins_so, hint_on, hint_on_beginning
 ghost use Rattle.kob_mistakes.specs.Hints.{hint_on_bytes_of, is_list, is_utf_16};
 
 use crate::quotes::{Unread, unread_in};
-use crate::words::is_blank;
 use bstr::ByteSlice;
 
 /// A hint on a list that can't be read as UTF-8, if it has a mark of UTF-16, which is read elsewhere.
@@ -88,46 +87,5 @@ fn hint_on_bytes_of(line: &[u8], words: usize) -> Option<&'static str>
         Some("quotes are not removed: they become a part of the word; a blank is written %20")
     } else {
         None
-    }
-}
-
-/// The first line of a scene, counted from 1, in which quotes are a part of a name, and that name: the
-/// word behind a command, or a word behind `acl`. It is no fault.
-pub fn quoted_name(text: &[u8]) -> Option<(u64, &[u8])> {
-    let mut number: u64 = 0;
-    for line in text.lines() {
-        number = number.saturating_add(1);
-        if let Some(word) = quoted_in(line) {
-            return Some((number, word));
-        }
-    }
-    None
-}
-
-fn quoted_in(line: &[u8]) -> Option<&[u8]> {
-    let mut words = line
-        .split(|byte| is_blank(*byte))
-        .filter(|word| !word.is_empty());
-    let principal = words.next()?;
-    if principal.starts_with(b"#") || !principal.contains(&b':') {
-        return None;
-    }
-    words.next()?;
-    let command = words.next()?;
-    let first = words.next()?;
-    if is_quoted(first) {
-        Some(first)
-    } else if command == b"acl".as_slice() {
-        words.find(|word| is_quoted(word))
-    } else {
-        None
-    }
-}
-
-/// Whether a word has the same quotes at both ends.
-fn is_quoted(word: &[u8]) -> bool {
-    match word {
-        [first, .., last] => first == last && (*first == b'\'' || *first == b'"'),
-        _ => false,
     }
 }

@@ -4,24 +4,14 @@ ghost use Rattle.std.specs.Prelude.{◌≡◌, IfOk, codes, map};
 ghost use Rattle.std.specs.List.{list_any};
 ghost use Rattle.std.specs.Option.{option_map};
 ghost use Rattle.kob_mistakes.specs.Lines.{line_where};
-ghost use Rattle.kob_mistakes.specs.Records.{are_of_variant, are_with_state, doubtful_line};
+ghost use Rattle.kob_mistakes.specs.Records.{are_of_variant, are_with_state, before_ending, doubtful_line};
+ghost use Rattle.kob_mistakes.specs.Records.{ending_hint, hint_on_record, lacks_before_ending};
+ghost use Rattle.kob_mistakes.specs.Records.{missing_at, missing_before};
 ghost use Rattle.kob_mistakes.specs.Records.{doubtful_state, ending_named, ending_word};
 ghost use Rattle.kob_mistakes.specs.Records.{is_of_variant, is_with_state, variant_word, word_is};
 
-use crate::words::{lines_of, raw_words};
+use crate::words::{lines_of, raw_words, word_at};
 use std::alloc::{AllocError, Global};
-
-/// What is missing of a record that has so many words behind `record`.
-static MISSING: [&str; 8] = [
-    "ID is missing here",
-    "AGGREGATETYPE is missing here",
-    "AGGREGATEID is missing here",
-    "TYPE is missing here",
-    "PAYLOAD is missing here",
-    "KIND is missing here",
-    "KEY is missing here",
-    "STATE is missing here",
-];
 
 /// A word that may stand behind the state of a record, where its service is a variant.
 #[derive(Clone, Copy)]
@@ -52,7 +42,9 @@ impl Ending {
         }
     }
 
-    fn hint(self) -> &'static str {
+    fn hint(self) -> &'static str
+        ensures { result.now ≡ ending_hint self }
+    {
         match self {
             Ending::Crash => "crash needs a service that is declared separate",
             Ending::Late => "late needs a service that is declared visible late",
@@ -74,34 +66,66 @@ fn ending_named(word: &[u8]) -> Option<Ending>
 
 /// The place of the word that is wrong, if it is one of a record. Where the last words are missing,
 /// it is the place of a word that stands behind the state, in place of the end.
-pub(crate) fn before_ending(words: &[&[u8]], place: usize) -> usize {
-    match words {
-        [_, b"record", .., last] if place == words.len() && ending_named(last).is_some() => {
-            place.saturating_sub(1)
-        }
-        _ => place,
+pub(crate) fn before_ending(words: &[&[u8]], place: usize) -> usize
+    ensures { result ≡ before_ending (map (λ word. word.now) words.now) place }
+{
+    if lacks_before_ending(words, place) {
+        place.saturating_sub(1)
+    } else {
+        place
     }
+}
+
+#[tactic(auto, using(crate::proofs::Walking::lent_length))]
+fn lacks_before_ending(words: &[&[u8]], place: usize) -> bool
+    ensures { result ≡ lacks_before_ending (map (λ word. word.now) words.now) place }
+{
+    word_is(words, 1, b"record")
+        && place == words.len()
+        && ending_named(word_at(words, place.saturating_sub(1))).is_some()
 }
 
 /// A hint on the place of a record that is wrong: what is missing there, or which service may have
 /// its word.
-pub(crate) fn hint_on_record(words: &[&[u8]], place: usize) -> Option<&'static str> {
-    match words {
-        [_, b"record", behind @ ..] => {
-            let before = place.checked_sub(2)?;
-            let missing = MISSING.get(before).copied();
-            match behind.get(before) {
-                Some(word) => missing_before(word, missing),
-                None => missing,
-            }
-        }
+#[tactic(auto, using(crate::proofs::Walking::lent_at))]
+pub(crate) fn hint_on_record(words: &[&[u8]], place: usize) -> Option<&'static str>
+    ensures { option_map (λ hint. hint.now) result
+        ≡ hint_on_record (map (λ word. word.now) words.now) place }
+{
+    if !word_is(words, 1, b"record") || place < 2 {
+        return None;
+    }
+    match words.get(place) {
+        Some(word) => missing_before(word, missing_at(place)),
+        None => missing_at(place),
+    }
+}
+
+#[tactic(auto, unfolding(crate::specs::Records::missing_at))]
+fn missing_at(place: usize) -> Option<&'static str>
+    ensures { option_map (λ text. text.now) result ≡ missing_at place }
+{
+    match place {
+        2 => Some("ID is missing here"),
+        3 => Some("AGGREGATETYPE is missing here"),
+        4 => Some("AGGREGATEID is missing here"),
+        5 => Some("TYPE is missing here"),
+        6 => Some("PAYLOAD is missing here"),
+        7 => Some("KIND is missing here"),
+        8 => Some("KEY is missing here"),
+        9 => Some("STATE is missing here"),
         _ => None,
     }
 }
 
-fn missing_before(word: &[u8], missing: Option<&'static str>) -> Option<&'static str> {
-    let ending = ending_named(word)?;
-    missing.or(Some(ending.hint()))
+fn missing_before(word: &[u8], missing: Option<&'static str>) -> Option<&'static str>
+    ensures { option_map (λ text. text.now) result
+        ≡ missing_before (ending_named word.now) (option_map (λ text. text.now) missing.entry) }
+{
+    match ending_named(word) {
+        Some(ending) => missing.or(Some(ending.hint())),
+        None => None,
+    }
 }
 
 /// The first line of a scene, counted from 1, with a record whose state is a word that services of
