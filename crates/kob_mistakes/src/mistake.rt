@@ -4,7 +4,9 @@ ghost use Rattle.std.specs.Prelude.{◌≡◌, IfOk, map};
 ghost use Rattle.kob_scene_text.specs.Misuses.{misuse_at};
 ghost use Rattle.kob_script.specs.Script.{line_words};
 ghost use Rattle.kob_script.specs.Words.{raw_words};
+ghost use Rattle.kob_mistakes.specs.Forms.{form_by};
 ghost use Rattle.kob_mistakes.specs.Lines.{line_of, lines_before};
+ghost use Rattle.kob_mistakes.specs.Mistakes.{form_at};
 
 use crate::hint::hint_on;
 use crate::left_out::left_out;
@@ -44,6 +46,8 @@ pub fn mistake_in<'a>(
 ) -> Result<Mistake<'a>, AllocError>
     ensures words { IfOk result (λ mistake. map (λ word. word.now) mistake.words.items
         ≡ raw_words (line_of text.now fault.line)) }
+    ensures form { IfOk result (λ mistake. mistake.form.now
+        ≡ form_at text.now fault.line fault.kind mistake.place) }
     ensures misuse { IfOk result (λ mistake. mistake.misuse
         ≡ misuse_at (lines_before text.now fault.line)
         (line_words (line_of text.now fault.line)) fault.kind mistake.place) }
@@ -94,7 +98,10 @@ fn misuse_in(
 
 /// The form of a line with a fault of this kind. Of a law that does not speak of a worker it says of
 /// which workers it does.
-fn form_by(kind: SceneFaultKind, words: &[&[u8]], stepping: Option<WorkerKind>) -> &'static str {
+#[tactic(auto, unfolding(crate::specs::Forms::law_form))]
+fn form_by(kind: SceneFaultKind, words: &[&[u8]], stepping: Option<WorkerKind>) -> &'static str
+    ensures { result.now ≡ form_by kind stepping (map (λ word. word.now) words.now) }
+{
     match kind {
         SceneFaultKind::NoLaw => LAW_FORM,
         _ => form_of(words, stepping),

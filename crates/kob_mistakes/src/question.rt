@@ -1,5 +1,11 @@
 //! A fault of a question or of a list of bindings, as a person is told of it.
 
+ghost use Rattle.std.specs.Prelude.{◌≡◌, IfOk, map};
+ghost use Rattle.kob_mistakes.specs.Lines.{line_of};
+ghost use Rattle.kob_mistakes.specs.Mistakes.{words_in};
+ghost use Rattle.kob_mistakes.specs.Quotes.{quoted_words};
+ghost use Rattle.kob_script.specs.Words.{raw_words};
+
 use crate::hint::hint_on_question;
 use crate::listed::{binding_place, hint_on_list, value_in};
 use crate::mistake::Mistake;
@@ -7,7 +13,7 @@ use crate::question_form::question_form;
 use crate::question_place::{hint_on_missing, is_cut, place_by_name};
 use crate::quotes::{each_unquoted, quoted_words, read_each, unread_in, unread_place};
 use crate::spelling::{nearest, unless_same};
-use crate::words::{escape_place, raw_words, word_at};
+use crate::words::{escape_place, line_at, lines_of, raw_words, word_at};
 use bstr::ByteSlice;
 use kob_names::Text;
 use kob_script::{FaultKind, LineError};
@@ -64,9 +70,12 @@ pub fn line_mistake<'a>(
     line: u64,
     kind: FaultKind,
     lines: Lines,
-) -> Result<Mistake<'a>, AllocError> {
-    let before = line.saturating_sub(1) as usize;
-    let line = text.lines().nth(before).unwrap_or(b"".as_slice());
+) -> Result<Mistake<'a>, AllocError>
+    ensures { IfOk result (λ mistake. map (λ word. word.now) mistake.words.items
+        ≡ words_in lines (line_of text.now line)) }
+{
+    let every = lines_of(alloc, text)?;
+    let line = line_at(&every, line);
     match lines {
         Lines::Questions => question_mistake(alloc, text, line, kind),
         Lines::Bindings => binding_mistake(alloc, text, line, kind),
@@ -78,7 +87,10 @@ fn question_mistake<'a>(
     text: &[u8],
     line: &'a [u8],
     kind: FaultKind,
-) -> Result<Mistake<'a>, AllocError> {
+) -> Result<Mistake<'a>, AllocError>
+    ensures { IfOk result (λ mistake. map (λ word. word.now) mistake.words.items
+        ≡ quoted_words line.now) }
+{
     let words = quoted_words(alloc, line)?;
     let wrong = question_place(alloc, line, &words, kind)?;
     let nearest = nearest_word(alloc, word_at(&words, wrong.place))?;
@@ -102,7 +114,10 @@ fn binding_mistake<'a>(
     text: &[u8],
     line: &'a [u8],
     kind: FaultKind,
-) -> Result<Mistake<'a>, AllocError> {
+) -> Result<Mistake<'a>, AllocError>
+    ensures { IfOk result (λ mistake. map (λ word. word.now) mistake.words.items
+        ≡ raw_words line.now) }
+{
     let words = raw_words(alloc, line)?;
     let place = binding_place(alloc, line, &words, kind)?;
     let nearest = nearest_word(alloc, value_in(word_at(&words, place)))?;

@@ -1,5 +1,10 @@
 //! Where the words of a question are, in which quotes are read as a shell reads them.
 
+ghost use Rattle.std.specs.Prelude.{◌≡◌, ◌≤◌, ◌++◌, IfOk, OnOk, length, map};
+ghost use Rattle.std.specs.List.{slice_range};
+ghost use Rattle.kob_mistakes.specs.Quotes.{after, double_after, is_plain, plain_after};
+ghost use Rattle.kob_mistakes.specs.Quotes.{quoted_words, with_word};
+
 use crate::words::is_blank;
 use kob_script::{LineError, Word};
 use std::alloc::{AllocError, Global};
@@ -15,15 +20,25 @@ enum Quoting {
 }
 
 impl Quoting {
-    fn after(self, byte: u8) -> Quoting {
-        match (self, byte) {
-            (Quoting::Plain, b'\'') => Quoting::Single,
-            (Quoting::Plain, b'"') | (Quoting::DoubleEscaped, _) => Quoting::Double,
-            (Quoting::Plain, b'\\') => Quoting::Escaped,
-            (Quoting::Double, b'\\') => Quoting::DoubleEscaped,
-            (Quoting::Single, b'\'') | (Quoting::Double, b'"') | (Quoting::Escaped, _) =>
-                Quoting::Plain,
-            _ => self,
+    fn after(self, byte: u8) -> Quoting
+        ensures { result ≡ after self byte }
+    {
+        match self {
+            Quoting::Plain => plain_after(byte),
+            Quoting::Double => double_after(byte),
+            Quoting::Single if byte == b'\'' => Quoting::Plain,
+            Quoting::Single => Quoting::Single,
+            Quoting::Escaped => Quoting::Plain,
+            Quoting::DoubleEscaped => Quoting::Double,
+        }
+    }
+
+    fn is_plain(self) -> bool
+        ensures { result ≡ is_plain self }
+    {
+        match self {
+            Quoting::Plain => true,
+            Quoting::Escaped | Quoting::Single | Quoting::Double | Quoting::DoubleEscaped => false,
         }
     }
 
@@ -38,30 +53,71 @@ impl Quoting {
     }
 }
 
+fn plain_after(byte: u8) -> Quoting
+    ensures { result ≡ plain_after byte }
+{
+    if byte == b'\'' {
+        Quoting::Single
+    } else if byte == b'"' {
+        Quoting::Double
+    } else if byte == b'\\' {
+        Quoting::Escaped
+    } else {
+        Quoting::Plain
+    }
+}
+
+fn double_after(byte: u8) -> Quoting
+    ensures { result ≡ double_after byte }
+{
+    if byte == b'\\' {
+        Quoting::DoubleEscaped
+    } else if byte == b'"' {
+        Quoting::Plain
+    } else {
+        Quoting::Double
+    }
+}
+
 /// The words of a line as they stand in it.
-pub(crate) fn quoted_words(alloc: Global, line: &[u8]) -> Result<Vec<&[u8]>, AllocError> {
+#[tactic(auto, using(crate::proofs::Cutting::ends, crate::proofs::Cutting::cuts, crate::proofs::Cutting::goes_on))]
+pub(crate) fn quoted_words(alloc: Global, line: &[u8]) -> Result<Vec<&[u8]>, AllocError>
+    ensures { IfOk result (λ words. map (λ word. word.now) words.items ≡ quoted_words line.now) }
+{
     let mut words = Vec::new(alloc);
     let mut quoting = Quoting::Plain;
-    let mut start = 0;
-    for (place, byte) in line.iter().enumerate() {
-        if quoting == Quoting::Plain && is_blank(*byte) {
-            push_word(&mut words, line.get(start..place))?;
-            start = place.saturating_add(1);
+    let mut start: usize = 0;
+    let mut place: usize = 0;
+    for byte in line {
+        if quoting.is_plain() && is_blank(*byte) {
+            push_word(&mut words, part(line, start, place))?;
+            start = place + 1;
+        } else {
+            quoting = quoting.after(*byte);
         }
-        quoting = quoting.after(*byte);
+        place += 1;
     }
-    push_word(&mut words, line.get(start..))?;
+    push_word(&mut words, part(line, start, place))?;
     Ok(words)
 }
 
-fn push_word<'a>(words: &mut Vec<&'a [u8]>, word: Option<&'a [u8]>) -> Result<(), AllocError> {
-    match word {
-        Some(word) if !word.is_empty() => {
-            words.push(word)?;
-            Ok(())
-        }
-        _ => Ok(()),
+fn part(line: &[u8], start: usize, end: usize) -> &[u8]
+    requires { (start ≤ end) × (end ≤ length line.now) }
+    ensures { result.now ≡ slice_range line.now start end }
+{
+    &line[start..end]
+}
+
+#[tactic(auto, using(crate::proofs::Cutting::with_more))]
+fn push_word<'a>(words: &mut Vec<&'a [u8]>, word: &'a [u8]) -> Result<(), AllocError>
+    ensures { OnOk result (map (λ word. word.now) words.new.items
+        ≡ map (λ word. word.now) words.old.items ++ with_word word.now) }
+{
+    if word.is_empty() {
+        return Ok(());
     }
+    words.push(word)?;
+    Ok(())
 }
 
 /// The bytes of a word without its quotes.

@@ -1,9 +1,13 @@
 //! The forms of lines, as the pages show them, and the words that lines are made of.
 
-ghost use Rattle.std.specs.Prelude.{◌≡◌};
+ghost use Rattle.std.specs.Prelude.{◌≡◌, map, option_map};
 ghost use Rattle.std.specs.List.{list_any};
+ghost use Rattle.std.specs.Option.{is_some};
 ghost use Rattle.std.specs.Str.{bytes_eq};
 ghost use Rattle.kob_mistakes.specs.Commands.{is_command};
+ghost use Rattle.kob_mistakes.specs.Forms.{consumer_forms, form_in, form_of, form_of_step, line_forms};
+ghost use Rattle.kob_mistakes.specs.Forms.{request_form, request_line_form, request_or_step, service_forms};
+ghost use Rattle.kob_mistakes.specs.Forms.{steps_form, without_may};
 
 use crate::words::word_at;
 use crate::worker::WorkerKind;
@@ -198,9 +202,16 @@ static PARTS: [&str; 29] = [
 ];
 
 /// The form of a line that has this word at its place, if there is one.
-fn form_in(forms: &'static [(&'static str, &'static str)], word: &[u8]) -> Option<&'static str> {
-    let (_, form) = forms.iter().find(|form| form.0.as_bytes() == word)?;
-    Some(form)
+fn form_in(forms: &'static [(&'static str, &'static str)], word: &[u8]) -> Option<&'static str>
+    ensures { option_map (λ form. form.now) result
+        ≡ form_in (map (λ form. (form.0.now, form.1.now)) forms.now) word.now }
+{
+    for form in forms {
+        if form.0.as_bytes() == word {
+            return Some(form.1);
+        }
+    }
+    None
 }
 
 fn is_in(forms: &[(&str, &str)], word: &[u8]) -> bool
@@ -218,27 +229,63 @@ pub(crate) fn is_command(word: &[u8]) -> bool
 }
 
 /// The form of a question whether a request may be made that has this command.
-pub(crate) fn request_form(command: &[u8]) -> Option<&'static str> {
+#[tactic(auto, unfolding(crate::specs::Forms::request_form, crate::specs::Forms::request_forms))]
+pub(crate) fn request_form(command: &[u8]) -> Option<&'static str>
+    ensures { option_map (λ form. form.now) result ≡ request_form command.now }
+{
     form_in(&REQUESTS, command)
 }
 
+/// The form of a setting, a declaration, or a line that prints, by the word that it begins with.
+#[tactic(auto, unfolding(crate::specs::Forms::line_forms))]
+fn keyword_form(word: &[u8]) -> Option<&'static str>
+    ensures { option_map (λ form. form.now) result ≡ form_in line_forms word.now }
+{
+    form_in(&LINES, word)
+}
+
 /// Whether a word begins a setting, a declaration, or a line that prints.
-pub(crate) fn is_keyword(word: &[u8]) -> bool {
-    form_in(&LINES, word).is_some()
+pub(crate) fn is_keyword(word: &[u8]) -> bool
+    ensures { result ≡ is_some (form_in line_forms word.now) }
+{
+    keyword_form(word).is_some()
 }
 
 /// Whether a word is the name of a step.
-pub(crate) fn is_step(word: &[u8]) -> bool {
+pub(crate) fn is_step(word: &[u8]) -> bool
+    ensures { result ≡ is_some (form_of_step word.now) }
+{
     form_of_step(word).is_some()
 }
 
+#[tactic(auto, unfolding(crate::specs::Forms::service_forms))]
+fn service_form(name: &[u8]) -> Option<&'static str>
+    ensures { option_map (λ form. form.now) result ≡ form_in service_forms name.now }
+{
+    form_in(&SERVICE_STEPS, name)
+}
+
+#[tactic(auto, unfolding(crate::specs::Forms::consumer_forms))]
+fn consumer_form(name: &[u8]) -> Option<&'static str>
+    ensures { option_map (λ form. form.now) result ≡ form_in consumer_forms name.now }
+{
+    form_in(&CONSUMER_STEPS, name)
+}
+
 /// The form of a line whose step has this name, if there is such a step.
-fn form_of_step(name: &[u8]) -> Option<&'static str> {
-    form_in(&SERVICE_STEPS, name).or(form_in(&CONSUMER_STEPS, name))
+fn form_of_step(name: &[u8]) -> Option<&'static str>
+    ensures { option_map (λ form. form.now) result ≡ form_of_step name.now }
+{
+    match service_form(name) {
+        Some(form) => Some(form),
+        None => consumer_form(name),
+    }
 }
 
 /// The form of any step of such a worker.
-fn steps_form(kind: WorkerKind) -> &'static str {
+fn steps_form(kind: WorkerKind) -> &'static str
+    ensures { result.now ≡ steps_form kind }
+{
     match kind {
         WorkerKind::Service =>
             "a step of a service: record, tick, run, restart, sweep, outbox or business; with visible late also visible",
@@ -246,24 +293,45 @@ fn steps_form(kind: WorkerKind) -> &'static str {
     }
 }
 
+fn without_may(form: &'static str) -> &'static str
+    ensures { result.now ≡ without_may form.now }
+{
+    form.strip_prefix("may ").unwrap_or(form)
+}
+
+fn request_line_form(command: &[u8]) -> &'static str
+    ensures { result.now ≡ request_line_form command.now }
+{
+    match request_form(command) {
+        Some(form) => without_may(form),
+        None => "PRINCIPAL HOST COMMAND ..",
+    }
+}
+
+fn request_or_step(words: &[&[u8]]) -> &'static str
+    ensures { result.now ≡ request_or_step (map (λ word. word.now) words.now) }
+{
+    if word_at(words, 0).contains(&b':') {
+        return request_line_form(word_at(words, 2));
+    }
+    match form_of_step(word_at(words, 1)) {
+        Some(form) => form,
+        None => "PRINCIPAL HOST COMMAND .. or NAME STEP ..",
+    }
+}
+
 /// The form of a line, by the word that says what it is: the command of a request, the first word
 /// of a declaration or a setting, or the word after a worker's name. If that is no step of the
 /// worker, it is the form of such a worker's steps. The general form if there is no such word.
-pub(crate) fn form_of(words: &[&[u8]], stepping: Option<WorkerKind>) -> &'static str {
-    if let Some(kind) = stepping {
-        return steps_form(kind);
-    }
-    match words {
-        [first, ..] if form_in(&LINES, first).is_some() => form_in(&LINES, first).unwrap_or(""),
-        [first, _, command, ..] if first.contains(&b':') => {
-            match request_form(command) {
-                Some(form) => form.strip_prefix("may ").unwrap_or(form),
-                None => "PRINCIPAL HOST COMMAND ..",
-            }
-        }
-        [first, ..] if first.contains(&b':') => "PRINCIPAL HOST COMMAND ..",
-        [_, step, ..] => form_of_step(step).unwrap_or("PRINCIPAL HOST COMMAND .. or NAME STEP .."),
-        _ => "PRINCIPAL HOST COMMAND .. or NAME STEP ..",
+pub(crate) fn form_of(words: &[&[u8]], stepping: Option<WorkerKind>) -> &'static str
+    ensures { result.now ≡ form_of stepping (map (λ word. word.now) words.now) }
+{
+    match stepping {
+        Some(kind) => steps_form(kind),
+        None => match keyword_form(word_at(words, 0)) {
+            Some(form) => form,
+            None => request_or_step(words),
+        },
     }
 }
 

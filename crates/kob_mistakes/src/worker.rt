@@ -1,6 +1,10 @@
 //! The workers that lines declare.
 
-use crate::words::raw_words;
+ghost use Rattle.std.specs.Prelude.{◌≡◌, IfOk, map};
+ghost use Rattle.kob_mistakes.specs.Workers.{declared_by, kind_declared, kind_named, stepping_at};
+
+use crate::record::word_is;
+use crate::words::{raw_words, word_at};
 use std::alloc::{AllocError, Global};
 
 /// What a worker is.
@@ -11,7 +15,9 @@ pub(crate) enum WorkerKind {
 }
 
 /// What a line declares that begins with this word.
-pub(crate) fn declared_by(first: &[u8]) -> Option<WorkerKind> {
+pub(crate) fn declared_by(first: &[u8]) -> Option<WorkerKind>
+    ensures { result ≡ declared_by first.now }
+{
     if first == b"service".as_slice() {
         Some(WorkerKind::Service)
     } else if first == b"consumer".as_slice() {
@@ -26,17 +32,28 @@ pub(crate) fn kind_named(
     alloc: Global,
     before: &[&[u8]],
     name: &[u8],
-) -> Result<Option<WorkerKind>, AllocError> {
+) -> Result<Option<WorkerKind>, AllocError>
+    ensures { IfOk result (λ kind.
+        kind ≡ kind_named (map (λ line. line.now) before.now) name.now) }
+{
     for line in before {
         let words = raw_words(alloc, line)?;
-        if let [first, own, ..] = words.as_slice() {
-            let kind = declared_by(first);
-            if kind.is_some() && *own == name {
-                return Ok(kind);
-            }
+        if let Some(kind) = kind_declared(&words, name) {
+            return Ok(Some(kind));
         }
     }
     Ok(None)
+}
+
+/// The kind of the worker of this name that these words declare.
+fn kind_declared(words: &[&[u8]], name: &[u8]) -> Option<WorkerKind>
+    ensures { result ≡ kind_declared (map (λ word. word.now) words.now) name.now }
+{
+    if word_is(words, 1, name) {
+        declared_by(word_at(words, 0))
+    } else {
+        None
+    }
 }
 
 /// The kind of the worker whose step is wrong: of the first word, if the second one is wrong.
@@ -45,9 +62,13 @@ pub(crate) fn stepping_at(
     before: &[&[u8]],
     words: &[&[u8]],
     place: usize,
-) -> Result<Option<WorkerKind>, AllocError> {
-    match words.first() {
-        Some(name) if place == 1 => kind_named(alloc, before, name),
-        _ => Ok(None),
+) -> Result<Option<WorkerKind>, AllocError>
+    ensures { IfOk result (λ kind. kind
+        ≡ stepping_at (map (λ line. line.now) before.now) (map (λ word. word.now) words.now) place) }
+{
+    if place == 1 {
+        kind_named(alloc, before, word_at(words, 0))
+    } else {
+        Ok(None)
     }
 }
