@@ -20,7 +20,7 @@ pub(crate) fn binding_place(
     let first = words.first().copied().unwrap_or(b"".as_slice());
     if first.starts_with(b"kafka-acls") {
         return match words_of(alloc, line) {
-            Ok(words) => Ok(option_place(alloc, &words, 1, kind)),
+            Ok(words) => option_place(alloc, &words, 1, kind),
             Err(LineError::Memory(refused)) => Err(refused),
             Err(LineError::Fault(_)) => Ok(0),
         };

@@ -1,17 +1,20 @@
 //! A fault of a scene or a script, as a person is told of it.
 
-ghost use Rattle.std.specs.Prelude.{◌≡◌, IfOk, map};
+ghost use Rattle.std.specs.Prelude.{◌≡◌, IfOk, map, option_map};
 ghost use Rattle.kob_scene_text.specs.Misuses.{misuse_at};
 ghost use Rattle.kob_script.specs.Script.{line_words};
-ghost use Rattle.kob_script.specs.Words.{raw_words};
+ghost use Rattle.kob_script.specs.Words.{raw_words, words_of};
+ghost use Rattle.kob_mistakes.specs.Places.{begins_with_nothing, count_of, half_place, is_half};
+ghost use Rattle.kob_mistakes.specs.Places.{is_long_record, place_by, place_in, place_named, place_of};
+ghost use Rattle.kob_scene_text.specs.Places.{same_kind};
 ghost use Rattle.kob_mistakes.specs.Forms.{form_by};
-ghost use Rattle.kob_mistakes.specs.Lines.{line_of, lines_before};
-ghost use Rattle.kob_mistakes.specs.Mistakes.{form_at};
+ghost use Rattle.kob_mistakes.specs.Lines.{line_of, line_where, lines_before};
+ghost use Rattle.kob_mistakes.specs.Mistakes.{form_at, hint_at, hint_named, place_at};
 
 use crate::hint::hint_on;
-use crate::left_out::left_out;
+use crate::left_out::{LeftOut, left_out};
 use crate::place::word_place;
-use crate::record::{before_ending, hint_on_record};
+use crate::record::{before_ending, hint_on_record, word_is};
 use crate::spelling::{nearest, unless_same};
 use crate::usage::{LAW_FORM, form_of, is_keyword, push_names};
 use crate::words::{escape_place, line_at, lines_before, lines_of, raw_words, word_at};
@@ -46,6 +49,10 @@ pub fn mistake_in<'a>(
 ) -> Result<Mistake<'a>, AllocError>
     ensures words { IfOk result (λ mistake. map (λ word. word.now) mistake.words.items
         ≡ raw_words (line_of text.now fault.line)) }
+    ensures place { IfOk result (λ mistake. mistake.place
+        ≡ place_at text.now fault.line fault.kind) }
+    ensures hint { IfOk result (λ mistake. option_map (λ hint. hint.now) mistake.hint
+        ≡ hint_at text.now fault.line fault.kind) }
     ensures form { IfOk result (λ mistake. mistake.form.now
         ≡ form_at text.now fault.line fault.kind mistake.place) }
     ensures misuse { IfOk result (λ mistake. mistake.misuse
@@ -58,24 +65,48 @@ pub fn mistake_in<'a>(
     let words = raw_words(alloc, line)?;
     let fault_at = place_of(alloc, before, line, &words, fault.kind)?;
     let left_out = left_out(line, &words, fault_at);
-    let place = match left_out {
-        Some(left_out) => left_out.place(fault_at),
-        None => before_ending(&words, fault_at),
-    };
+    let place = place_named(&words, left_out, fault_at);
     let stepping = stepping_at(alloc, before, &words, place)?;
     let nearest = nearest_at(alloc, text, &words, place, fault.kind, stepping)?;
     let misuse = misuse_in(alloc, before, line, place, fault.kind)?;
     Ok(Mistake {
         form: form_by(fault.kind, &words, stepping),
-        hint: match left_out {
-            Some(left_out) => Some(left_out.hint()),
-            None => hint_on_record(&words, place).or(hint_on(text, line, words.len())),
-        },
+        hint: hint_named(left_out, text, line, &words, place),
         misuse,
         words,
         place,
         nearest,
     })
+}
+
+/// The place that is named: of a word that stands where another is left out, if one is.
+fn place_named(words: &[&[u8]], left_out: Option<LeftOut>, place: usize) -> usize
+    ensures { result ≡ place_named (map (λ word. word.now) words.now) left_out place }
+{
+    match left_out {
+        Some(left_out) => left_out.place(place),
+        None => before_ending(words, place),
+    }
+}
+
+#[tactic(auto, using(crate::proofs::Walking::lent_length))]
+fn hint_named(
+    left_out: Option<LeftOut>,
+    text: &[u8],
+    line: &[u8],
+    words: &[&[u8]],
+    place: usize,
+) -> Option<&'static str>
+    ensures { option_map (λ hint. hint.now) result
+        ≡ hint_named left_out text.now line.now (map (λ word. word.now) words.now) place }
+{
+    match left_out {
+        Some(left_out) => Some(left_out.hint()),
+        None => match hint_on_record(words, place) {
+            Some(hint) => Some(hint),
+            None => hint_on(text, line, words.len()),
+        },
+    }
 }
 
 /// What the word at a place is, if its line means it otherwise.
@@ -114,16 +145,47 @@ fn place_of(
     line: &[u8],
     raw: &[&[u8]],
     kind: SceneFaultKind,
-) -> Result<usize, AllocError> {
-    if let Some(place) = escape_place(alloc, raw)? {
-        return Ok(place);
+) -> Result<usize, AllocError>
+    requires { map (λ word. word.now) raw.now ≡ raw_words line.now }
+    ensures { IfOk result (λ place.
+        place ≡ place_of (map (λ line. line.now) before.now) line.now kind) }
+{
+    match escape_place(alloc, raw)? {
+        Some(place) => Ok(place),
+        None => place_in(alloc, before, line, raw, kind),
     }
+}
+
+fn place_in(
+    alloc: Global,
+    before: &[&[u8]],
+    line: &[u8],
+    raw: &[&[u8]],
+    kind: SceneFaultKind,
+) -> Result<usize, AllocError>
+    requires { map (λ word. word.now) raw.now ≡ raw_words line.now }
+    ensures { IfOk result (λ place.
+        place ≡ place_in (map (λ line. line.now) before.now) line.now kind) }
+{
     if line.starts_with(b"\xef\xbb\xbf") {
         return Ok(0);
     }
-    if let Some(place) = half_place(raw, kind) {
-        return Ok(place);
+    match half_place(raw, kind) {
+        Some(place) => Ok(place),
+        None => place_by(alloc, before, line, raw, kind),
     }
+}
+
+fn place_by(
+    alloc: Global,
+    before: &[&[u8]],
+    line: &[u8],
+    raw: &[&[u8]],
+    kind: SceneFaultKind,
+) -> Result<usize, AllocError>
+    ensures { IfOk result (λ place. place ≡ place_by (map (λ line. line.now) before.now)
+        (map (λ word. word.now) raw.now) kind (words_of line.now)) }
+{
     match words_of(alloc, line) {
         Ok(words) => {
             if begins_with_nothing(alloc, before, raw, kind)? {
@@ -136,18 +198,27 @@ fn place_of(
     }
 }
 
+fn is_bad_line(kind: SceneFaultKind) -> bool
+    ensures { result ≡ same_kind kind (SceneFaultKind.Script FaultKind.BadLine) }
+{
+    match kind {
+        SceneFaultKind::Script(FaultKind::BadLine) => true,
+        _ => false,
+    }
+}
+
 /// Whether a line of the wrong shape begins with no word of its own, no principal, and no worker.
 fn begins_with_nothing(
     alloc: Global,
     before: &[&[u8]],
     words: &[&[u8]],
     kind: SceneFaultKind,
-) -> Result<bool, AllocError> {
+) -> Result<bool, AllocError>
+    ensures { IfOk result (λ is. is ≡ begins_with_nothing (map (λ line. line.now) before.now)
+        (map (λ word. word.now) words.now) kind) }
+{
     let first = word_at(words, 0);
-    if kind != SceneFaultKind::Script(FaultKind::BadLine)
-        || is_keyword(first)
-        || first.contains(&b':')
-    {
+    if !is_bad_line(kind) || is_keyword(first) || first.contains(&b':') {
         return Ok(false);
     }
     let worker = kind_named(alloc, before, first)?;
@@ -156,18 +227,47 @@ fn begins_with_nothing(
 
 /// A blank in JSON or in a quoted text cuts a word of a record in two. The first half is then the
 /// word that is named, not the one too many.
-fn half_place(words: &[&[u8]], kind: SceneFaultKind) -> Option<usize> {
-    match (words, kind) {
-        ([_, b"record", ..], SceneFaultKind::Script(FaultKind::BadLine)) if words.len() > 10 => {
-            words.iter().position(|word| is_half(word))
-        }
-        _ => None,
+fn half_place(words: &[&[u8]], kind: SceneFaultKind) -> Option<usize>
+    ensures { result ≡ half_place (map (λ word. word.now) words.now) kind }
+{
+    if is_bad_line(kind) && is_long_record(words) {
+        first_half(words)
+    } else {
+        None
     }
 }
 
-fn is_half(word: &[u8]) -> bool {
-    let count = |sign: u8| word.iter().filter(|byte| **byte == sign).count();
-    count(b'{') != count(b'}') || count(b'"') % 2 == 1
+#[tactic(auto, using(crate::proofs::Walking::lent_length))]
+fn is_long_record(words: &[&[u8]]) -> bool
+    ensures { result ≡ is_long_record (map (λ word. word.now) words.now) }
+{
+    word_is(words, 1, b"record") && words.len() > 10
+}
+
+#[tactic(auto, using(crate::proofs::Walking::goes_on, crate::proofs::Walking::stops, crate::proofs::Walking::ends))]
+fn first_half(words: &[&[u8]]) -> Option<usize>
+    ensures { result ≡ line_where is_half 0 (map (λ word. word.now) words.now) }
+{
+    let mut place: usize = 0;
+    for word in words {
+        if is_half(word) {
+            return Some(place);
+        }
+        place += 1;
+    }
+    None
+}
+
+fn is_half(word: &[u8]) -> bool
+    ensures { result ≡ is_half word.now }
+{
+    count_of(b'{', word) != count_of(b'}', word) || count_of(b'"', word) % 2 == 1
+}
+
+fn count_of(sign: u8, word: &[u8]) -> usize
+    ensures { result ≡ count_of sign word.now }
+{
+    word.iter().filter(|byte| **byte == sign).count()
 }
 
 /// The name nearest to a word: of the workers of the text, or of the words of such lines.

@@ -1,9 +1,18 @@
 //! The place of the fault among the options of `acl`.
 
-use kob_names::{Host, Principal};
-use kob_script::{FaultKind, Word};
+ghost use Rattle.std.specs.Prelude.{◌≡◌, ◌<◌, ◌^◌, ◌==◌, IfOk, IfSome, drop, false, length, map, option_map};
+ghost use Rattle.std.specs.List.{position};
+ghost use Rattle.std.specs.Result.{is_ok};
+ghost use Rattle.kob_mistakes.specs.Options.{decoded_at, given_of, is_free, is_valid, is_valid_text, is_value, is_whole, misnamed};
+ghost use Rattle.kob_mistakes.specs.Options.{misnamed_at, misplaced, name_of, option_place};
+ghost use Rattle.kob_mistakes.specs.Options.{place_among, stands_alone, taken_after, takes_next, takes_value};
+ghost use Rattle.kob_mistakes.specs.Options.{unless_valid, value_in, value_of};
+ghost use Rattle.kob_script.specs.Words.{host_of, principal_of};
+
+use crate::words::as_text;
+use kob_script::{FaultKind, LineError, Word, host_of, principal_of};
 use kob_words::{filter_pattern_named, operation_named};
-use std::alloc::Global;
+use std::alloc::{AllocError, Global};
 
 /// What a value of an option is.
 #[derive(Clone, Copy)]
@@ -51,78 +60,257 @@ pub(crate) fn option_place(
     words: &[Word<'_>],
     first: usize,
     kind: FaultKind,
-) -> usize {
+) -> Result<usize, AllocError>
+    ensures { IfOk result (λ place. place ≡ option_place kind words.now first) }
+{
+    match place_among(alloc, words, first, kind)? {
+        Some(place) => Ok(place),
+        None => Ok(first.saturating_sub(1)),
+    }
+}
+
+fn place_among(
+    alloc: Global,
+    words: &[Word<'_>],
+    first: usize,
+    kind: FaultKind,
+) -> Result<Option<usize>, AllocError>
+    ensures { IfOk result (λ place. place ≡ place_among kind words.now first) }
+{
     match kind {
-        FaultKind::Usage => misplaced_from(words, first),
+        FaultKind::Usage => Ok(misplaced_from(words, first)),
         FaultKind::BadName => misnamed_from(alloc, words, first),
-        _ => None,
-    }
-    .unwrap_or(first.saturating_sub(1))
-}
-
-fn value_of(name: &[u8]) -> Value {
-    match OPTIONS.iter().find(|option| option.0.as_bytes() == name) {
-        Some((_, value)) => *value,
-        None => Value::Unknown,
+        _ => Ok(None),
     }
 }
 
-/// The name of an option, and the value behind `=` if there is one.
-fn parts_of(word: &[u8]) -> (&[u8], Option<&[u8]>) {
-    match word.iter().position(|byte| *byte == b'=') {
-        Some(at) => (word.get(..at).unwrap_or(word), word.get(at + 1..)),
-        None => (word, None),
+fn value_in(known: &[(&str, Value)], name: &[u8]) -> Value
+    ensures { result ≡ value_in (map (λ one. (one.0.now, one.1)) known.now) name.now }
+{
+    for one in known {
+        if one.0.as_bytes() == name {
+            return one.1;
+        }
     }
+    Value::Unknown
+}
+
+#[tactic(auto, unfolding(crate::specs::Options::value_of, crate::specs::Options::options))]
+fn value_of(name: &[u8]) -> Value
+    ensures { result ≡ value_of name.now }
+{
+    value_in(&OPTIONS, name)
+}
+
+fn equals_at(word: &[u8]) -> Option<usize>
+    ensures value { result ≡ position (λ byte. byte == 61) word.now }
+    ensures within { IfSome result (λ at. at < length word.now) }
+{
+    word.iter().position(|byte| *byte == b'=')
+}
+
+/// The name of an option, which may have a value behind `=`.
+fn name_of(word: &[u8]) -> &[u8]
+    ensures { result.now ≡ name_of word.now }
+{
+    match equals_at(word) {
+        Some(at) => word.get(..at).unwrap_or(word),
+        None => word,
+    }
+}
+
+/// The value behind `=`, if there is one.
+fn given_of(word: &[u8]) -> Option<&[u8]>
+    ensures { option_map (λ value. value.now) result ≡ given_of word.now }
+{
+    match equals_at(word) {
+        Some(at) => word.get(at + 1..),
+        None => None,
+    }
+}
+
+fn is_whole(kind: Value, is_given: bool) -> bool
+    ensures { result ≡ is_whole kind is_given }
+{
+    match kind {
+        Value::Unknown => false,
+        Value::Flag => !is_given,
+        Value::Principal | Value::Host | Value::Operation | Value::Pattern | Value::Any => is_given,
+    }
+}
+
+fn takes_next(kind: Value, is_given: bool) -> bool
+    ensures { result ≡ takes_next kind is_given }
+{
+    match kind {
+        Value::Unknown | Value::Flag => false,
+        Value::Principal | Value::Host | Value::Operation | Value::Pattern | Value::Any =>
+            !is_given,
+    }
+}
+
+fn stands_alone(word: &[u8]) -> bool
+    ensures { result ≡ stands_alone word.now }
+{
+    is_whole(value_of(name_of(word)), given_of(word).is_some())
 }
 
 /// Whether a word can be the value of the option before it: it does not begin with `-`, but for `-`.
-fn is_value(words: &[Word<'_>], place: usize) -> bool {
-    words.get(place).is_some_and(|word| {
-        let bytes = word.decoded();
-        !bytes.starts_with(b"-") || bytes == b"-".as_slice()
-    })
+fn is_value(word: Option<&[u8]>) -> bool
+    ensures { result ≡ is_value (option_map (λ word. word.now) word.entry) }
+{
+    match word {
+        Some(word) => !word.starts_with(b"-") || word == b"-".as_slice(),
+        None => false,
+    }
 }
 
-fn misplaced_from(words: &[Word<'_>], first: usize) -> Option<usize> {
-    let mut value_at = words.len();
+fn takes_value(word: &[u8], next: Option<&[u8]>) -> bool
+    ensures { result ≡ takes_value word.now (option_map (λ word. word.now) next.entry) }
+{
+    takes_next(value_of(name_of(word)), given_of(word).is_some()) && is_value(next)
+}
+
+/// Whether the next word is the value of an option; None if a word is no option, nor such a value.
+#[tactic(auto, unfolding(crate::specs::Options::taken_after))]
+fn taken_after(is_taken: bool, word: &[u8], next: Option<&[u8]>) -> Option<bool>
+    ensures { result ≡ taken_after is_taken word.now (option_map (λ word. word.now) next.entry) }
+{
+    if is_taken || stands_alone(word) {
+        Some(false)
+    } else if takes_value(word, next) {
+        Some(true)
+    } else {
+        None
+    }
+}
+
+fn decoded_at<'w>(words: &'w [Word<'_>], place: usize) -> Option<&'w [u8]>
+    ensures { option_map (λ bytes. bytes.now) result ≡ decoded_at words.now place }
+{
+    match words.get(place) {
+        Some(word) => Some(word.decoded()),
+        None => None,
+    }
+}
+
+#[tactic(auto, using(crate::proofs::Placing::goes_on, crate::proofs::Placing::stops, crate::proofs::Placing::ends))]
+fn misplaced_from(words: &[Word<'_>], first: usize) -> Option<usize>
+    ensures { result ≡ misplaced false first (drop first words.now) }
+{
+    let mut is_taken = false;
     for at in first..words.len() {
-        if at == value_at {
-            continue;
-        }
-        let (name, given) = parts_of(words[at].decoded());
-        match (value_of(name), given) {
-            (Value::Unknown, _) | (Value::Flag, Some(_)) => return Some(at),
-            (Value::Flag, None) | (_, Some(_)) => {}
-            (_, None) if is_value(words, at + 1) => value_at = at + 1,
-            (_, None) => return Some(at),
+        match taken_after(is_taken, words[at].decoded(), decoded_at(words, at + 1)) {
+            Some(is_value) => is_taken = is_value,
+            None => return Some(at),
         }
     }
     None
 }
 
-fn misnamed_from(alloc: Global, words: &[Word<'_>], first: usize) -> Option<usize> {
+#[tactic(auto, using(crate::proofs::Placing::valid, crate::proofs::Placing::invalid, crate::proofs::Placing::all_valid))]
+fn misnamed_from(
+    alloc: Global,
+    words: &[Word<'_>],
+    first: usize,
+) -> Result<Option<usize>, AllocError>
+    ensures { IfOk result (λ place. place ≡ misnamed first (drop first words.now)) }
+{
     for at in first..words.len() {
-        let (name, given) = parts_of(words[at].decoded());
-        let place = if given.is_some() { at } else { at + 1 };
-        let beside = words.get(at + 1).map(|word| word.decoded());
-        if let Some(value) = given.or(beside) {
-            if !is_valid(alloc, value_of(name), value) {
-                return Some(place);
-            }
+        if let Some(place) = misnamed_at(
+            alloc,
+            words[at].decoded(),
+            decoded_at(words, at + 1),
+            at,
+        )? {
+            return Ok(Some(place));
         }
     }
-    None
+    Ok(None)
 }
 
-fn is_valid(alloc: Global, kind: Value, value: &[u8]) -> bool {
-    let Ok(text) = str::from_utf8(value) else {
-        return matches!(kind, Value::Unknown | Value::Flag);
-    };
+fn misnamed_at(
+    alloc: Global,
+    word: &[u8],
+    next: Option<&[u8]>,
+    place: usize,
+) -> Result<Option<usize>, AllocError>
+    requires { place < 2 ^ 63 }
+    ensures { IfOk result (λ found. found
+        ≡ misnamed_at word.now (option_map (λ word. word.now) next.entry) place) }
+{
+    let kind = value_of(name_of(word));
+    match (given_of(word), next) {
+        (Some(value), _) => unless_valid(alloc, kind, value, place),
+        (None, Some(next)) => unless_valid(alloc, kind, next, place + 1),
+        (None, None) => Ok(None),
+    }
+}
+
+fn unless_valid(
+    alloc: Global,
+    kind: Value,
+    value: &[u8],
+    place: usize,
+) -> Result<Option<usize>, AllocError>
+    ensures { IfOk result (λ found. found ≡ unless_valid kind value.now place) }
+{
+    if is_valid(alloc, kind, value)? {
+        Ok(None)
+    } else {
+        Ok(Some(place))
+    }
+}
+
+fn is_valid(alloc: Global, kind: Value, value: &[u8]) -> Result<bool, AllocError>
+    ensures { IfOk result (λ is. is ≡ is_valid kind value.now) }
+{
+    match as_text(value) {
+        Some(text) => is_valid_text(alloc, kind, text),
+        None => Ok(is_free(kind)),
+    }
+}
+
+/// Whether any bytes are a value.
+#[tactic(auto, unfolding(crate::specs::Options::is_free))]
+fn is_free(kind: Value) -> bool
+    ensures { result ≡ is_free kind }
+{
     match kind {
-        Value::Principal => Principal::parse(alloc, text).is_ok(),
-        Value::Host => Host::parse(alloc, text).is_ok(),
-        Value::Operation => operation_named(value).is_some(),
-        Value::Pattern => filter_pattern_named(value).is_some(),
-        Value::Unknown | Value::Flag | Value::Any => true,
+        Value::Unknown | Value::Flag => true,
+        Value::Principal | Value::Host | Value::Operation | Value::Pattern | Value::Any => false,
+    }
+}
+
+#[tactic(auto, unfolding(crate::specs::Options::is_valid_text))]
+fn is_valid_text(alloc: Global, kind: Value, text: &str) -> Result<bool, AllocError>
+    ensures { IfOk result (λ is. is ≡ is_valid_text kind text.now) }
+{
+    match kind {
+        Value::Principal => is_principal(alloc, text),
+        Value::Host => is_host(alloc, text),
+        Value::Operation => Ok(operation_named(text.as_bytes()).is_some()),
+        Value::Pattern => Ok(filter_pattern_named(text.as_bytes()).is_some()),
+        Value::Unknown | Value::Flag | Value::Any => Ok(true),
+    }
+}
+
+fn is_principal(alloc: Global, text: &str) -> Result<bool, AllocError>
+    ensures { IfOk result (λ is. is ≡ is_ok (principal_of text.now)) }
+{
+    match principal_of(alloc, text) {
+        Ok(_) => Ok(true),
+        Err(LineError::Fault(_)) => Ok(false),
+        Err(LineError::Memory(refused)) => Err(refused),
+    }
+}
+
+fn is_host(alloc: Global, text: &str) -> Result<bool, AllocError>
+    ensures { IfOk result (λ is. is ≡ is_ok (host_of text.now)) }
+{
+    match host_of(alloc, text) {
+        Ok(_) => Ok(true),
+        Err(LineError::Fault(_)) => Ok(false),
+        Err(LineError::Memory(refused)) => Err(refused),
     }
 }

@@ -1,7 +1,7 @@
 //! The place of the word that a fault of a scene is about.
 
-ghost use Rattle.std.specs.Prelude.{◌≡◌, IfOk, IfSome, map};
-ghost use Rattle.kob_scene_text.specs.Places.{fault_place};
+ghost use Rattle.std.specs.Prelude.{◌≡◌, IfOk, map};
+ghost use Rattle.kob_mistakes.specs.Places.{whole_place, word_place};
 
 use crate::option::option_place;
 use kob_scene_text::{SceneFaultKind, fault_place};
@@ -18,17 +18,19 @@ pub fn word_place(
     words: &[Word<'_>],
     kind: SceneFaultKind,
 ) -> Result<usize, AllocError>
-    ensures { IfOk result (λ place. IfSome
-        (fault_place (map (λ line. line.now) before.now) kind words.now) (λ at. place ≡ at)) }
+    ensures { IfOk result (λ place. place
+        ≡ word_place (map (λ line. line.now) before.now) kind words.now) }
 {
     match fault_place(alloc, before, words, kind)? {
         Some(place) => Ok(place),
-        None => Ok(whole_place(alloc, words, kind)),
+        None => whole_place(alloc, words, kind),
     }
 }
 
 /// The word that is named where a fault is one of the whole line.
-fn whole_place(alloc: Global, words: &[Word<'_>], kind: SceneFaultKind) -> usize {
+fn whole_place(alloc: Global, words: &[Word<'_>], kind: SceneFaultKind) -> Result<usize, AllocError>
+    ensures { IfOk result (λ place. place ≡ whole_place kind words.now) }
+{
     match kind {
         SceneFaultKind::Script(
             kind @ (FaultKind::Usage
@@ -38,6 +40,6 @@ fn whole_place(alloc: Global, words: &[Word<'_>], kind: SceneFaultKind) -> usize
             | FaultKind::NoResource
             | FaultKind::NoPrincipal),
         ) => option_place(alloc, words, 3, kind),
-        _ => 0,
+        _ => Ok(0),
     }
 }

@@ -1,7 +1,7 @@
 //! The lines of a text, and where the words of a line are.
 
-ghost use Rattle.std.specs.Prelude.{◌≡◌, ◌-◌, IfOk, map, take};
-ghost use Rattle.kob_mistakes.specs.Lines.{word_at};
+ghost use Rattle.std.specs.Prelude.{◌≡◌, ◌-◌, IfOk, map, option_map, take};
+ghost use Rattle.kob_mistakes.specs.Lines.{as_text, is_misread, line_where, word_at};
 ghost use Rattle.kob_script.specs.Script.{lines_in};
 ghost use Rattle.kob_script.specs.Words.{is_blank, raw_words};
 
@@ -43,6 +43,16 @@ pub(crate) fn word_at<'a>(words: &[&'a [u8]], place: usize) -> &'a [u8]
     }
 }
 
+/// Bytes as text, if they are one.
+pub(crate) fn as_text(bytes: &[u8]) -> Option<&str>
+    ensures { option_map (λ text. text.now) result ≡ as_text bytes.now }
+{
+    match bytes.to_str() {
+        Ok(text) => Some(text),
+        Err(_) => None,
+    }
+}
+
 /// The line of a number, counted from 1.
 pub(crate) fn line_at<'a>(lines: &[&'a [u8]], number: u64) -> &'a [u8]
     ensures { result.now ≡ word_at (map (λ line. line.now) lines.now) (number - 1) }
@@ -61,13 +71,27 @@ pub(crate) fn lines_before<'l, 'a>(lines: &'l [&'a [u8]], number: u64) -> &'l [&
 }
 
 /// The place of the first word with a percent sign that two hexadecimal digits do not follow.
-pub(crate) fn escape_place(alloc: Global, words: &[&[u8]]) -> Result<Option<usize>, AllocError> {
-    for (place, word) in words.iter().enumerate() {
-        match Word::read(alloc, word) {
-            Ok(_) => {}
-            Err(LineError::Fault(_)) => return Ok(Some(place)),
-            Err(LineError::Memory(refused)) => return Err(refused),
+#[tactic(auto, using(crate::proofs::Walking::goes_on, crate::proofs::Walking::stops, crate::proofs::Walking::ends))]
+pub(crate) fn escape_place(alloc: Global, words: &[&[u8]]) -> Result<Option<usize>, AllocError>
+    ensures { IfOk result (λ place.
+        place ≡ line_where is_misread 0 (map (λ word. word.now) words.now)) }
+{
+    let mut place: usize = 0;
+    for word in words {
+        if is_misread(alloc, word)? {
+            return Ok(Some(place));
         }
+        place += 1;
     }
     Ok(None)
+}
+
+fn is_misread(alloc: Global, word: &[u8]) -> Result<bool, AllocError>
+    ensures { IfOk result (λ is. is ≡ is_misread word.now) }
+{
+    match Word::read(alloc, word) {
+        Ok(_) => Ok(false),
+        Err(LineError::Fault(_)) => Ok(true),
+        Err(LineError::Memory(refused)) => Err(refused),
+    }
 }
