@@ -14,7 +14,7 @@ spaced text = codes " " ++ bytes_text text
 abbrev pub counted : ℕ → List ℕ
 counted number = codes " " ++ decimal number
 
--- ID AGGREGATETYPE AGGREGATEID row ROW; the first event is row 1
+-- ID AGGREGATETYPE AGGREGATEID row ROW; rows are counted from 1
 abbrev pub event_text : ℕ → OutboxEvent → List ℕ
 event_text row event =
     spaced (id_text event.id) ++ spaced (string_bytes event.aggregate_type)
