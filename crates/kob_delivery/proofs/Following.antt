@@ -1,5 +1,5 @@
 -- The bindings in force on a name, at each place of a journal.
-use Rattle.kob_delivery.proofs.Words.{Binding, Bool, Entry, IsReserved, IsReservedFor, List, None, Option, Reply, Request, Settings, Some, [], arith, false, fold, get_or_from_slice_get, inl, inr, journaled_replies, length, nat_tests, opened_by, refl, slice_get, slice_get_within, subst, suc, sym, take, take-suc, true, ℕ, ◌++◌, ◌+◌, ◌<◌, ◌∙◌, ◌∷◌, ◌≡◌, ◌≤◌, ◌⊎◌}
+use Rattle.kob_delivery.proofs.Words.{Binding, Bool, Entry, IsReserved, IsReservedFor, List, Reply, Request, Settings, Some, [], arith, false, fold, get_or_from_slice_get, inl, inr, journaled_replies, length, nat_tests, opened_by, refl, slice_get, slice_get_within, subst, suc, sym, take, take-suc, true, ℕ, ◌++◌, ◌<◌, ◌∙◌, ◌∷◌, ◌≡◌, ◌≤◌, ◌⊎◌}
 use Rattle.std.proofs.Common.{IsTrue, ap, not, true≢false, ◌↔◌}
 use Rattle.kob_authorizer.specs.Decide.{Contents}
 use Rattle.kob_broker.specs.Justice.{access_after, in_force}
@@ -7,7 +7,7 @@ use Rattle.kob_names.specs.declared.kinds.Operation.{Operation}
 use Rattle.kob_names.specs.declared.kinds.ResourceKind.{ResourceKind}
 use Rattle.kob_rights.specs.declared.event.Event.{Event}
 use Rattle.kob_shared.specs.Journals.{bindings_after, events_of}
-use Rattle.kob_delivery.specs.Reserved.{IsFirstUnreserved, after_reply, bindings_on, is_open_to_others, with_created}
+use Rattle.kob_delivery.specs.Reserved.{after_reply, bindings_on, is_open_to_others, with_created}
 use Rattle.kob_delivery.proofs.OnNames.{closed_if, on_created, replied_to, reserved_if}
 
 -- ---- one more entry

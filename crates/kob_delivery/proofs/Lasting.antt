@@ -1,12 +1,12 @@
 -- A name that the opening bindings reserve stays reserved while no entry opens it.
-use Rattle.kob_delivery.proofs.Words.{AllByRecursion, Binding, Body, Bool, Entry, IsReserved, IsReservedFor, List, Reply, Request, Settings, Some, [], arith, cond, false, filter, fold, length, length-append, list_any, list_any-append, nat_tests, refl, slice_get, slice_get_within, suc, sym, take, true, zero, ℕ, ◌&&◌, ◌++◌, ◌+◌, ◌<◌, ◌==◌, ◌||◌, ◌∙◌, ◌∷◌, ◌≡◌, ◌≤◌}
+use Rattle.kob_delivery.proofs.Words.{AllByRecursion, Binding, Body, Bool, Entry, IsReserved, IsReservedFor, List, Reply, Request, Settings, Some, [], arith, cond, false, filter, fold, length, length-append, list_any, list_any-append, nat_tests, refl, slice_get, suc, sym, take, true, zero, ℕ, ◌&&◌, ◌++◌, ◌<◌, ◌==◌, ◌∙◌, ◌∷◌, ◌≡◌, ◌≤◌}
 use Rattle.std.proofs.Common.{ap, not, true≢false}
 use Rattle.kob_rights.specs.declared.request.Request.TheVariants.{CreateAcls, CreateTopics, DeleteAcls, DeleteGroups, DeleteRecords, DeleteTopics, DescribeAcls, Fetch, InitProducerId, ListGroups, ListOffsets, Metadata, OffsetCommit, OffsetFetch, Produce}
 use Rattle.kob_names.specs.declared.kinds.Operation.{Operation}
 use Rattle.kob_names.specs.declared.kinds.ResourceKind.{ResourceKind}
 use Rattle.kob_rights.specs.declared.reply.Reply.TheVariants.{Denied, Done, Refused}
 use Rattle.kob_shared.specs.Journals.{bindings_after}
-use Rattle.kob_delivery.specs.Reserved.{LeavesReserved, after_done, after_reply, allows_others, bindings_on, is_on, is_open_to_others, with_created, without_deleted}
+use Rattle.kob_delivery.specs.Reserved.{LeavesReserved, after_done, after_reply, allows_others, bindings_on, is_on, is_open_to_others, with_created}
 use Rattle.kob_delivery.proofs.Lists.{all_at}
 use Rattle.kob_delivery.proofs.OnNames.{both_false, closed_if, neither}
 use Rattle.kob_delivery.proofs.Following.{on_next, reserved_at}

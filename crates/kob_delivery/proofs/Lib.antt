@@ -26,4 +26,7 @@ mod Example
 mod OtherBroker
 mod SharedTopics
 mod Needed
+mod NeededTopic
+mod NeededShared
 mod ReservedExample
+mod NeededRules

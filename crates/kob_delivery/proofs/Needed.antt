@@ -10,15 +10,15 @@ use Rattle.kob_delivery.proofs.Samples.{batch, change, event, first_is_new, held
 
 -- a stranger sends these without a producer id
 
-abbrev loose : List Record → Batch
+abbrev pub loose : List Record → Batch
 loose records = record { idem = None; records = records }
 
-abbrev sent : List Record → Entry
+abbrev pub sent : List Record → Entry
 sent records =
     entry 3 (Produce (record { topic = here.topic; partition = here.partition; batch = loose records }))
     (Done (bodies.Offset 0))
 
-abbrev view_with : List Record → View
+abbrev pub view_with : List Record → View
 view_with records = with_batch opening_view here (loose records)
 
 -- where others may send, a record may be no row's
@@ -49,7 +49,7 @@ needs_a_sole_producer law =
 abbrev two : List Record
 two = message 1 ∷ message 2 ∷ []
 
-abbrev fetch_from : ℕ → FetchRequest
+abbrev pub fetch_from : ℕ → FetchRequest
 fetch_from offset = record { topic = here.topic; partition = here.partition; offset = offset; max = 10 }
 
 abbrev past_one : List Entry
@@ -79,7 +79,7 @@ other_commits = (
   ),
 )
 
-abbrev takes_one : List consumer.Move
+abbrev pub takes_one : List consumer.Move
 takes_one =
     consumer.Move.Called (call (OffsetFetch position) (Some (Done (bodies.Commit (Some 1))))) 0
     ∷ consumer.Move.Called (call (Fetch (fetch_from 1)) (Some (Done (bodies.Records ((1, message 2) ∷ []))))) 1
@@ -192,7 +192,7 @@ in_between =
     ∷ entry 2 (Fetch (fetch_from 0)) (Done (bodies.Records ((0, plain) ∷ (1, message 2) ∷ [])))
     ∷ []
 
-abbrev introduced : View
+abbrev pub introduced : View
 introduced = with_producer opening_view 0
 
 abbrev with_its : View
@@ -224,7 +224,7 @@ other_repeats = (
   ),
 )
 
-abbrev two_sent : List router.Move
+abbrev pub two_sent : List router.Move
 two_sent =
     router.Move.Recorded change (event 1)
     ∷ router.Move.Recorded change (event 2)
@@ -235,7 +235,7 @@ two_sent =
     ∷ router.Move.Called (call (Produce (sends (producer 0) 1 2)) (Some (Done (bodies.Offset 1)))) true
     ∷ []
 
-two_run : router.IsRouterRun (dispatch_of target) router.start two_sent (after_all router.start two_sent)
+pub two_run : router.IsRouterRun (dispatch_of target) router.start two_sent (after_all router.start two_sent)
 two_run = (
   record { fits = refl; fresh = refl; room = omega arith },
   (
@@ -280,6 +280,13 @@ second_alone :
 unfolding by_index
 second_alone = refl
 
+-- what begins with the second row is no beginning of both
+pub left_out : IsPrefixOf (id_text (id_of 2) ∷ []) (id_text (id_of 1) ∷ id_text (id_of 2) ∷ []) → ⊥
+left_out (rest, is) =
+    let same : id_text (id_of 2) ≡ id_text (id_of 1) = ap (λ ids. get_or ids 0 []) is in
+    let equal = (bytes_eq-Decides (id_text (id_of 1)) (id_text (id_of 1))).1 refl in
+    true≢false (sym (ap (λ x. bytes_eq x (id_text (id_of 1))) same ∙ equal) ∙ first_is_new)
+
 -- what a shared topic asks, but for one sender where the rows go
 abbrev IsApartTopic : List Event → List ℕ → List Entry → Type 0
 IsApartTopic rows topic journal =
@@ -307,9 +314,3 @@ needs_one_sender_of_its_topic law =
 
     never_deleted : IsNeverDeleted (codes "t") in_between
     never_deleted = grind (arith, nat_tests)
-
-    left_out : IsPrefixOf (id_text (id_of 2) ∷ []) (id_text (id_of 1) ∷ id_text (id_of 2) ∷ []) → ⊥
-    left_out (rest, is) =
-        let same : id_text (id_of 2) ≡ id_text (id_of 1) = ap (λ ids. get_or ids 0 []) is in
-        let equal = (bytes_eq-Decides (id_text (id_of 1)) (id_text (id_of 1))).1 refl in
-        true≢false (sym (ap (λ x. bytes_eq x (id_text (id_of 1))) same ∙ equal) ∙ first_is_new)

@@ -1,5 +1,5 @@
 -- The bindings on a name, as entries change them, and what they decide.
-use Rattle.std.proofs.Common.{Bool, IsTrue, List, None, Option, Some, [], ap, append-nil, arith, codes, cond, false, length, map, not, refl, sym, true, true≢false, ℕ, ◌&&◌, ◌++◌, ◌+◌, ◌==◌, ◌||◌, ◌∙◌, ◌∷◌, ◌↔◌, ◌≡◌, ◌⊎◌, inl, inr}
+use Rattle.std.proofs.Common.{Bool, IsTrue, List, None, Option, Some, [], ap, append-nil, arith, codes, cond, false, length, not, refl, sym, true, true≢false, ℕ, ◌&&◌, ◌++◌, ◌==◌, ◌||◌, ◌∙◌, ◌∷◌, ◌↔◌, ◌≡◌, ◌⊎◌, inl, inr}
 use Rattle.std.proofs.lemmas.Bool.{cases_Bool}
 use Rattle.std.proofs.lemmas.Bool.Decides.{nat_tests}
 use Rattle.kob_broker.specs.Justice.{access_after, changed_access}
@@ -7,16 +7,14 @@ use Rattle.kob_rights.specs.Requests.{write_of}
 use Rattle.kob_rights.specs.declared.reply.Reply.{Reply}
 use Rattle.kob_rights.specs.declared.reply.Reply.TheVariants.{Denied, Done, Refused}
 use Rattle.kob_rights.specs.declared.request.Request.{Request}
-use Rattle.std.proofs.lemmas.List.{map-append}
-use Rattle.std.proofs.lemmas.List.Elements.{filter-append}
 use Rattle.std.proofs.lemmas.Slice.Eq.{bytes_eq-Decides}
 use Rattle.std.specs.List.{AllByRecursion, filter, fold, list_any}
 use Rattle.kob_authorizer.proofs.Entries.{serial_in_force}
 use Rattle.kob_authorizer.specs.Creation.{Added, add_one, addition, bindings_of, is_among, is_in_force, serial_of, with_binding}
-use Rattle.kob_authorizer.specs.Decide.{Contents, is_hit, is_match, is_unmatched, question_of, Question}
+use Rattle.kob_authorizer.specs.Decide.{Contents, is_hit, question_of}
 use Rattle.kob_authorizer.specs.Index.{bindings_left}
-use Rattle.kob_names.proofs.SameBindings.{permission_decides, resource_decides, same_binding_decides}
-use Rattle.kob_names.specs.Binding.{Binding, covers, matches, reaches, same_binding}
+use Rattle.kob_names.proofs.SameBindings.{same_binding_decides}
+use Rattle.kob_names.specs.Binding.{Binding, matches, reaches}
 use Rattle.kob_names.specs.Filter.{takes}
 use Rattle.kob_names.specs.Same.{same_permission, same_resource, same_text}
 use Rattle.kob_names.specs.declared.filter.BindingFilter.{BindingFilter}

@@ -5,26 +5,26 @@ use Rattle.kob_delivery.proofs.ExampleWords.{ActsAlone, Allow, Commits, CreateAc
 use Rattle.kob_rights.specs.declared.reply.Body.TheVariants as bodies
 use Rattle.kob_delivery.proofs.Example.{never}
 
-abbrev admin : List ℕ
+abbrev pub admin : List ℕ
 admin = codes "User:a"
 
-abbrev writer : List ℕ
+abbrev pub writer : List ℕ
 writer = codes "User:w"
 
-abbrev reader : List ℕ
+abbrev pub reader : List ℕ
 reader = codes "User:r"
 
-abbrev topic : List ℕ
+abbrev pub topic : List ℕ
 topic = codes "t"
 
-abbrev group : List ℕ
+abbrev pub group : List ℕ
 group = codes "g"
 
-abbrev settings : Settings
+abbrev pub settings : Settings
 settings = record { supers = admin ∷ []; opening = []; everyone = false }
 
 -- an allow from every host
-abbrev allow : List ℕ → Operation → ResourceKind → List ℕ → Draft
+abbrev pub allow : List ℕ → Operation → ResourceKind → List ℕ → Draft
 allow principal operation resource name = record {
   permission = Allow;
   principal = principal;
@@ -37,7 +37,7 @@ allow principal operation resource name = record {
 abbrev bindings : List Draft
 bindings = allow writer Write Topic topic ∷ allow reader Read Group group ∷ allow reader Read Topic topic ∷ []
 
-abbrev entry : ℕ → List ℕ → Request → Reply → Entry
+abbrev pub entry : ℕ → List ℕ → Request → Reply → Entry
 entry worker principal request reply = record {
   worker = worker;
   event = record { principal = principal; host = codes "h"; request = request };
@@ -60,7 +60,7 @@ journal =
     (Done bodies.Committed)
     ∷ []
 
-abbrev now : State Retained
+abbrev pub now : State Retained
 now = standing_after settings journal
 
 pub legal : IsLegal (opened_by settings) journal now
@@ -69,7 +69,7 @@ legal = record { replies = refl; state = refl }
 -- the names are reserved
 
 -- whom the first binding lets write is the writer
-writes : (who host : List ℕ)
+pub writes : (who host : List ℕ)
     → IsTrue (covers (allow writer Write Topic topic) who host && reaches Allow Write Write) → who ≡ writer
 writes who host hit = grind (arith, nat_tests, and_parts, bytes_eq-Decides, or-false)
 

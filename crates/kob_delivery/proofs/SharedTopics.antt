@@ -13,7 +13,7 @@ use Rattle.kob_delivery.proofs.Example.{after_all, call, entry, first_id, given_
 use Rattle.kob_delivery.proofs.Samples.{batch, change, event, first_is_new, held, here, id_of, message, producer, second_told, target}
 
 -- the topic of the other service
-abbrev there : Place
+abbrev pub there : Place
 there = record { topic = codes "u"; partition = 0 }
 
 abbrev one : Producer
@@ -159,7 +159,7 @@ rows = rows_of_aggregate (rows_of moves) (codes "a") (codes "b")
 differ : {A : Type 0} → codes "u" ≡ codes "t" → A
 differ same = let first : 117 ≡ 116 = ap (λ ns. get_or ns 0 0) same in absurd (omega (arith, first))
 
-none_goes_there : (r : AreRoutedTo (dispatch_of target) rows (codes "u")) → Contains rows r.row → ⊥
+pub none_goes_there : (r : AreRoutedTo (dispatch_of target) rows (codes "u")) → Contains rows r.row → ⊥
 none_goes_there r (zero, within, at) =
     let goes : Some here ≡ Some r.place =
     sym (placed 1) ∙ ap (λ (x : Event). place_of (dispatch_of target x)) at ∙ r.goes in
