@@ -2,7 +2,9 @@ mod Words
 pub mod OnNames
 pub mod Following
 pub mod Lasting
+pub mod Opening
 pub mod Lists
+pub mod InTurn
 mod Logged
 mod ServedRuns
 mod Breaches

@@ -5,3 +5,4 @@ pub mod Served
 pub mod Delivered
 pub mod Repeats
 pub mod Several
+pub mod InTurn

@@ -109,6 +109,16 @@ LeavesReserved principal operation resource name everyone request (Done body) =
 LeavesReserved principal operation resource name everyone request (Denied code verdicts) = Unit {0}
 LeavesReserved principal operation resource name everyone request (Refused code reason) = Unit {0}
 
+-- so does an entry
+abbrev pub IsReservedBy : List ℕ → Operation → ResourceKind → List ℕ → Bool → Entry → Type 0
+IsReservedBy principal operation resource name everyone e =
+    LeavesReserved principal operation resource name everyone e.event.request e.reply
+
+-- and so do all entries of a journal
+abbrev pub LeaveReserved : List ℕ → Operation → ResourceKind → List ℕ → Bool → List Entry → Type 0
+LeaveReserved principal operation resource name everyone =
+    AllByRecursion (IsReservedBy principal operation resource name everyone)
+
 -- What breaks a premise.
 
 -- an entry that acts as the principal is the worker's
@@ -174,3 +184,14 @@ IsRuleFault opening journal rule Kind (NotReserved place) =
     × IsFirstUnreserved opening journal rule.principal rule.operation rule.resource rule.name place)
 IsRuleFault opening journal rule Kind (Memory refused) =
     ActsAlone rule.worker rule.principal journal × NoSuperUser opening.supers Kind journal
+
+-- so it is of journals in turn, but that nothing is known where a number does not count the entries
+abbrev pub IsRuleFaultInTurn : Settings → List Entry → Rule → (Request → Reply → Type 0) → RuleFault
+    → Type 0
+IsRuleFaultInTurn opening journal rule Kind (OtherActor place) =
+    IsRuleFault opening journal rule Kind (OtherActor place)
+IsRuleFaultInTurn opening journal rule Kind (SuperUser place) =
+    IsRuleFault opening journal rule Kind (SuperUser place)
+IsRuleFaultInTurn opening journal rule Kind (NotReserved place) =
+    IsRuleFault opening journal rule Kind (NotReserved place)
+IsRuleFaultInTurn opening journal rule Kind (Memory refused) = Unit {0}

@@ -1,14 +1,72 @@
 //! Who acts in a journal: as a principal, and as a super user.
 
-ghost use Rattle.std.specs.Prelude.{◌≡◌, ◌↔◌, IsTrue, MatchOption};
+ghost use Rattle.std.specs.Prelude.{◌≡◌, ◌↔◌, IfOk, IsTrue, MatchOption};
 ghost use Rattle.kob_authorizer.specs.Decide.{is_super};
+ghost use Rattle.kob_delivery.specs.InTurn.{entries_of};
 ghost use Rattle.kob_delivery.specs.Reserved.{IsNoSuperUsers, IsOwnAct};
 ghost use Rattle.kob_delivery.specs.View.{ActsAlone, Commits, IsFirstBreach};
 ghost use Rattle.kob_delivery.specs.View.{NoSuperUser, Produces};
 
-use crate::premises::{commits, entry_at, produces};
+use crate::asked::{Asked, first_in, first_in_turn};
+use crate::premises::{commits, produces};
 use kob_names::{Items, PlainValue, Principal, Text};
 use kob_shared::{Entry, Journal};
+use std::alloc::AllocError;
+
+/// An entry that acts as the principal is the worker's.
+#[derive(Drop)]
+struct OwnAct<'a> {
+    worker: usize,
+    principal: &'a Principal,
+}
+
+impl<'a> Asked for OwnAct<'a> {
+    ghost use Rattle.kob_delivery.specs.Reserved.{IsOwnAct};
+
+    ghost holds = { λ asked. IsOwnAct asked.worker asked.principal.now };
+
+    fn holds(&self, entry: &Entry) -> bool {
+        !acts_as(entry, self.principal) || entry.worker == self.worker
+    }
+}
+
+/// A PRODUCE to the topic that was done is no super user's.
+#[derive(Drop)]
+struct NoSuperProduce<'a> {
+    supers: &'a Items<Principal>,
+    topic: &'a Text,
+}
+
+impl<'a> Asked for NoSuperProduce<'a> {
+    ghost use Rattle.kob_delivery.specs.Reserved.{IsNoSuperUsers};
+    ghost use Rattle.kob_delivery.specs.View.{Produces};
+
+    ghost holds = { λ asked. IsNoSuperUsers asked.supers.now (Produces asked.topic.now) };
+
+    fn holds(&self, entry: &Entry) -> bool {
+        !produces(entry, self.topic) || !is_super_users(entry, self.supers)
+    }
+}
+
+/// An OFFSET_COMMIT of the group on the topic that was done is no super user's.
+#[derive(Drop)]
+struct NoSuperCommit<'a> {
+    supers: &'a Items<Principal>,
+    group: &'a Text,
+    topic: &'a Text,
+}
+
+impl<'a> Asked for NoSuperCommit<'a> {
+    ghost use Rattle.kob_delivery.specs.Reserved.{IsNoSuperUsers};
+    ghost use Rattle.kob_delivery.specs.View.{Commits};
+
+    ghost holds = { λ asked.
+        IsNoSuperUsers asked.supers.now (Commits asked.group.now asked.topic.now) };
+
+    fn holds(&self, entry: &Entry) -> bool {
+        !commits(entry, self.group, self.topic) || !is_super_users(entry, self.supers)
+    }
+}
 
 /// The place of the first entry of another worker that acts as the principal. None means that the
 /// worker acts alone, as `bindings_leave_one_producer` requires. Does not allocate.
@@ -16,13 +74,21 @@ pub fn first_other_actor(journal: &Journal, worker: usize, principal: &Principal
     ensures { MatchOption result (ActsAlone worker principal.now journal.now)
         (IsFirstBreach (IsOwnAct worker principal.now) journal.now) }
 {
-    for place in 0..journal.len() {
-        let entry = entry_at(journal, place);
-        if acts_as(entry, principal) && entry.worker != worker {
-            return Some(place);
-        }
-    }
-    None
+    first_in(journal, &OwnAct { worker, principal })
+}
+
+/// The same of journals that follow one another, the oldest first. The place counts the entries of
+/// all of them. The error says that a number does not count the entries: memory holds fewer.
+pub fn other_actor_in_turn(
+    journals: &[&Journal],
+    worker: usize,
+    principal: &Principal,
+) -> Result<Option<usize>, AllocError>
+    ensures { IfOk result (λ found. MatchOption found
+        (ActsAlone worker principal.now (entries_of journals.now))
+        (IsFirstBreach (IsOwnAct worker principal.now) (entries_of journals.now))) }
+{
+    first_in_turn(journals, &OwnAct { worker, principal })
 }
 
 /// The place of the first PRODUCE to the topic that was done and is a super user's. None means that
@@ -35,13 +101,21 @@ pub fn first_super_producer(
     ensures { MatchOption result (NoSuperUser supers.now (Produces topic.now) journal.now)
         (IsFirstBreach (IsNoSuperUsers supers.now (Produces topic.now)) journal.now) }
 {
-    for place in 0..journal.len() {
-        let entry = entry_at(journal, place);
-        if produces(entry, topic) && is_super_users(entry, supers) {
-            return Some(place);
-        }
-    }
-    None
+    first_in(journal, &NoSuperProduce { supers, topic })
+}
+
+/// The same of journals that follow one another, as [`other_actor_in_turn`] takes them.
+pub fn super_producer_in_turn(
+    journals: &[&Journal],
+    supers: &Items<Principal>,
+    topic: &Text,
+) -> Result<Option<usize>, AllocError>
+    ensures { IfOk result (λ found. MatchOption found
+        (NoSuperUser supers.now (Produces topic.now) (entries_of journals.now))
+        (IsFirstBreach (IsNoSuperUsers supers.now (Produces topic.now))
+        (entries_of journals.now))) }
+{
+    first_in_turn(journals, &NoSuperProduce { supers, topic })
 }
 
 /// The place of the first OFFSET_COMMIT of the group on the topic that was done and is a super
@@ -57,13 +131,36 @@ pub fn first_super_committer(
         (NoSuperUser supers.now (Commits group.now topic.now) journal.now)
         (IsFirstBreach (IsNoSuperUsers supers.now (Commits group.now topic.now)) journal.now) }
 {
-    for place in 0..journal.len() {
-        let entry = entry_at(journal, place);
-        if commits(entry, group, topic) && is_super_users(entry, supers) {
-            return Some(place);
-        }
-    }
-    None
+    first_in(
+        journal,
+        &NoSuperCommit {
+            supers,
+            group,
+            topic,
+        },
+    )
+}
+
+/// The same of journals that follow one another, as [`other_actor_in_turn`] takes them.
+pub fn super_committer_in_turn(
+    journals: &[&Journal],
+    supers: &Items<Principal>,
+    group: &Text,
+    topic: &Text,
+) -> Result<Option<usize>, AllocError>
+    ensures { IfOk result (λ found. MatchOption found
+        (NoSuperUser supers.now (Commits group.now topic.now) (entries_of journals.now))
+        (IsFirstBreach (IsNoSuperUsers supers.now (Commits group.now topic.now))
+        (entries_of journals.now))) }
+{
+    first_in_turn(
+        journals,
+        &NoSuperCommit {
+            supers,
+            group,
+            topic,
+        },
+    )
 }
 
 /// Whether an entry acts as the principal.

@@ -105,7 +105,7 @@ fn delete_taken(bindings: &mut Vec<Draft>, filter: &BindingFilter)
 }
 
 /// Whether the binding is on the kind of resource, and its pattern matches the name.
-fn is_on(binding: &Draft, resource: ResourceKind, name: &Text) -> bool
+pub(crate) fn is_on(binding: &Draft, resource: ResourceKind, name: &Text) -> bool
     ensures { result ≡ is_on resource name.now binding.now }
 {
     binding.resource == resource && binding.pattern.matches(name.as_str())
@@ -133,7 +133,7 @@ fn allow_others(bindings: &[Draft], principal: &Principal, operation: Operation)
 }
 
 /// Whether the binding allows the operation to everyone, or to another principal.
-fn allows_others(binding: &Draft, principal: &Principal, operation: Operation) -> bool
+pub(crate) fn allows_others(binding: &Draft, principal: &Principal, operation: Operation) -> bool
     ensures { result ≡ allows_others principal.now operation binding.now }
 {
     binding.permission == Permission::Allow

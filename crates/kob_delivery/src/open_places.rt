@@ -1,19 +1,19 @@
 //! The first place of a journal at which the bindings in force let others do an operation on a name.
 
 ghost use Rattle.std.specs.Prelude.{◌≡◌, ◌↔◌, ◌∷◌, [], List, ℕ, false, true, IfOk, IsTrue, MatchOption};
-ghost use Rattle.std.specs.List.{AllByRecursion};
 ghost use Rattle.kob_authorizer.specs.Decide.{Contents};
 ghost use Rattle.kob_names.specs.declared.kinds.Operation.{Operation};
 ghost use Rattle.kob_names.specs.declared.kinds.ResourceKind.{ResourceKind};
 ghost use Rattle.kob_names.specs.declared.settings.Settings.{Settings};
 ghost use Rattle.kob_shared.specs.Journals.{bindings_after};
 ghost use Rattle.kob_shared.specs.declared.journal.Entry.{Entry};
-ghost use Rattle.kob_delivery.specs.Reserved.{IsFirstUnreserved, LeavesReserved, bindings_on};
+ghost use Rattle.kob_delivery.specs.InTurn.{entries_of};
+ghost use Rattle.kob_delivery.specs.Reserved.{IsFirstUnreserved, LeaveReserved, bindings_on};
 ghost use Rattle.kob_delivery.specs.Reserved.{is_open_to_others};
 ghost use Rattle.kob_delivery.specs.View.{IsReserved, IsReservedFor};
 
+use crate::asked::{entry_at, sum};
 use crate::bindings_on::{create_opening, follow, is_open_to_others};
-use crate::premises::entry_at;
 use kob_names::{Draft, Operation, Principal, ResourceKind, Settings, Text};
 use kob_shared::Journal;
 use std::alloc::{AllocError, Global};
@@ -40,8 +40,7 @@ pub fn a_reservation_lasts()
     ensures { (opening : Settings) (journal : List Entry) (principal : List ℕ)
         (operation : Operation) (resource : ResourceKind) (name : List ℕ)
         → IsReservedFor principal operation resource name (bindings_after opening [])
-        → AllByRecursion (λ e. LeavesReserved principal operation resource name opening.everyone
-        e.event.request e.reply) journal
+        → LeaveReserved principal operation resource name opening.everyone journal
         → IsReserved opening journal principal operation resource name }
 {
     // The contract is the law.
@@ -74,6 +73,7 @@ pub fn is_reserved(
 ///
 /// One pass over the journal. The bindings on the name are copied, and examined again after each
 /// CREATE_ACLS or DELETE_ACLS that was done. The error is out of memory.
+#[tactic(auto, using(crate::proofs::InTurn::one_journal))]
 pub fn first_unreserved(
     alloc: Global,
     opening: &Settings,
@@ -87,13 +87,42 @@ pub fn first_unreserved(
         (IsReserved opening.now journal.now principal.now operation resource name.now)
         (IsFirstUnreserved opening.now journal.now principal.now operation resource name.now)) }
 {
+    unreserved_in_turn(
+        alloc,
+        opening,
+        &[journal],
+        principal,
+        operation,
+        resource,
+        name,
+    )
+}
+
+/// The same of journals that follow one another, the oldest first, of which the first begins with
+/// these settings. The place counts the entries of all of them. The error is out of memory, or says
+/// that a number does not count the entries: memory holds fewer.
+pub fn unreserved_in_turn(
+    alloc: Global,
+    opening: &Settings,
+    journals: &[&Journal],
+    principal: &Principal,
+    operation: Operation,
+    resource: ResourceKind,
+    name: &Text,
+) -> Result<Option<usize>, AllocError>
+    ensures { IfOk result (λ found. MatchOption found
+        (IsReserved opening.now (entries_of journals.now) principal.now operation resource
+        name.now)
+        (IsFirstUnreserved opening.now (entries_of journals.now) principal.now operation
+        resource name.now)) }
+{
     let mut bindings = Vec::new(alloc);
     opening_on(alloc, &mut bindings, opening, resource, name)?;
     first_open(
         alloc,
         &mut bindings,
         opening,
-        journal,
+        journals,
         principal,
         operation,
         resource,
@@ -117,12 +146,12 @@ fn opening_on(
     create_opening(alloc, bindings, opening.opening.as_slice(), resource, name)
 }
 
-/// Follows the journal, with the bindings on the name that are in force at first.
+/// Follows the journals, with the bindings on the name that are in force at first.
 fn first_open(
     alloc: Global,
     bindings: &mut Vec<Draft>,
     opening: &Settings,
-    journal: &Journal,
+    journals: &[&Journal],
     principal: &Principal,
     operation: Operation,
     resource: ResourceKind,
@@ -130,25 +159,25 @@ fn first_open(
 ) -> Result<Option<usize>, AllocError>
     requires { bindings.old.items ≡ bindings_on resource name.now (bindings_after opening.now []) }
     ensures { IfOk result (λ found. MatchOption found
-        (IsReserved opening.now journal.now principal.now operation resource name.now)
-        (IsFirstUnreserved opening.now journal.now principal.now operation resource name.now)) }
+        (IsReserved opening.now (entries_of journals.now) principal.now operation resource
+        name.now)
+        (IsFirstUnreserved opening.now (entries_of journals.now) principal.now operation
+        resource name.now)) }
 {
     let everyone = opening.everyone;
     let mut others = is_open_to_others(bindings.as_slice(), everyone, principal, operation);
-    for place in 0..journal.len() {
-        if others {
-            return Ok(Some(place));
+    let mut before: usize = 0;
+    for journal in journals {
+        for place in 0..journal.len() {
+            if others {
+                return Ok(Some(sum(before, place)?));
+            }
+            let entry = entry_at(*journal, place);
+            let request = &entry.event.request;
+            let changed = follow(alloc, bindings, request, &entry.reply, resource, name)?;
+            others = others_after(changed, bindings.as_slice(), everyone, principal, operation);
         }
-        let entry = entry_at(journal, place);
-        let changed = follow(
-            alloc,
-            bindings,
-            &entry.event.request,
-            &entry.reply,
-            resource,
-            name,
-        )?;
-        others = others_after(changed, bindings.as_slice(), everyone, principal, operation);
+        before = sum(before, journal.len())?;
     }
     Ok(None)
 }
