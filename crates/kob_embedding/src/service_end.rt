@@ -1,10 +1,13 @@
 //! The final state of a service.
 
-ghost use Rattle.std.specs.Prelude.{◌≡◌};
+ghost use Rattle.std.specs.Prelude.{◌≡◌, IfErr, IfOk, alloc_error, map, option_map};
+ghost use Rattle.std.specs.Prelude.{string_bytes};
 ghost use Rattle.kob_embedding.specs.Running.{HasRun};
+ghost use Rattle.kob_outbox.specs.Contents.{first_after, state_at, stored_row};
 
 use crate::part::Part;
 use kob_lines::Relay;
+use kob_outbox::{OutboxFault, Row};
 use std::marker::Model;
 
 /// The final state of a service: the calls of its line as a worker, and its outbox with its router.
@@ -57,5 +60,35 @@ impl ServiceEnd {
         ensures { result.now ≡ self.now.relayed }
     {
         &self.relay
+    }
+
+    /// The first events after this number, by ascending number, and no more than `limit` of them, as
+    /// [`Outbox::after`] reads them. After the mark are those that wait.
+    pub fn after(&mut self, seq: u64, limit: u32) -> Result<Vec<Row>, OutboxFault>
+        ensures rows { IfOk result (λ rows. map stored_row rows.items
+            ≡ first_after seq limit self.old.relayed.outbox.events) }
+        ensures memory { IfErr result (λ f. f ≡ OutboxFault.Memory alloc_error) }
+        ensures same { self.new ≡ self.old }
+    {
+        self.relay.after(seq, limit)
+    }
+
+    /// The state of the business row with this kind and id, if there is one.
+    pub fn business(&mut self, kind: &str, id: &str) -> Result<Option<String>, OutboxFault>
+        ensures value { IfOk result (λ found. option_map string_bytes found
+            ≡ state_at kind.now id.now self.old.relayed.outbox.business) }
+        ensures memory { IfErr result (λ f. f ≡ OutboxFault.Memory alloc_error) }
+        ensures same { self.new ≡ self.old }
+    {
+        self.relay.business(kind, id)
+    }
+
+    /// The number up to which the events were sent, or 0.
+    pub fn mark(&mut self) -> Result<u64, OutboxFault>
+        ensures value { IfOk result (λ mark. mark ≡ self.old.relayed.outbox.mark) }
+        ensures memory { IfErr result (λ f. f ≡ OutboxFault.Memory alloc_error) }
+        ensures same { self.new ≡ self.old }
+    {
+        self.relay.mark()
     }
 }
