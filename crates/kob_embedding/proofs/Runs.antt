@@ -1,9 +1,6 @@
 -- What becomes of the runs of a service and of a consumer.
 use Rattle.kob_embedding.proofs.Words.{Call, Change, Err, Event, Fetcher, HasConsumerRun, HasRun, HasServiceRun, IsReaderRun, IsSenderRun, IsTick, List, None, Ok, OnErr, OnOk, OutboxEvent, RecordFault, RecordsNoRow, Relayed, Restarted, Result, Subscription, Target, Tick, [], after_record, ap, arith, dispatch_of, empty, false, first_bad, id_text, is_recorded, nat_tests, next_seq, records, point_of, stored_event, subst, sym, ticks, ℕ, ◌++◌, ◌<◌, ◌^◌, ◌∙◌, ◌∷◌, ◌≡◌}
-use Rattle.kob_embedding.specs.Running.{IsSomeStep, IsSomeSweep}
-use Rattle.kob_outbox.specs.Contents.{up_to}
-use Rattle.kob_outbox.specs.declared.fault.OutboxFault.{OutboxFault}
-use Rattle.std.proofs.Common.{length}
+use Rattle.kob_embedding.specs.Running.{IsSomeStep, OfSomeService}
 use Rattle.std.specs.Prelude.{IfOk}
 use Rattle.kob_router.specs.Run.{calls_of}
 use Rattle.kob_router.specs.Tick.{state_of}
@@ -112,11 +109,11 @@ some_step earlier before now calls then_calls unmade then_unmade tick ran made =
   made = tick_after earlier before now calls then_calls unmade then_unmade tick made;
 }
 
--- some service was swept
-pub some_sweep : (r : Relayed) (calls : List Call) (result : Result ℕ OutboxFault) → HasRun r calls
-    → IfOk result (λ count. count ≡ length (up_to r.outbox.mark r.outbox.events)) → IfOk result IsSomeSweep
-some_sweep r calls (Ok count) ran is = record { relayed = r; calls = calls; ran = ran; swept = is }
-some_sweep r calls (Err fault) ran is = tt
+-- what was read or counted is so of some service
+pub some_service : {A E : Type 0} (P : A → Relayed → Type 0) (r : Relayed) (calls : List Call) (result : Result A E)
+    → HasRun r calls → IfOk result (λ value. P value r) → IfOk result (λ value. OfSomeService (P value))
+some_service P r calls (Ok value) ran is = (r, (calls, ran), is)
+some_service P r calls (Err fault) ran is = tt
 
 -- no line was handed out, and the line made no call
 pub no_call : (was made : List Call) → was ≡ [] → made ≡ [] → was ++ made ≡ []

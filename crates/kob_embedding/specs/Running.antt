@@ -1,11 +1,11 @@
 -- A service and a consumer since they began.
-use Rattle.std.specs.Prelude.{ℕ, List, ◌≡◌, length, Option, Some, None, Result, Ok, Err, ◌⊎◌, suc, zero}
+use Rattle.std.specs.Prelude.{ℕ, List, ◌≡◌, Option, Some, None, Result, Ok, Err, ◌⊎◌, suc, zero}
 use Rattle.kob_inbox.specs.Contents.{Contents}
 use Rattle.kob_inbox.specs.declared.fetcher.Fetcher.{Fetcher}
 use Rattle.kob_lines.specs.Relayed.{HasConsumerRun, IsTick, Relayed, HasServiceRun}
 use Rattle.kob_lines.specs.declared.program_fault.ProgramFault.{ProgramFault}
 use Rattle.kob_lines.specs.declared.program_fault.ProgramFault.TheVariants as program
-use Rattle.kob_outbox.specs.Contents.{Event, up_to}
+use Rattle.kob_outbox.specs.Contents.{Event}
 use Rattle.kob_delivery.specs.Delivered.{ReachesInOrder}
 use Rattle.kob_router.specs.Run.{dispatch_of}
 use Rattle.kob_router.specs.declared.line.Call.{Call}
@@ -90,12 +90,10 @@ pub record IsSomeStep (tick : router_tick.Tick) : Type 0 where
   pub ran : HasRun before calls
   pub made : IsTick before now calls then_calls unmade then_unmade tick
 
--- some service that has run so far had sent so many of the events that it kept
-pub record IsSomeSweep (count : ℕ) : Type 0 where
-  pub relayed : Relayed
-  pub calls : List Call
-  pub ran : HasRun relayed calls
-  pub swept : count ≡ length (up_to relayed.outbox.mark relayed.outbox.events)
+-- this holds of some service that has run so far
+abbrev pub OfSomeService : (Relayed → Type 0) → Type 0
+OfSomeService P =
+    (relayed : Relayed) × ((calls : List Call) × HasRun relayed calls) × P relayed
 
 -- a consumer that began with an empty inbox made these calls
 abbrev pub IsReaderRun : Fetcher → Contents → List Call → Type 0

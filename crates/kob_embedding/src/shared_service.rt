@@ -1,13 +1,14 @@
 //! A service under one lock.
 
 ghost use Rattle.std.specs.Prelude.{◌≡◌, ◌<◌, ◌≤◌, ◌^◌, ◌↔◌, ◌⊎◌, ◌++◌, [], Some, None, IfOk, OnOk};
-ghost use Rattle.std.specs.Prelude.{IsErrOf, OnErr};
-ghost use Rattle.kob_embedding.specs.Running.{IsSomeStep, IsSomeSweep};
-ghost use Rattle.kob_outbox.specs.Contents.{first_bad};
+ghost use Rattle.std.specs.Prelude.{IfErr, IsErrOf, OnErr, alloc_error, length, map, option_map};
+ghost use Rattle.std.specs.Prelude.{string_bytes};
+ghost use Rattle.kob_embedding.specs.Running.{IsSomeStep, OfSomeService};
+ghost use Rattle.kob_outbox.specs.Contents.{first_after, first_bad, state_at, stored_row, up_to};
 
 use crate::running_service::RunningService;
 use kob_lines::IntoCalls;
-use kob_outbox::{Change, OutboxEvent, OutboxFault, RecordFault};
+use kob_outbox::{Change, OutboxEvent, OutboxFault, RecordFault, Row};
 use kob_router::{Call, Line, Tick};
 use std::alloc::{AllocError, Global};
 use std::marker::Model;
@@ -90,10 +91,45 @@ impl<L: Line> SharedService<L> {
 
     /// Deletes the events that were sent, under the lock, and returns how many they were.
     pub fn sweep<R: Wait>(&self, rt: &R) -> Result<u64, OutboxFault>
-        ensures { IfOk result IsSomeSweep }
+        ensures { IfOk result (λ count. OfSomeService (λ r.
+            count ≡ length (up_to r.outbox.mark r.outbox.events))) }
     {
         let mut held = self.held.lock(rt);
         held.service.sweep()
+    }
+
+    /// The first events after this number, under the lock, as [`RunningService::after`] reads them.
+    pub fn after<R: Wait>(&self, rt: &R, seq: u64, limit: u32) -> Result<Vec<Row>, OutboxFault>
+        ensures rows { IfOk result (λ rows. OfSomeService (λ r.
+            map stored_row rows.items ≡ first_after seq limit r.outbox.events)) }
+        ensures memory { IfErr result (λ f. f ≡ OutboxFault.Memory alloc_error) }
+    {
+        let mut held = self.held.lock(rt);
+        held.service.after(seq, limit)
+    }
+
+    /// The state of the business row with this kind and id, if there is one, under the lock.
+    pub fn business<R: Wait>(
+        &self,
+        rt: &R,
+        kind: &str,
+        id: &str,
+    ) -> Result<Option<String>, OutboxFault>
+        ensures value { IfOk result (λ found. OfSomeService (λ r.
+            option_map string_bytes found ≡ state_at kind.now id.now r.outbox.business)) }
+        ensures memory { IfErr result (λ f. f ≡ OutboxFault.Memory alloc_error) }
+    {
+        let mut held = self.held.lock(rt);
+        held.service.business(kind, id)
+    }
+
+    /// The number up to which the events were sent, or 0, under the lock.
+    pub fn mark<R: Wait>(&self, rt: &R) -> Result<u64, OutboxFault>
+        ensures value { IfOk result (λ mark. OfSomeService (λ r. mark ≡ r.outbox.mark)) }
+        ensures memory { IfErr result (λ f. f ≡ OutboxFault.Memory alloc_error) }
+    {
+        let mut held = self.held.lock(rt);
+        held.service.mark()
     }
 
     /// Returns the service, and the calls of the lines that it handed out, in turn. Does not wait.

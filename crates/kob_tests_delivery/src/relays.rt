@@ -138,6 +138,7 @@ fn run<R: Threads + Wait + Sync, L: IntoCalls + Send + Drop>(
     requires { IfSome next (λ line. L.calls line ≡ []) }
 {
     let sent = record_and_send(rt, alloc, &service);
+    let mark = service.mark(rt);
     let swept = service.sweep(rt);
     let is_changed = match next {
         Some(next) => service.change_line(rt, next).is_ok(),
@@ -145,7 +146,8 @@ fn run<R: Threads + Wait + Sync, L: IntoCalls + Send + Drop>(
     };
     let (service, earlier) = service.finish();
     let end = service.close_after(1, earlier);
-    if sent && swept == Ok(IDS.len() as u64) && is_changed {
+    let all = Ok(IDS.len() as u64);
+    if sent && mark == all && swept == all && is_changed {
         return end.ok();
     }
     drop(end);
