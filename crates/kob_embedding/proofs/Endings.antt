@@ -39,12 +39,3 @@ pub none_waits : (now : Relayed) (calls : List Call) (unmade : ℕ) (stands : Re
     → SendsAs now calls unmade stands → OnOk stands (next_row now.outbox ≡ None)
 none_waits now calls unmade stands is =
     subst (λ s. OnOk s (next_row now.outbox ≡ None)) (sym is.tells) (none_after _ is.tick _ _ _ _ is.made.1.answer)
-
-pub takes_as : (t own : Subscription) (before now : Point) (tick : taken.Tick) (told : Option ProgramFault) → own ≡ t
-    → Ticks t before now tick → told ≡ taking_after tick → TakesAs own now told
-takes_as t own before now tick told same made tells = record {
-  before = before;
-  tick = tick;
-  made = subst (λ u. Ticks u before now tick) (sym same) made;
-  tells = tells;
-}

@@ -35,5 +35,6 @@ pub use Rattle.std.proofs.Common.{List, [], ap, append-nil, arith, drop, false, 
 pub use Rattle.std.proofs.lemmas.Bool.{eq-eqb, ne_eqb}
 pub use Rattle.std.proofs.lemmas.Bool.Decides.{nat_tests}
 pub use Rattle.std.proofs.lemmas.List.{drop_more, length-map, take_all}
+pub use Rattle.std.proofs.lemmas.Result.{err_from_is_err_and}
 pub use Rattle.std.proofs.lemmas.List.FromFn.{length-enumerate_from}
 pub use Rattle.std.specs.Prelude.{Err, None, Ok, OnErr, OnOk, Result, Some, if◌then◌else◌, slice_get, ◌↔◌, ◌⊎◌}

@@ -1,5 +1,6 @@
 -- A service and a consumer since they began.
-use Rattle.std.specs.Prelude.{ℕ, List, ◌≡◌, Option, Some, None, Result, Ok, Err, ◌⊎◌, suc, zero}
+use Rattle.std.specs.Prelude.{ℕ, List, [], ◌∷◌, ◌≡◌, ◌<◌, ◌≤◌, length, Option, Some, None, Result, Ok, Err, ◌⊎◌, suc}
+use Rattle.std.specs.List.{AllByRecursion}
 use Rattle.kob_inbox.specs.Contents.{Contents}
 use Rattle.kob_inbox.specs.declared.fetcher.Fetcher.{Fetcher}
 use Rattle.kob_lines.specs.Relayed.{HasConsumerRun, IsTick, Relayed, HasServiceRun}
@@ -16,7 +17,6 @@ use Rattle.kob_inbox.specs.Tick as consumer
 use Rattle.kob_inbox.specs.Tick.{Point, Ticks}
 use Rattle.kob_inbox.specs.declared.fetcher.Subscription.{Subscription}
 use Rattle.kob_inbox.specs.declared.tick.Tick.{Tick}
-use Rattle.kob_inbox.specs.declared.tick.Tick.TheVariants.{Idle}
 use Rattle.kob_inbox.specs.declared.tick.Tick.TheVariants as took
 use Rattle.kob_inbox.specs.declared.tick.StopReason.{StopReason}
 use Rattle.kob_inbox.specs.declared.tick.StopReason.TheVariants as untaken
@@ -113,27 +113,59 @@ fault_of_stop untaken.Store = Some program.Store
 
 -- why it ends at a tick, if it does
 abbrev pub taking_after : Tick → Option ProgramFault
+taking_after (took.Placed position) = None
+taking_after (took.Took records) = None
+taking_after took.Committed = None
+taking_after took.Idle = None
+taking_after took.Repeat = None
 taking_after (took.Stopped reason) = fault_of_stop reason
-taking_after _ = None
 
--- a tick led to this point, and told this
-pub record TakesAs (t : Subscription) (now : Point) (told : Option ProgramFault) : Type 0 where
-  pub before : Point
-  pub tick : Tick
-  pub made : Ticks t before now tick
-  pub tells : told ≡ taking_after tick
+-- these ticks in a row led from one point to another, the latest of them first
+abbrev pub AreTicks : Subscription → List Tick → Point → Point → Type 0
+AreTicks t [] before now = before ≡ now
+AreTicks t (tick ∷ ticks) before now =
+    (last : Point) × AreTicks t ticks before last × Ticks t last now tick
 
--- the tick that led to this point ended the work with this fault, or it is `Stopped` after a tick
--- after which the work goes on
-abbrev pub EndsTaking : Subscription → Point → ProgramFault → Type 0
-EndsTaking t now fault =
-    TakesAs t now (Some fault) ⊎ ((fault ≡ program.Stopped) × TakesAs t now None)
+-- the work of taking records in went on after each of these ticks
+abbrev pub WentOn : List Tick → Type 0
+WentOn ticks = AllByRecursion (λ tick. taking_after tick ≡ None) ticks
 
--- so many ticks in a row that found no record
-abbrev pub AreIdle : Subscription → ℕ → Point → Point → Type 0
-AreIdle t zero before now = before ≡ now
-AreIdle t (suc count) before now =
-    (last : Point) × AreIdle t count before last × Ticks t last now Idle
+-- The work ends with this fault after these ticks, the latest first: that one says so, or it is
+-- `Stopped` after as many as may be made. It went on after all others.
+abbrev pub EndsTaking : ℕ → List Tick → ProgramFault → Type 0
+EndsTaking most [] fault = (most ≡ 0) × (fault ≡ program.Stopped)
+EndsTaking most (tick ∷ ticks) fault =
+    WentOn ticks × (length (tick ∷ ticks) ≤ most)
+    × ((taking_after tick ≡ Some fault)
+    ⊎ ((taking_after tick ≡ None) × (length (tick ∷ ticks) ≡ most) × (fault ≡ program.Stopped)))
+
+-- how many ticks in a row found no record, after one more
+abbrev pub idle_after : Tick → ℕ → ℕ
+idle_after (took.Placed position) count = 0
+idle_after (took.Took records) count = 0
+idle_after took.Committed count = 0
+idle_after took.Idle count = suc count
+idle_after took.Repeat count = 0
+idle_after (took.Stopped reason) count = 0
+
+-- how many of these ticks, from the latest back, found no record in a row
+abbrev pub idle_ones : List Tick → ℕ
+idle_ones [] = 0
+idle_ones (tick ∷ ticks) = idle_after tick (idle_ones ticks)
+
+-- after none of these ticks had a round of so many turns found no record
+abbrev pub HasNoRound : ℕ → List Tick → Type 0
+HasNoRound round [] = Unit {0}
+HasNoRound round (tick ∷ ticks) = HasNoRound round ticks × (idle_ones (tick ∷ ticks) < round)
+
+-- the work of taking all records in ends so after these ticks, the latest first: well exactly if the
+-- last of them end the first round that found no record
+abbrev pub EndsTakingAll : ℕ → ℕ → List Tick → Result (Unit {0}) ProgramFault → Type 0
+EndsTakingAll round most ticks (Err fault) = HasNoRound round ticks × EndsTaking most ticks fault
+EndsTakingAll round most [] (Ok done) = ⊥
+EndsTakingAll round most (tick ∷ ticks) (Ok done) =
+    HasNoRound round ticks × (idle_ones (tick ∷ ticks) ≡ round)
+    × WentOn ticks × (length (tick ∷ ticks) ≤ most)
 
 -- a service whose line ended, and the number of its worker
 pub record ServiceLeft : Type 0 where

@@ -1,15 +1,15 @@
 //! A consumer that takes records into its inbox over a line.
 
-ghost use Rattle.std.specs.Prelude.{◌≡◌, ◌≤◌, ◌↔◌, [], IfErr, IfOk, IsErrOf, IsTrue, OnErr, OnOk};
-ghost use Rattle.std.specs.Prelude.{alloc_error, None, Some, ◌⊎◌};
-ghost use Rattle.std.specs.Prelude.{◌++◌, length, map, max};
-ghost use Rattle.kob_embedding.specs.Running.{AreIdle, EndsTaking, TakesAs, fault_of_code};
-ghost use Rattle.kob_embedding.specs.Running.{taking_after};
+ghost use Rattle.std.specs.Prelude.{◌≡◌, ◌<◌, ◌≤◌, ◌^◌, ◌-◌, ◌↔◌, ◌⊎◌, ◌++◌, [], List, length, map};
+ghost use Rattle.std.specs.Prelude.{IfErr, IfOk, IsErrOf, IsTrue, OnErr, OnOk, None, Some, max};
+ghost use Rattle.std.specs.Prelude.{alloc_error};
+ghost use Rattle.kob_embedding.specs.Running.{AreTicks, EndsTaking, EndsTakingAll, fault_of_code};
+ghost use Rattle.kob_embedding.specs.Running.{idle_after, taking_after};
 ghost use Rattle.std.specs.List.{enumerate_from};
 ghost use Rattle.kob_inbox.specs.Contents.{placed_intake};
 ghost use Rattle.kob_inbox.specs.Run.Move.{Restarted};
 ghost use Rattle.kob_inbox.specs.Run.{after};
-ghost use Rattle.kob_inbox.specs.Tick.{Point, Ticks, point_of, state_of};
+ghost use Rattle.kob_inbox.specs.Tick.{Ticks, point_of, state_of};
 
 use crate::consumer_end::ConsumerEnd;
 use crate::part::{Part, joined};
@@ -99,18 +99,17 @@ impl<L: Line> RunningConsumer<L> {
     /// refused, or its call is lost: then a later tick may take the records in. It ends at once where
     /// none can: the error is `NotServed` if a position is not an offset of its partition
     /// (`OFFSET_OUT_OF_RANGE`), `Memory`, or `Store` if the database failed. Otherwise the error is
-    /// `Stopped`.
+    /// `Stopped`, after `most` ticks.
     pub fn take_all(&mut self, alloc: Global, most: u32) -> Result<(), ProgramFault>
         ensures same { self.new.fetcher.subscription ≡ self.old.fetcher.subscription }
-        ensures ends { IfErr result (λ fault.
-            ((self.new ≡ self.old) × (fault ≡ ProgramFault.Stopped))
-            ⊎ EndsTaking self.new.fetcher.subscription (point_of self.new.fetcher self.new.inbox
-            (L.calls self.new.line) (L.unmade self.new.line)) fault) }
-        ensures idle { OnOk result ((before : Point)
-            × AreIdle self.old.fetcher.subscription
-            (max 1 (length self.old.fetcher.subscription.assignment)) before
+        ensures ticks { (ticks : List Tick)
+            × AreTicks self.old.fetcher.subscription ticks
+            (point_of self.old.fetcher self.old.inbox
+            (L.calls self.old.line) (L.unmade self.old.line))
             (point_of self.new.fetcher self.new.inbox
-            (L.calls self.new.line) (L.unmade self.new.line))) }
+            (L.calls self.new.line) (L.unmade self.new.line))
+            × EndsTakingAll (max 1 (length self.old.fetcher.subscription.assignment))
+            most ticks result }
         ensures earlier { self.new.earlier ≡ self.old.earlier }
         ensures line { L.becomes self.old.line self.new.line }
     {
@@ -119,7 +118,7 @@ impl<L: Line> RunningConsumer<L> {
         let mut idle = 0;
         for _ in 0..most {
             let tick = self.step(alloc)?;
-            idle = if is_idle(tick) { idle + 1 } else { 0 };
+            idle = idle_after(tick, idle);
             if idle >= round {
                 return Ok(());
             }
@@ -129,21 +128,20 @@ impl<L: Line> RunningConsumer<L> {
     }
 
     /// Makes one step. The error is what no further step mends.
-    #[tactic(auto, using(crate::proofs::Endings::takes_as))]
     fn step(&mut self, alloc: Global) -> Result<Tick, ProgramFault>
         ensures same { self.new.fetcher.subscription ≡ self.old.fetcher.subscription }
-        ensures done { IfOk result (λ tick. Ticks self.old.fetcher.subscription
+        ensures done { IfOk result (λ tick. (taking_after tick ≡ None)
+            × Ticks self.old.fetcher.subscription
             (point_of self.old.fetcher self.old.inbox
             (L.calls self.old.line) (L.unmade self.old.line))
             (point_of self.new.fetcher self.new.inbox
-            (L.calls self.new.line) (L.unmade self.new.line))
-            tick) }
-        ensures goes_on { OnOk result (TakesAs self.new.fetcher.subscription
+            (L.calls self.new.line) (L.unmade self.new.line)) tick) }
+        ensures ends { IfErr result (λ fault. (tick : Tick) × (taking_after tick ≡ Some fault)
+            × Ticks self.old.fetcher.subscription
+            (point_of self.old.fetcher self.old.inbox
+            (L.calls self.old.line) (L.unmade self.old.line))
             (point_of self.new.fetcher self.new.inbox
-            (L.calls self.new.line) (L.unmade self.new.line)) None) }
-        ensures ends { IfErr result (λ fault. TakesAs self.new.fetcher.subscription
-            (point_of self.new.fetcher self.new.inbox
-            (L.calls self.new.line) (L.unmade self.new.line)) (Some fault)) }
+            (L.calls self.new.line) (L.unmade self.new.line)) tick) }
         ensures earlier { self.new.earlier ≡ self.old.earlier }
         ensures line { L.becomes self.old.line self.new.line }
     {
@@ -163,10 +161,14 @@ impl<L: Line> RunningConsumer<L> {
         ensures taken { OnOk result (count ≤ length self.new.inbox) }
         ensures there { count ≤ length self.old.inbox → OnOk result (self.new ≡ self.old) }
         ensures same { self.new.fetcher.subscription ≡ self.old.fetcher.subscription }
-        ensures ends { IfErr result (λ fault. (self.new ≡ self.old)
-            ⊎ (fault ≡ ProgramFault.Memory alloc_error)
-            ⊎ EndsTaking self.new.fetcher.subscription (point_of self.new.fetcher self.new.inbox
-            (L.calls self.new.line) (L.unmade self.new.line)) fault) }
+        ensures ends { IfErr result (λ fault. (fault ≡ ProgramFault.Memory alloc_error)
+            ⊎ ((ticks : List Tick)
+            × AreTicks self.old.fetcher.subscription ticks
+            (point_of self.old.fetcher self.old.inbox
+            (L.calls self.old.line) (L.unmade self.old.line))
+            (point_of self.new.fetcher self.new.inbox
+            (L.calls self.new.line) (L.unmade self.new.line))
+            × EndsTaking most ticks fault)) }
         ensures earlier { self.new.earlier ≡ self.old.earlier }
         ensures line { L.becomes self.old.line self.new.line }
     {
@@ -250,11 +252,15 @@ impl<L: Line> RunningConsumer<L> {
     }
 }
 
-/// Whether a step found no record.
-fn is_idle(tick: Tick) -> bool
-    ensures { IsTrue result → tick ≡ Tick.Idle }
+/// How many steps in a row found no record, after one more.
+fn idle_after(tick: Tick, before: usize) -> usize
+    requires { before < 2 ^ 64 - 1 }
+    ensures { result ≡ idle_after tick before }
 {
-    matches!(tick, Tick::Idle)
+    match tick {
+        Tick::Idle => before + 1,
+        _ => 0,
+    }
 }
 
 /// Why the work of taking records in ends at a step, if no further step mends what stopped it.

@@ -1,36 +1,55 @@
-use Rattle.kob_embedding.proofs.Words.{Fetcher, Subscription, ap, length, rules, subst, ◌∙◌, ◌≡◌}
-use Rattle.std.proofs.Common.{inr}
+use Rattle.kob_embedding.proofs.Words.{Fetcher, Subscription, ap, arith, err_from_is_err_and, length, refl, rules, ◌∙◌, ◌≡◌}
 use Rattle.kob_embedding.specs.Running.{Reader}
-use Rattle.kob_embedding.proofs.Idling.{no_round, none_idle, one_more_idle, round_is}
-use Rattle.kob_inbox.specs.Tick.{Ticks, point_of}
-use Rattle.kob_embedding.proofs.running_consumer.RunningConsumer.take_all.Goals.{else-is_idle, then-is_idle}
+use Rattle.kob_embedding.proofs.Takings.{all_taken, nothing_yet, one_more, round_is, some_round, taking_failed, taking_used_up}
+use Rattle.kob_inbox.specs.Tick.{point_of}
 use Rattle.kob_embedding.proofs.running_consumer.RunningConsumer.take_all.Goals as goal
 
-pub returns-then-idle-round-clause-idle : goal.returns-then-idle-round-clause-idle
-returns-then-idle-round-clause-idle g c =
+pub loop-init : goal.loop-init
+loop-init g c =
+    let stays : g.L.Line.becomes c.args.self.now.line c.args.self.now.line = search rules in
+    let now = c.args.self.now in
+    let point = point_of now.fetcher now.inbox (g.L.Line.calls now.line) (g.L.Line.unmade now.line) in (
+      refl,
+      refl,
+      stays,
+      some_round c.len.result c.max-round.result c.max-round.ensures,
+      nothing_yet now.fetcher.subscription c.max-round.result point,
+    )
+
+pub returns-in_err-tick-clause-ticks : goal.returns-in_err-tick-clause-ticks
+returns-in_err-tick-clause-ticks g c =
     let t = c.args.self.now.fetcher.subscription in
     let was = c.loop.self in
     let now = c.step.new.self in
-    let before = point_of was.fetcher was.inbox (g.L.Line.calls was.line) (g.L.Line.unmade was.line) in
-    let point = point_of now.fetcher now.inbox (g.L.Line.calls now.line) (g.L.Line.unmade now.line) in
     let same : c.subscription-subscription.result.now ≡ t =
     c.subscription-subscription.ensures ∙ ap (λ (f : Fetcher). f.subscription) c.consumer.ensures
     ∙ ap (λ (r : Reader g.row.L.Denot). r.fetcher.subscription) c.self.view_is in
     let partitions : c.len.result ≡ length t.assignment =
     c.len.ensures ∙ ap (λ (u : Subscription). length u.assignment) same in
-    elim c.if-is_idle.branch [
-      | then-is_idle w ↦
-          one_more_idle t was.fetcher.subscription c.loop.idle _ before point c.loop.invariant.0
-          (round_is c.len.result (length t.assignment) c.loop.idle c.if-is_idle.idle c.max-round.result
-          c.max-round.ensures partitions c.loop.invariant.3 w.idle-is c.if-idle-round.true)
-          c.loop.invariant.5
-          (subst (λ k. Ticks was.fetcher.subscription before point k) (c.is_idle.ensures w.if-is_idle.true)
-          c.in_ok-tick.ensures.done)
-      | else-is_idle w ↦
-          absurd
-          (no_round c.len.result c.if-is_idle.idle c.max-round.result c.max-round.ensures w.idle-is
-          c.if-idle-round.true)
-    ]
+    let p = err_from_is_err_and c.from_residual.result c.from_residual.ensures.1 in
+    rw (p.1, p.2)
+    (taking_failed t was.fetcher.subscription _ c.max-round.result c.loop.counter c.args.most c.loop.idle _
+    (point_of was.fetcher was.inbox (g.L.Line.calls was.line) (g.L.Line.unmade was.line))
+    (point_of now.fetcher now.inbox (g.L.Line.calls now.line) (g.L.Line.unmade now.line)) c.in_err-tick.field-0.0
+    c.loop.invariant.0 c.loop.invariant.4 c.in_err-tick.ensures.ends c.loop.invariant.3 c.loop-test.true
+    (round_is c.len.result (length t.assignment) c.max-round.result c.max-round.ensures partitions))
+
+pub returns-then-idle-round-clause-ticks : goal.returns-then-idle-round-clause-ticks
+returns-then-idle-round-clause-ticks g c =
+    let t = c.args.self.now.fetcher.subscription in
+    let was = c.loop.self in
+    let now = c.step.new.self in
+    let same : c.subscription-subscription.result.now ≡ t =
+    c.subscription-subscription.ensures ∙ ap (λ (f : Fetcher). f.subscription) c.consumer.ensures
+    ∙ ap (λ (r : Reader g.row.L.Denot). r.fetcher.subscription) c.self.view_is in
+    let partitions : c.len.result ≡ length t.assignment =
+    c.len.ensures ∙ ap (λ (u : Subscription). length u.assignment) same in
+    all_taken t was.fetcher.subscription _ c.max-round.result c.loop.counter c.args.most c.loop.idle
+    c.idle_after-idle.result _ (point_of was.fetcher was.inbox (g.L.Line.calls was.line) (g.L.Line.unmade was.line))
+    (point_of now.fetcher now.inbox (g.L.Line.calls now.line) (g.L.Line.unmade now.line)) c.in_ok-tick.tick
+    c.loop.invariant.0 c.loop.invariant.4 c.in_ok-tick.ensures.done.0 c.in_ok-tick.ensures.done.1
+    c.idle_after-idle.ensures c.loop.invariant.3 c.if-idle-round.true c.loop-test.true
+    (round_is c.len.result (length t.assignment) c.max-round.result c.max-round.ensures partitions)
 
 pub loop-preserved : goal.loop-preserved
 loop-preserved g c =
@@ -38,27 +57,28 @@ loop-preserved g c =
     let was = c.loop.self in
     let now = c.step.new.self in
     let done = c.in_ok-tick.ensures in
-    let line : g.L.Line.becomes c.args.self.now.line now.line = search rules in
-    let earlier = done.earlier ∙ c.loop.invariant.1 in
-    let before = point_of was.fetcher was.inbox (g.L.Line.calls was.line) (g.L.Line.unmade was.line) in
-    let point = point_of now.fetcher now.inbox (g.L.Line.calls now.line) (g.L.Line.unmade now.line) in
-    elim c.if-is_idle.branch [
-      | then-is_idle w ↦ (
-        done.same ∙ c.loop.invariant.0,
-        earlier,
-        line,
-        c.if-idle-round.false,
-        inr done.goes_on,
-        one_more_idle t was.fetcher.subscription c.loop.idle c.if-is_idle.idle before point c.loop.invariant.0 w.idle-is
-            c.loop.invariant.5
-            (subst (λ k. Ticks was.fetcher.subscription before point k) (c.is_idle.ensures w.if-is_idle.true) done.done),
-      )
-      | else-is_idle w ↦ (
-        done.same ∙ c.loop.invariant.0,
-        earlier,
-        line,
-        c.if-idle-round.false,
-        inr done.goes_on,
-        none_idle t c.if-is_idle.idle point w.idle-is,
-      )
-    ]
+    let line : g.L.Line.becomes c.args.self.now.line now.line = search rules in (
+      done.same ∙ c.loop.invariant.0,
+      done.earlier ∙ c.loop.invariant.1,
+      line,
+      c.if-idle-round.false,
+      one_more t was.fetcher.subscription c.max-round.result c.loop.counter c.loop.idle c.idle_after-idle.result _
+          (point_of was.fetcher was.inbox (g.L.Line.calls was.line) (g.L.Line.unmade was.line))
+          (point_of now.fetcher now.inbox (g.L.Line.calls now.line) (g.L.Line.unmade now.line)) c.in_ok-tick.tick
+          c.loop.invariant.0 c.loop.invariant.4 done.done.0 done.done.1 c.idle_after-idle.ensures
+          c.if-idle-round.false,
+    )
+
+pub returns-clause-ticks : goal.returns-clause-ticks
+returns-clause-ticks g c =
+    let t = c.args.self.now.fetcher.subscription in
+    let was = c.loop.self in
+    let same : c.subscription-subscription.result.now ≡ t =
+    c.subscription-subscription.ensures ∙ ap (λ (f : Fetcher). f.subscription) c.consumer.ensures
+    ∙ ap (λ (r : Reader g.row.L.Denot). r.fetcher.subscription) c.self.view_is in
+    let partitions : c.len.result ≡ length t.assignment =
+    c.len.ensures ∙ ap (λ (u : Subscription). length u.assignment) same in
+    let all : c.loop.counter ≡ c.args.most = omega (arith, c.loop.auto.counter-end, c.loop-test.false) in
+    taking_used_up t _ c.max-round.result c.loop.counter c.args.most c.loop.idle _
+    (point_of was.fetcher was.inbox (g.L.Line.calls was.line) (g.L.Line.unmade was.line)) c.loop.invariant.4 all
+    (round_is c.len.result (length t.assignment) c.max-round.result c.max-round.ensures partitions)

@@ -1,6 +1,6 @@
-use Rattle.kob_embedding.proofs.Words.{None, ◌<◌, ◌≡◌, ◌⊎◌}
-use Rattle.kob_inbox.specs.Tick.{Point, point_of}
-use Rattle.kob_embedding.specs.Running.{AreIdle, TakesAs}
+use Rattle.kob_embedding.proofs.Words.{◌<◌, ◌≡◌}
+use Rattle.kob_embedding.proofs.Takings.{Taking}
+use Rattle.kob_inbox.specs.Tick.{point_of}
 use Rattle.kob_embedding.proofs.running_consumer.RunningConsumer.take_all.Given as goal
 
 abbrev pub invariant-loop : goal.invariant-loop
@@ -9,8 +9,6 @@ invariant-loop g l =
     × (l.self.earlier ≡ l.fn.self.earlier)
     × g.L.Line.becomes l.fn.self.line l.self.line
     × (l.idle < l.round)
-    × ((l.self ≡ l.fn.self)
-    ⊎ TakesAs l.self.fetcher.subscription
-    (point_of l.self.fetcher l.self.inbox (g.L.Line.calls l.self.line) (g.L.Line.unmade l.self.line)) None)
-    × ((before : Point) × AreIdle l.fn.self.fetcher.subscription l.idle before
-    (point_of l.self.fetcher l.self.inbox (g.L.Line.calls l.self.line) (g.L.Line.unmade l.self.line)))
+    × Taking l.fn.self.fetcher.subscription l.round l.counter l.idle
+    (point_of l.fn.self.fetcher l.fn.self.inbox (g.L.Line.calls l.fn.self.line) (g.L.Line.unmade l.fn.self.line))
+    (point_of l.self.fetcher l.self.inbox (g.L.Line.calls l.self.line) (g.L.Line.unmade l.self.line))
