@@ -1,31 +1,75 @@
--- What the last tick of some work told.
-use Rattle.kob_embedding.proofs.Words.{Call, IsTick, List, None, OnOk, Relayed, Result, Subscription, subst, sym, ℕ, ◌≡◌}
-use Rattle.kob_embedding.specs.Running.{SendsAs, TakesAs, sending_after, taking_after}
-use Rattle.kob_inbox.specs.Tick.{Point, Ticks}
-use Rattle.kob_inbox.specs.declared.tick.Tick as taken
+-- Ticks of a service in a row.
+use Rattle.kob_embedding.proofs.Words.{Call, Err, IsTick, List, None, Ok, OnOk, Relayed, Result, Some, [], ap, arith, length, map, refl, subst, suc, sym, take, ℕ, ◌+◌, ◌<◌, ◌∙◌, ◌∷◌, ◌≡◌, ◌≤◌, ◌↔◌}
+use Rattle.std.proofs.Common.{inl, inr}
+use Rattle.std.proofs.lemmas.List.{length-map}
+use Rattle.std.specs.List.{AllByRecursion}
+use Rattle.std.specs.Prelude.{IfErr, IsSome, MatchOption, slice_get}
+use Rattle.kob_embedding.specs.Running.{AreSteps, EndsSending, Moment, SendsFor, sending_after}
 use Rattle.kob_lines.specs.declared.program_fault.ProgramFault.{ProgramFault}
+use Rattle.kob_lines.specs.declared.program_fault.ProgramFault.TheVariants as program
+use Rattle.kob_outbox.specs.Contents.{Contents, Event, first_after, later_than, stored_row}
+use Rattle.kob_outbox.specs.declared.event.Row.{Row}
 use Rattle.kob_router.specs.Run.{Dispatching, Move, State, next_row}
 use Rattle.kob_router.specs.Tick.{IsReport}
 use Rattle.kob_router.specs.declared.tick.StopReason.TheVariants.{BadTopic, Denied, Memory, Refused, Store}
 use Rattle.kob_router.specs.declared.tick.Tick as sent
 use Rattle.kob_router.specs.declared.tick.Tick.TheVariants.{Idle, Moved, Repeat, Stopped}
-use Rattle.std.specs.Prelude.{Option}
 
-pub sends_as : (before now : Relayed) (calls then_calls : List Call) (unmade then_unmade : ℕ) (tick : sent.Tick)
-    (stands : Result (Unit {0}) ProgramFault) → IsTick before now calls then_calls unmade then_unmade tick
-    → stands ≡ sending_after tick → SendsAs now then_calls then_unmade stands
-sends_as before now calls then_calls unmade then_unmade tick stands made tells = record {
-  before = before;
-  calls_before = calls;
-  unmade_before = unmade;
-  tick = tick;
-  made = made;
-  tells = tells;
+-- so many ticks were made, after each of which the work goes on
+pub record Sending (count : ℕ) (before now : Moment) : Type 0 where
+  pub ticks : List sent.Tick
+  pub made : AreSteps ticks before now
+  pub on : AllByRecursion (λ one. sending_after one ≡ None) ticks
+  pub many : length ticks ≡ count
+
+pub no_tick : (now : Moment) → Sending 0 now now
+no_tick now = record { ticks = []; made = refl; on = tt; many = refl }
+
+pub one_tick : (count : ℕ) (before last now : Moment) (tick : sent.Tick) → Sending count before last
+    → IsTick last.relayed now.relayed last.calls now.calls last.unmade now.unmade tick
+    → sending_after tick ≡ None → Sending (count + 1) before now
+one_tick count before last now tick was made on = record {
+  ticks = tick ∷ was.ticks;
+  made = (last, was.made, made);
+  on = (on, was.on);
+  many = longer (length was.ticks) count was.many;
 }
+  where
+    longer : (n count : ℕ) → n ≡ count → suc n ≡ count + 1
+    longer n count is = omega arith
 
--- only a tick that found no row tells that the work is done
+-- a tick ends the work
+pub sending_ends : (count most : ℕ) (before last now : Moment) (tick : sent.Tick)
+    (ended : Result (Unit {0}) ProgramFault) → Sending count before last
+    → IsTick last.relayed now.relayed last.calls now.calls last.unmade now.unmade tick
+    → sending_after tick ≡ Some ended → count < most → IfErr ended (SendsFor most before now)
+sending_ends count most before last now tick (Ok done) was made is within = tt
+sending_ends count most before last now tick (Err fault) was made is within = (
+  tick ∷ was.ticks,
+  (last, was.made, made),
+  (was.on, few (length was.ticks) count most was.many within, inl is),
+)
+  where
+    few : (n count most : ℕ) → n ≡ count → count < most → suc n ≤ most
+    few n count most is within = omega arith
+
+-- all ticks were made
+pub sending_used_up : (count most : ℕ) (before now : Moment) → Sending count before now → count ≡ most
+    → SendsFor most before now program.Stopped
+sending_used_up count most before now was all =
+    (was.ticks, was.made, ends was.ticks count most was.on was.many all)
+  where
+    ends : (ticks : List sent.Tick) (count most : ℕ)
+        → AllByRecursion (λ one. sending_after one ≡ None) ticks → length ticks ≡ count
+        → count ≡ most → EndsSending most ticks program.Stopped
+    ends [] count most on many all = (sym all ∙ sym many, refl)
+    ends (tick ∷ ticks) count most on many all =
+        let is : length (tick ∷ ticks) ≡ most = many ∙ all in (on.1, omega (arith, is), inr (on.0, is, refl))
+
+-- only a tick that found no row ends the work well
 none_after : (route : Dispatching) (tick : sent.Tick) (moves : List Move) (now : State) (unmade then_unmade : ℕ)
-    → IsReport route tick moves now unmade then_unmade → OnOk (sending_after tick) (next_row now.outbox ≡ None)
+    → IsReport route tick moves now unmade then_unmade
+    → MatchOption (sending_after tick) (Unit {0}) (λ ended. OnOk ended (next_row now.outbox ≡ None))
 none_after route Idle moves now unmade then_unmade report = let (introduced, none, counted) = report in none
 none_after route (Moved seq) moves now unmade then_unmade report = tt
 none_after route Repeat moves now unmade then_unmade report = tt
@@ -35,7 +79,21 @@ none_after route (Stopped BadTopic) moves now unmade then_unmade report = tt
 none_after route (Stopped (Memory refused)) moves now unmade then_unmade report = tt
 none_after route (Stopped Store) moves now unmade then_unmade report = tt
 
-pub none_waits : (now : Relayed) (calls : List Call) (unmade : ℕ) (stands : Result (Unit {0}) ProgramFault)
-    → SendsAs now calls unmade stands → OnOk stands (next_row now.outbox ≡ None)
-none_waits now calls unmade stands is =
-    subst (λ s. OnOk s (next_row now.outbox ≡ None)) (sym is.tells) (none_after _ is.tick _ _ _ _ is.made.1.answer)
+pub none_waits : (before now : Relayed) (calls then_calls : List Call) (unmade then_unmade : ℕ) (tick : sent.Tick)
+    (ended : Result (Unit {0}) ProgramFault) → IsTick before now calls then_calls unmade then_unmade tick
+    → sending_after tick ≡ Some ended → OnOk ended (next_row now.outbox ≡ None)
+none_waits before now calls then_calls unmade then_unmade tick ended made is =
+    subst (λ o. MatchOption o (Unit {0}) (λ e. OnOk e (next_row now.outbox ≡ None))) is
+    (none_after _ tick _ _ _ _ made.1.answer)
+
+-- a row waits where one is read
+pub one_is_read : (rows : List Row) (mark : ℕ) (c : Contents) → mark ≡ c.mark
+    → map stored_row rows ≡ first_after mark 1 c.events → (0 < length rows) ↔ IsSome (next_row c)
+one_is_read rows mark c is read =
+    subst (λ n. (0 < n) ↔ IsSome (next_row c))
+    (ap (λ es. length es) (sym (read ∙ ap (λ m. first_after m 1 c.events) is)) ∙ length-map rows stored_row)
+    (some (later_than c.mark c.events))
+  where
+    some : (events : List Event) → (0 < length (take 1 events)) ↔ IsSome (slice_get events 0)
+    some [] = ((λ within. absurd (omega arith)), λ none. absurd (cc))
+    some (e ∷ events) = ((λ _. refl), λ _. omega arith)

@@ -57,27 +57,47 @@ abbrev pub RecordsNoRow : Relayed → List Call → Relayed → List Call → Ty
 RecordsNoRow old calls new then_calls =
     (rows : List Event) → IsSenderRun old calls rows → IsSenderRun new then_calls rows
 
--- where the work of sending all rows stands after a tick: it is done, or the next tick may go on
--- (`Stopped`), or no further tick mends what stopped it
-abbrev pub sending_after : router_tick.Tick → Result (Unit {0}) ProgramFault
-sending_after sent.Idle = Ok tt
-sending_after (sent.Moved seq) = Err program.Stopped
-sending_after sent.Repeat = Err program.Stopped
-sending_after (sent.Stopped (unsent.Denied code verdicts)) = Err program.Stopped
-sending_after (sent.Stopped (unsent.Refused code reason)) = Err program.Stopped
-sending_after (sent.Stopped unsent.BadTopic) = Err program.BadText
-sending_after (sent.Stopped (unsent.Memory refused)) = Err (program.Memory refused)
-sending_after (sent.Stopped unsent.Store) = Err program.Store
+-- how the work of sending all rows ends at a tick, if it does: no row waits, or no further tick mends
+-- what stopped it
+abbrev pub sending_after : router_tick.Tick → Option (Result (Unit {0}) ProgramFault)
+sending_after sent.Idle = Some (Ok tt)
+sending_after (sent.Moved seq) = None
+sending_after sent.Repeat = None
+sending_after (sent.Stopped (unsent.Denied code verdicts)) = None
+sending_after (sent.Stopped (unsent.Refused code reason)) = None
+sending_after (sent.Stopped unsent.BadTopic) = Some (Err program.BadText)
+sending_after (sent.Stopped (unsent.Memory refused)) = Some (Err (program.Memory refused))
+sending_after (sent.Stopped unsent.Store) = Some (Err program.Store)
 
--- a tick led to this state, after which the work stands so
-pub record SendsAs (now : Relayed) (calls : List Call) (unmade : ℕ)
-    (stands : Result (Unit {0}) ProgramFault) : Type 0 where
-  pub before : Relayed
-  pub calls_before : List Call
-  pub unmade_before : ℕ
-  pub tick : router_tick.Tick
-  pub made : IsTick before now calls_before calls unmade_before unmade tick
-  pub tells : stands ≡ sending_after tick
+-- a service and what its line tells, at one time
+pub record Moment : Type 0 where
+  pub relayed : Relayed
+  pub calls : List Call
+  pub unmade : ℕ
+
+abbrev pub at : Relayed → List Call → ℕ → Moment
+at relayed calls unmade = record { relayed = relayed; calls = calls; unmade = unmade }
+
+-- these ticks in a row led from one moment to another, the latest of them first
+abbrev pub AreSteps : List router_tick.Tick → Moment → Moment → Type 0
+AreSteps [] before now = before ≡ now
+AreSteps (tick ∷ ticks) before now =
+    (last : Moment) × AreSteps ticks before last
+    × IsTick last.relayed now.relayed last.calls now.calls last.unmade now.unmade tick
+
+-- The work of sending all rows ends with this fault after these ticks, the latest first: that one
+-- says so, or it is `Stopped` after as many as may be made. It went on after all others.
+abbrev pub EndsSending : ℕ → List router_tick.Tick → ProgramFault → Type 0
+EndsSending most [] fault = (most ≡ 0) × (fault ≡ program.Stopped)
+EndsSending most (tick ∷ ticks) fault =
+    AllByRecursion (λ one. sending_after one ≡ None) ticks × (length (tick ∷ ticks) ≤ most)
+    × ((sending_after tick ≡ Some (Err fault))
+    ⊎ ((sending_after tick ≡ None) × (length (tick ∷ ticks) ≡ most) × (fault ≡ program.Stopped)))
+
+-- some such ticks were made
+abbrev pub SendsFor : ℕ → Moment → Moment → ProgramFault → Type 0
+SendsFor most before now fault =
+    (ticks : List router_tick.Tick) × AreSteps ticks before now × EndsSending most ticks fault
 
 -- some service that has run so far made this step
 pub record IsSomeStep (tick : router_tick.Tick) : Type 0 where

@@ -53,7 +53,7 @@ fn hands_out<R: Wait>(
     }
 }
 
-/// Whether the event with this id is recorded and sent.
+/// Whether the event with this id is recorded and sent by one tick, after which none is needed.
 fn sends<L: Line>(alloc: Global, service: &mut RunningService<L>, id: u128) -> bool
     ensures { service.new.earlier ≡ service.old.earlier }
 {
@@ -63,7 +63,8 @@ fn sends<L: Line>(alloc: Global, service: &mut RunningService<L>, id: u128) -> b
     let recorded = service.record(&change, &event);
     drop(change);
     drop(event);
-    recorded.is_ok() && service.send_all(alloc, 10).is_ok()
+    let is_sent = service.send_all(alloc, 1).is_ok();
+    recorded.is_ok() && is_sent && service.send_all(alloc, 0).is_ok()
 }
 
 /// What a service leaves that sends two events, each over a line of its own. Between the two the

@@ -1,6 +1,7 @@
 use Rattle.kob_embedding.proofs.Words.{RecordsNoRow, ◌++◌, ◌≡◌}
-use Rattle.kob_embedding.specs.Running.{SendsAs}
-use Rattle.kob_embedding.proofs.running_service.RunningService.send_all.Given as goal
+use Rattle.kob_embedding.proofs.Endings.{Sending}
+use Rattle.kob_embedding.specs.Running.{at}
+use Rattle.kob_embedding.proofs.running_service.RunningService.send_for.Given as goal
 
 abbrev pub invariant-loop : goal.invariant-loop
 invariant-loop g l =
@@ -9,4 +10,5 @@ invariant-loop g l =
     × RecordsNoRow l.fn.self.relayed (l.fn.self.earlier ++ g.L.Line.calls l.fn.self.line) l.self.relayed
     (l.self.earlier ++ g.L.Line.calls l.self.line)
     × g.L.Line.becomes l.fn.self.line l.self.line
-    × SendsAs l.self.relayed (g.L.Line.calls l.self.line) (g.L.Line.unmade l.self.line) l.stands
+    × Sending l.counter (at l.fn.self.relayed (g.L.Line.calls l.fn.self.line) (g.L.Line.unmade l.fn.self.line))
+    (at l.self.relayed (g.L.Line.calls l.self.line) (g.L.Line.unmade l.self.line))
