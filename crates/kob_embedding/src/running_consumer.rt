@@ -15,7 +15,7 @@ use crate::consumer_end::ConsumerEnd;
 use crate::part::{Part, joined};
 use crate::past_calls::PastCalls;
 use kob_inbox::{Inbox, InboxFault, InboxRow, StopReason, Subscription, Tick};
-use kob_lines::{IntoCalls, ProgramFault, Receiver, a_consumer_run_goes_on};
+use kob_lines::{IntoCalls, Loss, Lossy, ProgramFault, Receiver, a_consumer_run_goes_on};
 use kob_rights::Code;
 use kob_router::{Call, Line};
 use std::alloc::{AllocError, Global};
@@ -281,6 +281,19 @@ fn fault_of_code(code: Code) -> Option<ProgramFault>
     match code {
         Code::OffsetOutOfRange => Some(ProgramFault::NotServed),
         _ => None,
+    }
+}
+
+impl<L: Line> RunningConsumer<Lossy<L>> {
+    /// Sets what happens to the next call, as [`Lossy::lose`] does. All else stays. Does not allocate.
+    pub fn lose(&mut self, loss: Loss)
+        ensures { self.new ≡ record self.old {
+          line = record self.old.line {
+            server = record self.old.line.server { loss = loss };
+          };
+        } }
+    {
+        self.line.lose(loss);
     }
 }
 
