@@ -1,6 +1,6 @@
 -- What a journal and the calls of two lines say of an inbox.
-use Rattle.kob_embedding.proofs.Words.{ArePrivate, AreServed, Call, Entry, Event, HasRun, ReachesReader, IsLegal, IsReaderRun, IsSenderRun, List, Place, ReachesInOrder, ReaderLeft, Retained, ServiceLeft, Settings, State, Subscription, arith, holds_a_prefix, legal_is_history, nat_tests, opened_by, served_to, state_of, subst, sym, view_after, ℕ, ◌≡◌}
-use Rattle.kob_embedding.specs.Running.{HasPremises}
+use Rattle.kob_embedding.proofs.Words.{ArePrivate, AreServed, Call, Entry, Event, HasRun, ReachesReader, IsReaderRun, IsSenderRun, List, Place, ReachesInOrder, ReaderLeft, ServiceLeft, Subscription, arith, holds_a_prefix, nat_tests, served_to, state_of, subst, sym, ℕ, ◌≡◌}
+use Rattle.kob_embedding.specs.Running.{HasPremises, IsUnserved}
 use Rattle.kob_delivery.specs.View.{IsBreach, IsHistory, View, opening_view}
 use Rattle.std.proofs.Common.{Bool, IsTrue, true}
 use Rattle.kob_delivery.specs.declared.premises.Breach.{Breach}
@@ -39,11 +39,11 @@ pub private_in_it : (sender own taker other : ℕ) (t u : Subscription) (places 
 private_in_it sender own taker other t u places journal all one two same assigned three private =
     grind (arith, nat_tests)
 
--- the calls that a journal does not have
-pub unserved_in_it : (calls now : List Call) (worker own : ℕ) (journal all : List Entry) → calls ≡ now → worker ≡ own
-    → journal ≡ all → (AreServed calls (served_to worker journal) → ⊥) → AreServed now (served_to own all) → ⊥
-unserved_in_it calls now worker own journal all one two three unserved served =
-    unserved (served_in_it now calls own worker all journal (sym one) (sym two) (sym three) served)
+-- the call that the journal does not have
+pub unserved_in_it : (calls now : List Call) (worker own : ℕ) (journal all : List Entry) (number : ℕ) → calls ≡ now
+    → worker ≡ own → journal ≡ all → IsUnserved calls (served_to worker journal) number
+    → IsUnserved now (served_to own all) number
+unserved_in_it calls now worker own journal all number one two three unserved = grind (arith, nat_tests)
 
 -- the same breach
 pub breach_in_it : (sender own taker other : ℕ) (t u : Subscription) (places : List Place) (journal all : List Entry)

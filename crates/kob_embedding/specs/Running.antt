@@ -1,5 +1,5 @@
 -- A service and a consumer since they began.
-use Rattle.std.specs.Prelude.{ℕ, List, [], ◌∷◌, ◌≡◌, ◌<◌, ◌≤◌, length, Option, Some, None, Result, Ok, Err, ◌⊎◌, suc}
+use Rattle.std.specs.Prelude.{ℕ, List, [], ◌∷◌, ◌++◌, ◌+◌, ◌≡◌, ◌<◌, ◌≤◌, length, take, Option, Some, None, Result, Ok, Err, ◌⊎◌, suc}
 use Rattle.std.specs.List.{AllByRecursion}
 use Rattle.kob_inbox.specs.Contents.{Contents}
 use Rattle.kob_inbox.specs.declared.fetcher.Fetcher.{Fetcher}
@@ -24,7 +24,7 @@ use Rattle.kob_rights.specs.declared.code.Code.{Code}
 use Rattle.kob_rights.specs.declared.code.Code.TheVariants.{OffsetOutOfRange}
 use Rattle.kob_delivery.specs.Served.{served_to}
 use Rattle.kob_delivery.specs.View.{ArePrivate, IsBreach}
-use Rattle.kob_router.specs.Line.{AreServed}
+use Rattle.kob_router.specs.Line.{AreServed, Served}
 use Rattle.kob_router.specs.Tick as router
 use Rattle.kob_router.specs.declared.tick.Tick as router_tick
 use Rattle.kob_router.specs.declared.tick.Tick.TheVariants as sent
@@ -215,10 +215,22 @@ pub record HasPremises (s : ServiceLeft) (r : ReaderLeft) (journal : List Entry)
   pub private : ArePrivate s.worker r.worker r.fetcher.subscription.group
       r.fetcher.subscription.assignment journal
 
+-- each of these calls has its place in what was served: with some calls after them, it is theirs
+abbrev pub HavePlaces : List Call → List Served → Type 0
+HavePlaces calls served = (after : List Call) × AreServed (calls ++ after) served
+
+-- The calls before the one of this number have their places, and with it they have not. Or the number
+-- is that of all calls: they have their places, and more was served.
+abbrev pub IsUnserved : List Call → List Served → ℕ → Type 0
+IsUnserved calls served number =
+    HavePlaces (take number calls) served
+    × (((number < length calls) × ¬ (HavePlaces (take (number + 1) calls) served))
+    ⊎ ((number ≡ length calls) × ¬ (AreServed calls served)))
+
 -- what of it is lacking
 abbrev pub IsLacking : ServiceLeft → ReaderLeft → List Entry → DeliveryFault → Type 0
 IsLacking s r journal (faults.Memory refused) = Unit {0}
-IsLacking s r journal faults.Service = ¬ (AreServed s.calls (served_to s.worker journal))
-IsLacking s r journal faults.Consumer = ¬ (AreServed r.calls (served_to r.worker journal))
+IsLacking s r journal (faults.Service number) = IsUnserved s.calls (served_to s.worker journal) number
+IsLacking s r journal (faults.Consumer number) = IsUnserved r.calls (served_to r.worker journal) number
 IsLacking s r journal (faults.Premise breach) = IsBreach s.worker r.worker r.fetcher.subscription.group
     r.fetcher.subscription.assignment journal breach

@@ -11,7 +11,7 @@ ghost use Rattle.kob_partition.specs.Retained.{Retained};
 ghost use Rattle.kob_shared.specs.Journals.{opened_by};
 
 use crate::consumer_end::ConsumerEnd;
-use crate::part::is_served_in_turn;
+use crate::part::first_unserved;
 use crate::service_end::ServiceEnd;
 use kob_delivery::{
     Breach, a_legal_journal_is_a_history, an_inbox_holds_a_prefix_of_each_aggregate, first_breach,
@@ -27,12 +27,14 @@ use thiserror::Error;
 pub enum DeliveryFault {
     #[error("out of memory")]
     Memory(AllocError),
-    /// The service's entries are not the calls of its line that were served.
-    #[error("the journal has other calls of the service")]
-    Service,
-    /// The consumer's entries are not the calls of its line that were served.
-    #[error("the journal has other calls of the consumer")]
-    Consumer,
+    /// The service's entries are not the calls of its line that were served. The number is that of
+    /// the first call that has no place among them, where the first of all is 0; or that of all
+    /// calls, if each has its place and entries are left over.
+    #[error("the journal has other calls of the service from call {0} on")]
+    Service(usize),
+    /// The same of the consumer.
+    #[error("the journal has other calls of the consumer from call {0} on")]
+    Consumer(usize),
     /// The first entry that breaks a premise, as [`first_breach`] finds it.
     #[error("an entry of the journal breaks a premise")]
     Premise(Breach),
@@ -85,12 +87,12 @@ pub fn reaches_in_turn(
         (IsLacking sent.now taken.now (entries_of journals.now)) }
 {
     let sender = sent.part();
-    if !is_served_in_turn(alloc, journals, sender)? {
-        return Err(DeliveryFault::Service);
+    if let Some(number) = first_unserved(alloc, journals, sender)? {
+        return Err(DeliveryFault::Service(number));
     }
     let taker = taken.part();
-    if !is_served_in_turn(alloc, journals, taker)? {
-        return Err(DeliveryFault::Consumer);
+    if let Some(number) = first_unserved(alloc, journals, taker)? {
+        return Err(DeliveryFault::Consumer(number));
     }
     let subscription = taken.consumer().subscription();
     let group = &subscription.group;

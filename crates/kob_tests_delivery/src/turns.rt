@@ -189,8 +189,9 @@ fn are_served(alloc: Global, past: &[PastJournal], sent: &Part, taken: &Part) ->
     are_found && are_missed
 }
 
-/// Whether the first three journals in turn show that the events reach the inbox, and do not in
-/// another order. In the fourth, another worker writes to the topic: its entry is the ninth of all.
+/// Whether the first three journals in turn show that the events reach the inbox, and name the first
+/// call of a worker that has no place in another order, without the second, and with it twice. In the
+/// fourth, another worker writes to the topic: its entry is the ninth of all.
 fn is_reached(alloc: Global, past: &[PastJournal], sent: &ServiceEnd, taken: &ConsumerEnd) -> bool {
     let [one, two, three, four] = past else {
         return false;
@@ -200,10 +201,14 @@ fn is_reached(alloc: Global, past: &[PastJournal], sent: &ServiceEnd, taken: &Co
     let in_turn = reaches_in_turn(alloc, &[one, two, three], sent, taken);
     let late = reaches_in_turn(alloc, &[two, one, three], sent, taken);
     let early = reaches_in_turn(alloc, &[one, three, two], sent, taken);
+    let short = reaches_in_turn(alloc, &[one, three], sent, taken);
+    let long = reaches_in_turn(alloc, &[one, two, two, three], sent, taken);
     let shared = reaches_in_turn(alloc, &[one, two, three, four], sent, taken);
     in_turn.is_ok()
-        && matches!(late, Err(DeliveryFault::Service))
-        && matches!(early, Err(DeliveryFault::Consumer))
+        && matches!(late, Err(DeliveryFault::Service(0)))
+        && matches!(early, Err(DeliveryFault::Consumer(0)))
+        && matches!(short, Err(DeliveryFault::Service(2)))
+        && matches!(long, Err(DeliveryFault::Service(3)))
         && matches!(
             shared,
             Err(DeliveryFault::Premise(Breach {

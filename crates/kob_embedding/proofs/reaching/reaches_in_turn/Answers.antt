@@ -1,6 +1,6 @@
-use Rattle.kob_embedding.proofs.Words.{ArePrivate, Fetcher, ap, refl, subst, true, ◌∙◌, ◌≡◌}
+use Rattle.kob_embedding.proofs.Words.{ArePrivate, AreServed, Fetcher, ap, refl, rules, served_to, subst, ◌∙◌}
 use Rattle.kob_embedding.proofs.InTurn.{are_a_history}
-use Rattle.kob_embedding.proofs.Reachings.{delivered, is_true, private_in_it, served_in_it}
+use Rattle.kob_embedding.proofs.Reachings.{delivered, private_in_it, served_in_it}
 use Rattle.kob_delivery.specs.View.{IsBreach}
 use Rattle.kob_embedding.specs.InTurn.{entries_of}
 use Rattle.std.specs.Prelude.{MatchOption}
@@ -17,13 +17,13 @@ returns-in-None-clause-premises c =
     let all = entries_of c.args.journals.now in
     let own = c.subscription-subscription.result.now in
     let subscribed = c.subscription-subscription.ensures ∙ ap (λ (f : Fetcher). f.subscription) c.consumer.ensures in
-    let first : c.in_ok-is_served_in_turn.field-0 ≡ true = c.if-not-branch.false in
-    let second : c.in_ok-is_served_in_turn-2.field-0 ≡ true = c.if-not-branch-2.false in
+    let first : AreServed sender.calls.items (served_to sender.worker all) = search rules in
+    let second : AreServed taker.calls.items (served_to taker.worker all) = search rules in
     record {
       sent = served_in_it sender.calls.items s.calls sender.worker s.worker all all one.calls one.worker refl
-          (c.in_ok-is_served_in_turn.ensures.0 (is_true c.in_ok-is_served_in_turn.field-0 first));
+          first;
       taken = served_in_it taker.calls.items t.calls taker.worker t.worker all all two.calls two.worker refl
-          (c.in_ok-is_served_in_turn-2.ensures.0 (is_true c.in_ok-is_served_in_turn-2.field-0 second));
+          second;
       private = private_in_it sender.worker s.worker taker.worker t.worker own t.fetcher.subscription
           c.as_slice-places.result.now all all one.worker two.worker subscribed c.as_slice-places.ensures
           refl
