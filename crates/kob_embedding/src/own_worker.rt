@@ -19,8 +19,8 @@ impl<L: IntoCalls + AsWorker> RunningService<L> {
         ensures calls { result.calls ≡ L.calls self.line }
         ensures relayed { result.relayed ≡ self.relayed }
     {
-        let worker = self.line().worker();
-        self.close(worker)
+        let sender = self.line().worker();
+        self.close(sender)
     }
 
     /// Ends the line. The calls of its worker are those of the lines that were handed out, in turn,
@@ -31,8 +31,8 @@ impl<L: IntoCalls + AsWorker> RunningService<L> {
         ensures calls { IfOk result (λ e. e.calls ≡ earlier.items ++ L.calls self.line) }
         ensures relayed { IfOk result (λ e. e.relayed ≡ self.relayed) }
     {
-        let worker = self.line().worker();
-        self.close_after(worker, earlier)
+        let sender = self.line().worker();
+        self.close_after(sender, earlier)
     }
 }
 
@@ -46,8 +46,8 @@ impl<L: IntoCalls + AsWorker> RunningConsumer<L> {
         ensures fetcher { result.fetcher ≡ self.fetcher }
         ensures inbox { result.inbox ≡ self.inbox }
     {
-        let worker = self.line().worker();
-        self.close(worker)
+        let taker = self.line().worker();
+        self.close(taker)
     }
 
     /// Ends the line. The calls of its worker are those of the lines that were handed out, in turn,
@@ -59,8 +59,8 @@ impl<L: IntoCalls + AsWorker> RunningConsumer<L> {
         ensures fetcher { IfOk result (λ e. e.fetcher ≡ self.fetcher) }
         ensures inbox { IfOk result (λ e. e.inbox ≡ self.inbox) }
     {
-        let worker = self.line().worker();
-        self.close_after(worker, earlier)
+        let taker = self.line().worker();
+        self.close_after(taker, earlier)
     }
 }
 
@@ -75,8 +75,8 @@ impl<L: IntoCalls + AsWorker + Drop> RunningService<L> {
         ensures ok { OnOk done (OnErr result ⊥) }
         ensures fault { IfErr done (λ fault. IsErrOf result fault) }
     {
-        let worker = self.line().worker();
-        self.end(worker, done)
+        let sender = self.line().worker();
+        self.end(sender, done)
     }
 }
 
@@ -92,7 +92,7 @@ impl<L: IntoCalls + AsWorker + Drop> RunningConsumer<L> {
         ensures ok { OnOk done (OnErr result ⊥) }
         ensures fault { IfErr done (λ fault. IsErrOf result fault) }
     {
-        let worker = self.line().worker();
-        self.end(worker, done)
+        let taker = self.line().worker();
+        self.end(taker, done)
     }
 }
