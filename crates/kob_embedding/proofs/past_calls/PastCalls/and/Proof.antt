@@ -1,7 +1,7 @@
 -- `and` makes the empty struct, with the calls that its clause names.
 use mathlib.Core.Path.{refl}
-use mathlib.Core.List.{List, [], ◌∷◌, ◌++◌}
-use Prim.Native.Nat.{ℕ, ◌^◌}
+use mathlib.Core.List.{[], ◌∷◌, ◌++◌}
+use Prim.Native.Nat.{◌^◌}
 use Rattle.std.proofs.Common.{◌<◌, length}
 use seplogic.Ra.Ura.{Ura}
 use mir.Syntax.{named}
