@@ -3,6 +3,7 @@ pub mod OnNames
 pub mod Following
 pub mod Lasting
 pub mod Opening
+pub mod Unsharing
 pub mod Lists
 pub mod InTurn
 mod Logged

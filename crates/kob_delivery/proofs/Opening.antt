@@ -8,7 +8,7 @@ use Rattle.kob_rights.specs.declared.request.Request.TheVariants.{CreateAcls}
 use Rattle.kob_delivery.specs.Reserved.{IsReservedBy, allows_others, is_on}
 use Rattle.std.specs.List.{list_any}
 
-none_passes : {A : Type 0} (test : A → Bool) (xs : List A) → list_any test xs ≡ false
+pub none_passes : {A : Type 0} (test : A → Bool) (xs : List A) → list_any test xs ≡ false
     → AllByRecursion (λ x. test x ≡ false) xs
 none_passes test [] none = tt
 none_passes test (x ∷ xs) none =
@@ -22,7 +22,7 @@ each_fails : {A : Type 0} (test : A → Bool) (xs : List A) → AllByRecursion (
 each_fails test [] fails = refl
 each_fails test (x ∷ xs) fails = rw (fails.0) (each_fails test xs fails.1)
 
-none_opens : {A : Type 0} (test : A → Bool) (xs : List A) (opens answer : Bool) → opens ≡ list_any test xs
+pub none_opens : {A : Type 0} (test : A → Bool) (xs : List A) (opens answer : Bool) → opens ≡ list_any test xs
     → answer ≡ not opens → IsTrue answer ↔ AllByRecursion (λ x. test x ≡ false) xs
 none_opens test xs true answer any is = (
   λ yes. absurd (true≢false (sym yes ∙ is)),

@@ -1,10 +1,11 @@
 -- What the law asks where other services send to topics of a consumer's assignment too.
-use Rattle.std.specs.Prelude.{◌≡◌, ◌⊎◌, ℕ, List, Bool, false, bytes_eq, Contains, Option, None, Some}
+use Rattle.std.specs.Prelude.{◌≡◌, ◌⊎◌, ℕ, List, Bool, false, bytes_eq, Contains, Option, None, Some, slice_get, take}
 use Rattle.std.specs.List.{list_any, AllByRecursion}
 use Rattle.kob_delivery.specs.Types.{Record, Request, Produce, Dispatching, Place, Entry}
 use Rattle.kob_delivery.specs.Delivered.{told_id, ids_of}
 use Rattle.kob_delivery.specs.View.{IsNeverDeleted, IsSoleCommitter, IsSoleProducer, Produces}
 use Rattle.kob_outbox.specs.Contents.{Event}
+use Rattle.kob_names.specs.Same.{same_text}
 use Rattle.kob_router.specs.Run.{place_of}
 
 -- the event id, where there is one, is among these
@@ -48,3 +49,23 @@ abbrev pub AreSharedTopics
     : Dispatching → List Event → ℕ → ℕ → List ℕ → List Place → List Entry → Type 0
 AreSharedTopics route rows sender taker group assignment journal = (place : Place)
     → Contains assignment place → IsSharedTopic route rows sender taker group place.topic journal
+
+-- the place is on the topic
+abbrev pub is_on_topic : List ℕ → Option Place → Bool
+is_on_topic topic None = false
+is_on_topic topic (Some place) = same_text place.topic topic
+
+-- the row is routed to the topic
+abbrev pub goes_to_topic : Dispatching → List ℕ → Event → Bool
+goes_to_topic route topic row = is_on_topic topic (place_of (route row))
+
+-- the first partition of an assignment whose topic is not shared so
+pub record IsFirstUnshared (route : Dispatching) (rows : List Event) (sender taker : ℕ)
+    (group : List ℕ) (assignment : List Place) (journal : List Entry) (assigned : ℕ)
+    : Type 0 where
+  pub place : Place
+  pub there : slice_get assignment assigned ≡ Some place
+  pub breaks : ¬ (IsSharedTopic route rows sender taker group place.topic journal)
+  pub before :
+      AllByRecursion (λ p. IsSharedTopic route rows sender taker group p.topic journal)
+      (take assigned assignment)

@@ -14,6 +14,7 @@ mod openers;
 mod premises;
 mod repeat_laws;
 mod several_laws;
+mod shared_topics;
 
 pub use access_laws::{bindings_leave_one_committer, bindings_leave_one_producer};
 pub use access_rules::{
@@ -39,3 +40,4 @@ pub use premises::{
 };
 pub use repeat_laws::a_row_is_appended_once_a_start;
 pub use several_laws::an_inbox_among_services_holds_a_prefix;
+pub use shared_topics::first_unshared;
