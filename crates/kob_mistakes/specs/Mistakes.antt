@@ -5,6 +5,7 @@ use Rattle.kob_mistakes.specs.Forms.{form_by}
 use Rattle.kob_mistakes.specs.Hints.{hint_on}
 use Rattle.kob_mistakes.specs.LeftOut.{left_out, left_out_text}
 use Rattle.kob_mistakes.specs.Lines.{line_of, lines_before}
+use Rattle.kob_mistakes.specs.Names.{nearest_at}
 use Rattle.kob_mistakes.specs.Places.{place_named, place_of}
 use Rattle.kob_mistakes.specs.Quotes.{quoted_words}
 use Rattle.kob_mistakes.specs.Records.{hint_on_record}
@@ -13,6 +14,8 @@ use Rattle.kob_mistakes.specs.declared.left_out.LeftOut.{LeftOut}
 use Rattle.kob_mistakes.specs.declared.question.Lines.{Lines}
 use Rattle.kob_mistakes.specs.declared.question.Lines.TheVariants.{Bindings, Questions}
 use Rattle.kob_scene_text.specs.declared.fault.SceneFaultKind.{SceneFaultKind}
+use Rattle.kob_mistakes.specs.declared.worker.WorkerKind.{WorkerKind}
+use Rattle.kob_script.specs.Script.{lines_in}
 use Rattle.kob_script.specs.Words.{raw_words}
 
 -- where a fault is found on a line
@@ -38,11 +41,18 @@ abbrev pub hint_at : List ℕ → ℕ → SceneFaultKind → Option (List ℕ)
 hint_at text line kind = hint_named (lacking_at text line kind) text (line_of text line)
     (raw_words (line_of text line)) (place_at text line kind)
 
--- at a place
+-- the worker that a step at a place is not one of
+abbrev pub stepping_on : List ℕ → ℕ → ℕ → Option WorkerKind
+stepping_on text line place =
+    stepping_at (lines_before text line) (raw_words (line_of text line)) place
+
+abbrev pub nearest_on : List ℕ → ℕ → SceneFaultKind → ℕ → Option (List ℕ)
+nearest_on text line kind place = nearest_at (lines_in text) (stepping_on text line place)
+    (raw_words (line_of text line)) kind place
+
 abbrev pub form_at : List ℕ → ℕ → SceneFaultKind → ℕ → List ℕ
-form_at text line kind place = form_by kind
-    (stepping_at (lines_before text line) (raw_words (line_of text line)) place)
-    (raw_words (line_of text line))
+form_at text line kind place =
+    form_by kind (stepping_on text line place) (raw_words (line_of text line))
 
 -- the words of a line, as they stand in it
 abbrev pub words_in : Lines → List ℕ → List (List ℕ)

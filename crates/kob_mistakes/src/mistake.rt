@@ -1,6 +1,6 @@
 //! A fault of a scene or a script, as a person is told of it.
 
-ghost use Rattle.std.specs.Prelude.{◌≡◌, IfOk, map, option_map};
+ghost use Rattle.std.specs.Prelude.{◌≡◌, ◌++◌, IfOk, OnOk, map, option_map, slice_get};
 ghost use Rattle.kob_scene_text.specs.Misuses.{misuse_at};
 ghost use Rattle.kob_script.specs.Script.{line_words};
 ghost use Rattle.kob_script.specs.Words.{raw_words, words_of};
@@ -9,7 +9,9 @@ ghost use Rattle.kob_mistakes.specs.Places.{is_long_record, place_by, place_in, 
 ghost use Rattle.kob_scene_text.specs.Places.{same_kind};
 ghost use Rattle.kob_mistakes.specs.Forms.{form_by};
 ghost use Rattle.kob_mistakes.specs.Lines.{line_of, line_where, lines_before};
-ghost use Rattle.kob_mistakes.specs.Mistakes.{form_at, hint_at, hint_named, place_at};
+ghost use Rattle.kob_mistakes.specs.Mistakes.{form_at, hint_at, hint_named, nearest_on, place_at};
+ghost use Rattle.kob_mistakes.specs.Names.{name_declared, name_on, nearest_at, text_of, words_at};
+ghost use Rattle.kob_mistakes.specs.Names.{worker_names, workers_at};
 
 use crate::hint::hint_on;
 use crate::left_out::{LeftOut, left_out};
@@ -17,9 +19,8 @@ use crate::place::word_place;
 use crate::record::{before_ending, hint_on_record, word_is};
 use crate::spelling::{nearest, unless_same};
 use crate::usage::{LAW_FORM, form_of, is_keyword, push_names};
-use crate::words::{escape_place, line_at, lines_before, lines_of, raw_words, word_at};
+use crate::words::{as_text, escape_place, line_at, lines_before, lines_of, raw_words, word_at};
 use crate::worker::{WorkerKind, declared_by, kind_named, stepping_at};
-use bstr::ByteSlice;
 use kob_names::Text;
 use kob_scene_text::{Misuse, SceneFault, SceneFaultKind, misuse_at};
 use kob_script::{FaultKind, LineError, words_of};
@@ -55,6 +56,8 @@ pub fn mistake_in<'a>(
         ≡ hint_at text.now fault.line fault.kind) }
     ensures form { IfOk result (λ mistake. mistake.form.now
         ≡ form_at text.now fault.line fault.kind mistake.place) }
+    ensures nearest { IfOk result (λ mistake. mistake.nearest
+        ≡ nearest_on text.now fault.line fault.kind mistake.place) }
     ensures misuse { IfOk result (λ mistake. mistake.misuse
         ≡ misuse_at (lines_before text.now fault.line)
         (line_words (line_of text.now fault.line)) fault.kind mistake.place) }
@@ -67,7 +70,7 @@ pub fn mistake_in<'a>(
     let left_out = left_out(line, &words, fault_at);
     let place = place_named(&words, left_out, fault_at);
     let stepping = stepping_at(alloc, before, &words, place)?;
-    let nearest = nearest_at(alloc, text, &words, place, fault.kind, stepping)?;
+    let nearest = nearest_at(alloc, &lines, &words, place, fault.kind, stepping)?;
     let misuse = misuse_in(alloc, before, line, place, fault.kind)?;
     Ok(Mistake {
         form: form_by(fault.kind, &words, stepping),
@@ -273,40 +276,107 @@ fn count_of(sign: u8, word: &[u8]) -> usize
 /// The name nearest to a word: of the workers of the text, or of the words of such lines.
 fn nearest_at(
     alloc: Global,
-    text: &[u8],
+    lines: &[&[u8]],
     words: &[&[u8]],
     place: usize,
     kind: SceneFaultKind,
     stepping: Option<WorkerKind>,
-) -> Result<Option<Text>, AllocError> {
-    let Some(word) = words.get(place).and_then(|word| word.to_str().ok()) else {
+) -> Result<Option<Text>, AllocError>
+    ensures { IfOk result (λ name. name ≡ nearest_at (map (λ line. line.now) lines.now) stepping
+        (map (λ word. word.now) words.now) kind place) }
+{
+    let Some(word) = text_at(words, place) else {
         return Ok(None);
     };
     let mut names = Vec::new(alloc);
-    if place == 0 || kind == SceneFaultKind::UnknownWorker {
-        push_workers(alloc, &mut names, text)?;
-    }
-    if kind != SceneFaultKind::UnknownWorker {
-        push_names(&mut names, words, place, stepping)?;
-    }
+    push_workers(alloc, &mut names, lines, kind, place)?;
+    push_words(&mut names, words, kind, place, stepping)?;
     Ok(unless_same(nearest(alloc, word, &names)?, word))
 }
 
-/// Appends the names of the workers that a text declares.
+/// The word at a place, if it is a text.
+#[tactic(auto, using(crate::proofs::Walking::lent_at))]
+fn text_at<'a>(words: &[&'a [u8]], place: usize) -> Option<&'a str>
+    ensures { option_map (λ text. text.now) result
+        ≡ text_of (slice_get (map (λ word. word.now) words.now) place) }
+{
+    match words.get(place) {
+        Some(word) => as_text(word),
+        None => None,
+    }
+}
+
+fn is_unknown_worker(kind: SceneFaultKind) -> bool
+    ensures { result ≡ same_kind kind SceneFaultKind.UnknownWorker }
+{
+    match kind {
+        SceneFaultKind::UnknownWorker => true,
+        _ => false,
+    }
+}
+
+fn push_words<'a>(
+    names: &mut Vec<&'a str>,
+    words: &[&[u8]],
+    kind: SceneFaultKind,
+    place: usize,
+    stepping: Option<WorkerKind>,
+) -> Result<(), AllocError>
+    ensures { OnOk result (map (λ name. name.now) names.new.items
+        ≡ map (λ name. name.now) names.old.items
+        ++ words_at stepping (map (λ word. word.now) words.now) kind place) }
+{
+    if is_unknown_worker(kind) {
+        Ok(())
+    } else {
+        push_names(names, words, place, stepping)
+    }
+}
+
 fn push_workers<'a>(
     alloc: Global,
     names: &mut Vec<&'a str>,
-    text: &'a [u8],
-) -> Result<(), AllocError> {
-    for line in text.lines() {
+    lines: &[&'a [u8]],
+    kind: SceneFaultKind,
+    place: usize,
+) -> Result<(), AllocError>
+    ensures { OnOk result (map (λ name. name.now) names.new.items
+        ≡ map (λ name. name.now) names.old.items
+        ++ workers_at (map (λ line. line.now) lines.now) kind place) }
+{
+    if place == 0 || is_unknown_worker(kind) {
+        push_declared(alloc, names, lines)
+    } else {
+        Ok(())
+    }
+}
+
+/// Appends the names of the workers that lines declare.
+fn push_declared<'a>(
+    alloc: Global,
+    names: &mut Vec<&'a str>,
+    lines: &[&'a [u8]],
+) -> Result<(), AllocError>
+    ensures { OnOk result (map (λ name. name.now) names.new.items
+        ≡ map (λ name. name.now) names.old.items ++ worker_names (map (λ line. line.now) lines.now)) }
+{
+    for line in lines {
         let words = raw_words(alloc, line)?;
-        if let [first, name, ..] = words.as_slice() {
-            if declared_by(first).is_some() {
-                if let Ok(name) = name.to_str() {
-                    names.push(name)?;
-                }
-            }
-        }
+        push_name(names, &words)?;
+    }
+    Ok(())
+}
+
+fn push_name<'a>(names: &mut Vec<&'a str>, words: &[&'a [u8]]) -> Result<(), AllocError>
+    ensures { OnOk result (map (λ name. name.now) names.new.items
+        ≡ map (λ name. name.now) names.old.items
+        ++ name_declared (map (λ word. word.now) words.now)) }
+{
+    if declared_by(word_at(words, 0)).is_none() {
+        return Ok(());
+    }
+    if let Some(name) = text_at(words, 1) {
+        names.push(name)?;
     }
     Ok(())
 }

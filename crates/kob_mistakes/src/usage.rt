@@ -1,12 +1,15 @@
 //! The forms of lines, as the pages show them, and the words that lines are made of.
 
-ghost use Rattle.std.specs.Prelude.{◌≡◌, map, option_map};
+ghost use Rattle.std.specs.Prelude.{◌≡◌, ◌++◌, OnOk, map, option_map};
 ghost use Rattle.std.specs.List.{list_any};
 ghost use Rattle.std.specs.Option.{is_some};
 ghost use Rattle.std.specs.Str.{bytes_eq};
 ghost use Rattle.kob_mistakes.specs.Commands.{is_command};
 ghost use Rattle.kob_mistakes.specs.Forms.{consumer_forms, form_in, form_of, form_of_step, line_forms};
-ghost use Rattle.kob_mistakes.specs.Forms.{request_form, request_line_form, request_or_step, service_forms};
+ghost use Rattle.kob_mistakes.specs.Forms.{request_form, request_forms, request_line_form};
+ghost use Rattle.kob_mistakes.specs.Forms.{request_or_step, service_forms};
+ghost use Rattle.kob_mistakes.specs.Names.{binding_words, line_names, names_at, names_of, part_words};
+ghost use Rattle.kob_mistakes.specs.Names.{request_names};
 ghost use Rattle.kob_mistakes.specs.Forms.{steps_form, without_may};
 
 use crate::words::word_at;
@@ -342,29 +345,113 @@ pub(crate) fn push_names<'a>(
     words: &[&[u8]],
     place: usize,
     stepping: Option<WorkerKind>,
-) -> Result<(), AllocError> {
-    let is_request = word_at(words, 0).contains(&b':');
-    match (stepping, is_request, place) {
-        (Some(WorkerKind::Service), _, _) => push_names_of(names, &SERVICE_STEPS),
-        (Some(WorkerKind::Consumer), _, _) => push_names_of(names, &CONSUMER_STEPS),
-        (None, true, 2) => push_names_of(names, &REQUESTS),
-        (None, true, _) => names.extend_from_slice(&WORDS),
-        (None, false, 0) => push_names_of(names, &LINES),
-        (None, false, 1) => {
-            push_names_of(names, &SERVICE_STEPS)?;
-            push_names_of(names, &CONSUMER_STEPS)
-        }
-        (None, false, _) => names.extend_from_slice(&PARTS),
+) -> Result<(), AllocError>
+    ensures { OnOk result (map (λ name. name.now) names.new.items
+        ≡ map (λ name. name.now) names.old.items
+        ++ names_at stepping (map (λ word. word.now) words.now) place) }
+{
+    match stepping {
+        Some(WorkerKind::Service) => push_service_names(names),
+        Some(WorkerKind::Consumer) => push_consumer_names(names),
+        None if word_at(words, 0).contains(&b':') => push_request_names(names, place),
+        None => push_line_names(names, place),
     }
+}
+
+fn push_request_names<'a>(names: &mut Vec<&'a str>, place: usize) -> Result<(), AllocError>
+    ensures { OnOk result (map (λ name. name.now) names.new.items
+        ≡ map (λ name. name.now) names.old.items ++ request_names place) }
+{
+    if place == 2 {
+        push_command_names(names)
+    } else {
+        push_words(names)
+    }
+}
+
+#[tactic(auto, using(kob_words::proofs::Appending::appending))]
+fn push_line_names<'a>(names: &mut Vec<&'a str>, place: usize) -> Result<(), AllocError>
+    ensures { OnOk result (map (λ name. name.now) names.new.items
+        ≡ map (λ name. name.now) names.old.items ++ line_names place) }
+{
+    match place {
+        0 => push_keywords(names),
+        1 => {
+            push_service_names(names)?;
+            push_consumer_names(names)
+        }
+        _ => push_parts(names),
+    }
+}
+
+#[tactic(auto, unfolding(crate::specs::Forms::service_forms, crate::specs::Names::names_of))]
+fn push_service_names<'a>(names: &mut Vec<&'a str>) -> Result<(), AllocError>
+    ensures { OnOk result (map (λ name. name.now) names.new.items
+        ≡ map (λ name. name.now) names.old.items ++ names_of service_forms) }
+{
+    push_names_of(names, &SERVICE_STEPS)
+}
+
+#[tactic(auto, unfolding(crate::specs::Forms::consumer_forms, crate::specs::Names::names_of))]
+fn push_consumer_names<'a>(names: &mut Vec<&'a str>) -> Result<(), AllocError>
+    ensures { OnOk result (map (λ name. name.now) names.new.items
+        ≡ map (λ name. name.now) names.old.items ++ names_of consumer_forms) }
+{
+    push_names_of(names, &CONSUMER_STEPS)
+}
+
+#[tactic(auto, unfolding(crate::specs::Forms::request_forms, crate::specs::Names::names_of))]
+fn push_command_names<'a>(names: &mut Vec<&'a str>) -> Result<(), AllocError>
+    ensures { OnOk result (map (λ name. name.now) names.new.items
+        ≡ map (λ name. name.now) names.old.items ++ names_of request_forms) }
+{
+    push_names_of(names, &REQUESTS)
+}
+
+#[tactic(auto, unfolding(crate::specs::Forms::line_forms, crate::specs::Names::names_of))]
+fn push_keywords<'a>(names: &mut Vec<&'a str>) -> Result<(), AllocError>
+    ensures { OnOk result (map (λ name. name.now) names.new.items
+        ≡ map (λ name. name.now) names.old.items ++ names_of line_forms) }
+{
+    push_names_of(names, &LINES)
+}
+
+#[tactic(auto, unfolding(crate::specs::Names::binding_words))]
+fn push_words<'a>(names: &mut Vec<&'a str>) -> Result<(), AllocError>
+    ensures { OnOk result (map (λ name. name.now) names.new.items
+        ≡ map (λ name. name.now) names.old.items ++ binding_words) }
+{
+    push_each(names, &WORDS)
+}
+
+#[tactic(auto, unfolding(crate::specs::Names::part_words))]
+fn push_parts<'a>(names: &mut Vec<&'a str>) -> Result<(), AllocError>
+    ensures { OnOk result (map (λ name. name.now) names.new.items
+        ≡ map (λ name. name.now) names.old.items ++ part_words) }
+{
+    push_each(names, &PARTS)
+}
+
+fn push_each<'a>(names: &mut Vec<&'a str>, more: &'static [&'static str]) -> Result<(), AllocError>
+    ensures { OnOk result (map (λ name. name.now) names.new.items
+        ≡ map (λ name. name.now) names.old.items ++ map (λ name. name.now) more.now) }
+{
+    for name in more {
+        names.push(*name)?;
+    }
+    Ok(())
 }
 
 /// Appends the names of forms.
 fn push_names_of<'a>(
     names: &mut Vec<&'a str>,
     forms: &'static [(&'static str, &'static str)],
-) -> Result<(), AllocError> {
-    for (name, _) in forms {
-        names.push(*name)?;
+) -> Result<(), AllocError>
+    ensures { OnOk result (map (λ name. name.now) names.new.items
+        ≡ map (λ name. name.now) names.old.items ++ map (λ form. form.0.now) forms.now) }
+{
+    for form in forms {
+        names.push(form.0)?;
     }
     Ok(())
 }
