@@ -15,8 +15,9 @@ fn is_heard<L: Line>(alloc: Global, line: &mut L) -> bool {
     is_heard
 }
 
-/// Whether two of three calls over a journal for two entries are served, where the second keeps no
-/// call, and the line reports the full journal after the third and not before.
+/// Whether two of three calls over a journal for two entries are served, where the second is none of
+/// the line, and the line reports the full journal after the third and not before. The third call is
+/// counted, and not noted.
 fn fills(alloc: Global, recorded: &mut Recorded) -> Option<bool> {
     let (principal, host) = asker(alloc, "User:root")?;
     let mut line = RecordedLine::open(alloc, recorded, 7, principal, host);
@@ -27,11 +28,13 @@ fn fills(alloc: Global, recorded: &mut Recorded) -> Option<bool> {
     let before = line.calls.fault;
     let third = is_heard(alloc, &mut line);
     let after = line.calls.fault;
+    let unmade = line.unmade_calls();
     let calls = line.into_calls();
     let made = calls.len();
     drop(calls);
     let is_named = (before, after) == (None, Some(CallFault::JournalFull));
-    Some((first, is_served, third, made) == (true, true, false, 2) && is_named)
+    let is_counted = (made, unmade) == (1, 1);
+    Some((first, is_served, third) == (true, true, false) && is_counted && is_named)
 }
 
 fn fills_journal(alloc: Global) -> Option<bool> {
