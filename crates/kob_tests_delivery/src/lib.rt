@@ -14,6 +14,8 @@ mod connections;
 #[cfg(test)]
 mod copies;
 #[cfg(test)]
+mod elsewhere;
+#[cfg(test)]
 mod fleets;
 #[cfg(test)]
 mod gates;
