@@ -69,10 +69,9 @@ def is_value(text: str, start: int, end: int) -> bool:
         return False
     if re.search(r"<[^;{}()]*(\([^;{}()]*\))?[^;{}()]*,$", before) and re.match(r"(>|,)", after):
         return False
-    # The field of a variant, where the enum is declared: behind the variant's name, perhaps with an attribute.
-    # Elsewhere this is a value of a variant that was brought in by its own name.
-    of_variant = re.search(r"(^|[{,\]\n])\s*[A-Z]\w*\((#\[[^\]]*\]\s*)?$", before)
-    return not (of_variant and is_declared(before))
+    # A field, where an enum or a struct is declared. Elsewhere it is a value of a variant, perhaps of one that
+    # was brought in by its own name.
+    return not is_declared(before)
 
 
 def values(text: str) -> list[int]:

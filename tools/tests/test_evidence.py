@@ -45,6 +45,7 @@ PASSED = (
     "// Err(AllocError)",
     "pub(crate) struct Stopped {\n    name: u8,\n    refused: AllocError,\n}",
     "pub enum Report<'a> {\n    OutOfMemory { name: &'a str, refused: AllocError },\n}",
+    "pub enum Report<'a> {\n    /// Of a file.\n    OutOfMemory(&'a str, AllocError),\n}",
     "fn f(refused: AllocError, name: u8) -> Report {",
     "    let refused: AllocError = error.into();",
 )
