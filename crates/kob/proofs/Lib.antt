@@ -1,3 +1,4 @@
 pub mod Exported
 pub mod First
 pub mod Reading
+pub mod Lent

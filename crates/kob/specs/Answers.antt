@@ -1,20 +1,24 @@
 -- What is printed about lists, in each form.
-use Rattle.std.specs.Prelude.{ℕ, List, ◌++◌, codes}
+use Rattle.std.specs.Prelude.{ℕ, List, [], ◌∷◌, ◌++◌, codes, map, string_bytes}
 use Rattle.std.specs.Fmt.{decimal}
+use Rattle.std.specs.List.{flat_map}
 use Rattle.kob.specs.Ending.{ending_of_changes}
 use Rattle.kob.specs.declared.ending.Ending.{Ending}
 use Rattle.kob.specs.declared.policy_options.AnswerForm.{AnswerForm}
 use Rattle.kob.specs.declared.policy_options.AnswerForm.TheVariants as form
-use Rattle.kob_policy_rows.specs.Changes.{change_rows}
-use Rattle.kob_policy_rows.specs.Columns.{change_columns}
+use Rattle.kob.specs.declared.policy_options.Options.{Options}
+use Rattle.kob_policy_rows.specs.Changes.{change_rows, fault_row}
+use Rattle.kob_policy_rows.specs.Columns.{change_columns, fault_columns}
 use Rattle.kob_policy_rows.specs.Csv.{answers_csv, table_text}
-use Rattle.kob_policy_rows.specs.Json.{answers_json, lines_text}
+use Rattle.kob_policy_rows.specs.Json.{answers_json, files_line, lines_text}
 use Rattle.kob_policy_rows.specs.Logs.{log_line}
 use Rattle.kob_policy_text.specs.LogAnswers.{log_text}
 use Rattle.kob_policy_text.specs.Moved.{moved_text}
 use Rattle.kob_policy_text.specs.Policy.{Policy}
 use Rattle.kob_policy_text.specs.Review.{answers_text, changes_text}
 use Rattle.kob_policy_text.specs.declared.question.Query.{Query}
+use Rattle.kob_script.specs.Printed.{fault_text, kind_text}
+use Rattle.kob_script.specs.declared.fault.Fault.{Fault}
 
 abbrev pub answers_in : AnswerForm → Policy → List (List ℕ) → List Query → List ℕ
 answers_in form.Words policy topics queries = answers_text policy topics 1 queries
@@ -36,6 +40,35 @@ abbrev pub log_in : AnswerForm → Policy → ℕ → List ℕ → List ℕ → 
 log_in form.Words policy number file text = log_words policy number file text
 log_in form.Json policy number file text = log_line policy number file text
 log_in form.Csv policy number file text = log_words policy number file text
+
+-- the files of bindings; without one, standard input
+abbrev pub or_standard : List (List ℕ) → List (List ℕ)
+or_standard [] = codes "-" ∷ []
+or_standard (file ∷ files) = file ∷ files
+
+abbrev pub names_in : Options → List (List ℕ)
+names_in options = or_standard (map (λ file. string_bytes file) options.policy.items
+    ++ map (λ file. string_bytes file) options.before.items
+    ++ map (λ file. string_bytes file) options.after.items)
+
+abbrev pub name_text : List ℕ → List ℕ
+name_text name = codes " " ++ name
+
+abbrev pub names_text : List (List ℕ) → List ℕ
+names_text names = codes "==" ++ flat_map name_text names ++ codes "\n"
+
+-- the line above one of several parts
+abbrev pub heading_in : AnswerForm → List (List ℕ) → List ℕ
+heading_in form.Words names = names_text names
+heading_in form.Json names = files_line names
+heading_in form.Csv names = names_text names
+
+-- a fault of a text, which stands in place of all answers; a table has none
+abbrev pub fault_in : AnswerForm → List ℕ → Fault → List ℕ
+fault_in form.Words name fault = name ++ codes " " ++ fault_text fault
+fault_in form.Json name fault =
+    lines_text fault_columns (fault_row name fault.line (kind_text fault.kind) ∷ [])
+fault_in form.Csv name fault = []
 
 -- whether something changes
 abbrev pub ending_in : AnswerForm → Policy → Policy → Ending

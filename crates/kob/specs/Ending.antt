@@ -7,6 +7,8 @@ use Rattle.kob.specs.declared.input.InputFault.{InputFault}
 use Rattle.kob.specs.declared.input.InputFault.TheVariants as input
 use Rattle.kob.specs.declared.ending.Ending.{Ending}
 use Rattle.kob.specs.declared.ending.Ending.TheVariants.{Whole, Differs, Failed, OutOfMemory}
+use Rattle.kob.specs.declared.policy_lists.Stop.{Stop}
+use Rattle.kob.specs.declared.policy_lists.Stop.TheVariants as stop
 use Rattle.kob_scene_play.specs.declared.fault.PlayFault.{PlayFault}
 use Rattle.kob_scene_play.specs.declared.fault.PlayFault.TheVariants as play
 use Rattle.kob_scene_play.specs.declared.text.Ended.{Ended}
@@ -54,6 +56,12 @@ ending_of_play (Err fault) = ending_of_fault fault
 abbrev pub ending_of_list : ReadError → Ending
 ending_of_list (list.Memory refused) = OutOfMemory
 ending_of_list (list.Line line) = Failed
+
+-- a part of the questions of `policy`
+abbrev pub ending_of_part : Result Ending Stop → Ending
+ending_of_part (Ok ending) = ending
+ending_of_part (Err (stop.Ended ending)) = ending
+ending_of_part (Err (stop.Memory refused)) = OutOfMemory
 
 -- an answer that is not the one that was expected
 abbrev pub ending_of_answers : Bool → Ending

@@ -9,6 +9,7 @@ use Rattle.kob.specs.declared.options.ExportForm.{ExportForm}
 use Rattle.kob.specs.declared.options.ExportForm.TheVariants.{Commands, Connect, Table}
 use Rattle.kob.specs.declared.report.Report.{Report}
 use Rattle.kob.specs.declared.report.Report.TheVariants as report
+use Rattle.kob.specs.declared.report.FileReport.TheVariants as file
 use Rattle.kob_scene_text.specs.declared.scene.Scene.{Scene}
 use Rattle.kob_scene_text.specs.declared.scene.Sending.{Sending}
 use Rattle.kob_scene_text.specs.declared.scene.Sending.TheVariants.{Proved, RetriesNew, DeletesFirst, NotIdempotent, Separate, VisibleLate}
@@ -37,11 +38,11 @@ export_by (Table database) named scene = table_of database
 
 -- what is reported of a scene that is not exported
 abbrev pub refusal : Unexported → Bor (List ℕ) → Bor (List ℕ) → Report
-refusal why.Memory name service = report.OutOfMemory name
+refusal (why.Memory refused) name service = report.OutOfMemory name refused
 refusal why.TooMany name service = report.TooMany
-refusal why.NoService name service = report.NoService name
-refusal why.SeveralServices name service = report.SeveralServices name
-refusal why.UnknownService name service = report.UnknownService name service
+refusal why.NoService name service = report.File (file.NoService name)
+refusal why.SeveralServices name service = report.File (file.SeveralServices name)
+refusal why.UnknownService name service = report.File (file.UnknownService name service)
 
 -- whether the route of a service is exported
 abbrev pub is_exported : ExportForm → Option (List ℕ) → Service → Bool

@@ -8,8 +8,10 @@ pub mod Exporting
 pub mod Headings
 pub mod Input
 pub mod Lists
+pub mod Marks
 pub mod Options
 pub mod Pages
+pub mod Remarks
 pub mod Reports
 pub mod Stages
 pub mod Standing

@@ -1,7 +1,7 @@
 //! The export of a scene: its final state, the connector of one of its services, or a table.
 
 ghost use Rattle.std.specs.Option.{option_map};
-ghost use Rattle.std.specs.Prelude.{◌≡◌, ◌++◌, ◌↔◌, IsOk, OnErr, OnOk};
+ghost use Rattle.std.specs.Prelude.{◌≡◌, ◌++◌, OnOk};
 ghost use Rattle.kob.specs.Connect.{connector_text};
 ghost use Rattle.kob.specs.Exporting.{chosen, export_by, is_exported, refusal, service_named};
 ghost use Rattle.kob.specs.Exporting.{variant_words};
@@ -11,7 +11,7 @@ use crate::ending::Ending;
 use crate::export::export_scene;
 use crate::options::ExportForm;
 use crate::play::say_fault;
-use crate::report::{Report, tell, write};
+use crate::report::{FileReport, Report, tell, tell_file, write};
 use kob_broker::OpenFault;
 use kob_scene_text::{
     Scene, SceneError, SceneFault, Sending, Service, print_scene_fault, read_scene,
@@ -21,7 +21,7 @@ use std::alloc::{AllocError, Global};
 /// Why a scene is not exported.
 #[derive(Clone, Copy)]
 pub enum Unexported {
-    Memory,
+    Memory(AllocError),
     /// Its settings have more bindings than can be in force.
     TooMany,
     /// It has no service, or several where one has to be named, or none of that name.
@@ -41,7 +41,7 @@ pub fn export<R: AllocGlobal + Print + Eprint>(
     match read_scene(rt.alloc(), text) {
         Ok(scene) => export_read(rt, form, service, name, &scene),
         Err(SceneError::Fault(fault)) => export_fault(rt, name, text, fault),
-        Err(SceneError::Memory(_)) => tell(rt, Report::OutOfMemory(name)),
+        Err(SceneError::Memory(refused)) => tell(rt, Report::OutOfMemory(name, refused)),
     }
 }
 
@@ -70,10 +70,10 @@ fn export_fault<R: AllocGlobal + Print + Eprint>(
     fault: SceneFault,
 ) -> Ending {
     let mut out = Vec::new(rt.alloc());
-    if print_scene_fault(&mut out, fault).is_err() {
-        return tell(rt, Report::OutOfMemory(name));
+    match print_scene_fault(&mut out, fault) {
+        Ok(()) => say_fault(rt, name, text, fault).worse(write(rt, name, &out)),
+        Err(refused) => tell(rt, Report::OutOfMemory(name, refused)),
     }
-    say_fault(rt, name, text, fault).worse(write(rt, name, &out))
 }
 
 /// What is reported of a scene that is not exported.
@@ -81,11 +81,11 @@ fn refusal_of<'a>(why: Unexported, name: &'a str, service: &'a str) -> Report<'a
     ensures { result ≡ refusal why name.entry service.entry }
 {
     match why {
-        Unexported::Memory => Report::OutOfMemory(name),
+        Unexported::Memory(refused) => Report::OutOfMemory(name, refused),
         Unexported::TooMany => Report::TooMany,
-        Unexported::NoService => Report::NoService(name),
-        Unexported::SeveralServices => Report::SeveralServices(name),
-        Unexported::UnknownService => Report::UnknownService { name, service },
+        Unexported::NoService => Report::File(FileReport::NoService(name)),
+        Unexported::SeveralServices => Report::File(FileReport::SeveralServices(name)),
+        Unexported::UnknownService => Report::File(FileReport::UnknownService { name, service }),
     }
 }
 
@@ -103,22 +103,13 @@ fn push_export(
     match form {
         ExportForm::Commands => match export_scene(alloc, out, scene) {
             Ok(()) => Ok(()),
-            Err(OpenFault::Memory(_)) => Err(Unexported::Memory),
+            Err(OpenFault::Memory(refused)) => Err(Unexported::Memory(refused)),
             Err(OpenFault::TooMany) => Err(Unexported::TooMany),
         },
         ExportForm::Connect(database) => push_chosen(out, database, service, &scene.services),
-        ExportForm::Table(database) => {
-            or_memory(out.extend_from_slice(table_of(database).as_bytes()))
-        }
-    }
-}
-
-fn or_memory(done: Result<(), AllocError>) -> Result<(), Unexported>
-    ensures { IsOk result ↔ IsOk done }
-{
-    match done {
-        Ok(()) => Ok(()),
-        Err(_) => Err(Unexported::Memory),
+        ExportForm::Table(database) => out
+            .extend_from_slice(table_of(database).as_bytes())
+            .map_err(Unexported::Memory),
     }
 }
 
@@ -134,7 +125,7 @@ fn push_chosen(
         services.now) }
 {
     let place = chosen(named, services)?;
-    or_memory(push_connector(out, database, services, place))
+    push_connector(out, database, services, place).map_err(Unexported::Memory)
 }
 
 /// The place of the service of this name, or of the only one.
@@ -172,9 +163,9 @@ fn say_variants<R: Eprint>(
         if is_exported(form, named, service) {
             if let Some(words) = variant_words(service.sending) {
                 let service = service.name.as_str();
-                tell(
+                tell_file(
                     rt,
-                    Report::Variant {
+                    FileReport::Variant {
                         name,
                         service,
                         words,

@@ -10,6 +10,7 @@ mod exporting;
 mod help;
 mod input;
 mod logs;
+mod marks;
 mod options;
 mod play;
 mod policy;

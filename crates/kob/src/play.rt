@@ -3,12 +3,16 @@
 ghost use Rattle.std.specs.Prelude.{◌≡◌, ◌++◌, OnOk, map};
 ghost use Rattle.kob.specs.Ending.{ending_of_play};
 ghost use Rattle.kob.specs.Headings.{file_line, heading_text, word_at};
+ghost use Rattle.kob.specs.Remarks.{doubts_remark, quotes_remark, remarks_text};
+ghost use Rattle.kob_mistakes.specs.Quoted.{quoted_name};
+ghost use Rattle.kob_mistakes.specs.Records.{doubtful_state};
 
 use crate::ending::{Ending, ending_of_play};
 use crate::exporting::export;
 use crate::input::{Kind, text_of};
+use crate::marks::push_mistake;
 use crate::options::ExportForm;
-use crate::report::{self, Report, push_mistake, tell, tell_lines, write};
+use crate::report::{self, FileReport, Report, tell, tell_file, tell_lines, write};
 use crate::watched::Watched;
 use kob_mistakes::{
     Mistake, doubtful_state, mistake_in, push_doubtful, push_misused, push_quoted, quoted_name,
@@ -54,7 +58,7 @@ fn do_headed<R: AllocGlobal + Clock + Files + Input + Print + Eprint>(
         let mut out = Vec::new(rt.alloc());
         let heading = match push_heading(&mut out, work, file) {
             Ok(()) => write(rt, file, &out),
-            Err(_) => tell(rt, Report::OutOfMemory(file)),
+            Err(refused) => tell(rt, Report::OutOfMemory(file, refused)),
         };
         if heading != Ending::Whole {
             return heading;
@@ -131,7 +135,7 @@ fn report_play<R: AllocGlobal + Eprint>(
         Ok(Ended::Clean) => say_remarks(rt, name, text),
         Ok(Ended::Unmet(unmet)) => {
             let (count, line) = (unmet.count, unmet.line);
-            tell(rt, Report::Unmet { name, count, line });
+            tell_file(rt, FileReport::Unmet { name, count, line });
             say_remarks(rt, name, text);
         }
         Ok(Ended::Fault(fault)) => {
@@ -152,19 +156,32 @@ fn say_remarks<R: AllocGlobal + Eprint>(rt: &R, name: &str, text: &[u8]) {
     tell_lines(rt, made, &out);
 }
 
-fn push_remarks(
-    alloc: Global,
-    out: &mut Vec<u8>,
-    name: &str,
-    text: &[u8],
-) -> Result<(), AllocError> {
-    if let Some((line, word)) = quoted_name(alloc, text)? {
-        push_quoted(out, name, line, word)?;
+#[tactic(auto, using(kob_words::proofs::Appending::appending))]
+fn push_remarks(alloc: Global, out: &mut Vec<u8>, name: &str, text: &[u8]) -> Result<(), AllocError>
+    ensures { OnOk result (out.new.items ≡ out.old.items ++ remarks_text name.now text.now) }
+{
+    push_quotes(alloc, out, name, text)?;
+    push_doubts(alloc, out, name, text)
+}
+
+fn push_quotes(alloc: Global, out: &mut Vec<u8>, name: &str, text: &[u8]) -> Result<(), AllocError>
+    ensures { OnOk result (out.new.items
+        ≡ out.old.items ++ quotes_remark name.now (quoted_name text.now)) }
+{
+    match quoted_name(alloc, text)? {
+        Some((line, word)) => push_quoted(out, name, line, word),
+        None => Ok(()),
     }
-    if let Some((line, word)) = doubtful_state(alloc, text)? {
-        push_doubtful(out, name, line, word)?;
+}
+
+fn push_doubts(alloc: Global, out: &mut Vec<u8>, name: &str, text: &[u8]) -> Result<(), AllocError>
+    ensures { OnOk result (out.new.items
+        ≡ out.old.items ++ doubts_remark name.now (doubtful_state text.now)) }
+{
+    match doubtful_state(alloc, text)? {
+        Some((line, word)) => push_doubtful(out, name, line, word),
+        None => Ok(()),
     }
-    Ok(())
 }
 
 /// Says which line has a fault, which word of it is wrong, and what was expected.
@@ -205,7 +222,7 @@ fn push_fault<R: AllocGlobal + Eprint>(
             report::fault(rt, name, fault);
         }
     }
-    push_mistake(rt.alloc(), out, mistake)
+    push_mistake(out, mistake)
 }
 
 /// The word at a place; empty if there is none.

@@ -2,6 +2,7 @@
 //! from one to the other.
 
 ghost use Rattle.std.specs.Prelude.{◌≡◌};
+ghost use Rattle.kob.specs.Ending.{ending_of_part};
 ghost use Rattle.kob.specs.Options.{table_asked, tables_asked};
 
 use crate::ending::Ending;
@@ -43,9 +44,7 @@ fn answer_parts<R: AllocGlobal + Clock + Files + Input + Print + Eprint>(
     let mut ending = Ending::Whole;
     for part in parts {
         let ended = print_part(rt, stages, &mut out, part, parts.len() > 1);
-        ending = ending.worse(match ended {
-            Ok(ending) | Err(Stop(ending)) => reported(rt, ending),
-        });
+        ending = ending.worse(ending_of_part(rt, ended));
     }
     match io::writer(rt).write_all(&out) {
         Ok(()) => ending,
@@ -53,12 +52,12 @@ fn answer_parts<R: AllocGlobal + Clock + Files + Input + Print + Eprint>(
     }
 }
 
-fn reported(rt: &impl Eprint, ending: Ending) -> Ending
-    ensures { result ≡ ending }
+fn ending_of_part(rt: &impl Eprint, ended: Result<Ending, Stop>) -> Ending
+    ensures { result ≡ ending_of_part ended }
 {
-    match ending {
-        Ending::OutOfMemory => tell(rt, Report::OutOfMemory("policy")),
-        Ending::Whole | Ending::Differs | Ending::Failed => ending,
+    match ended {
+        Ok(ending) | Err(Stop::Ended(ending)) => ending,
+        Err(Stop::Memory(refused)) => tell(rt, Report::OutOfMemory("policy", refused)),
     }
 }
 
@@ -89,7 +88,7 @@ fn answer_part<R: AllocGlobal + Clock + Files + Input + Eprint>(
     options: &Options,
 ) -> Result<Ending, Stop> {
     if options.form == AnswerForm::Csv && !options.logs.is_empty() {
-        return Err(Stop(tell(rt, Report::NoTable("log"))));
+        return Err(Stop::Ended(tell(rt, Report::NoTable("log"))));
     }
     let mut questions = Questions::new(rt.alloc());
     let mut asked = Vec::new(rt.alloc());
@@ -130,9 +129,9 @@ fn unless_one_table<R: AllocGlobal + Eprint>(
                 .first()
                 .map_or(b"".as_slice(), |query| query.text.as_slice());
             let text = str::from_utf8(text).unwrap_or("the question");
-            Err(Stop(tell(rt, Report::NoTable(text))))
+            Err(Stop::Ended(tell(rt, Report::NoTable(text))))
         }
-        Tables::Several => Err(Stop(tell(rt, Report::SeveralTables))),
+        Tables::Several => Err(Stop::Ended(tell(rt, Report::SeveralTables))),
     }
 }
 
@@ -250,7 +249,7 @@ fn answer_about<R: AllocGlobal + Files + Input + Eprint>(
     judge: &Judge,
 ) -> Result<Ending, AllocError> {
     let ending = push_answers(rt.alloc(), options.form, out, judge, questions)?;
-    say_unmet(rt, judge, questions.asked(), asked);
+    say_unmet(rt, judge, questions.asked(), asked)?;
     Ok(ending.worse(answer_logs(rt, out, options, questions, judge)?))
 }
 

@@ -1,21 +1,23 @@
 //! What is printed about lists that are in force, in the form that is asked for.
 
-ghost use Rattle.std.specs.Prelude.{◌≡◌, ◌++◌, IfOk, OnOk};
-ghost use Rattle.kob.specs.Answers.{answers_in, changes_in, ending_in};
+ghost use Rattle.std.specs.Prelude.{◌≡◌, ◌++◌, ◌∷◌, [], IfOk, OnOk, codes, map, string_bytes};
+ghost use Rattle.std.specs.List.{flat_map};
+ghost use Rattle.kob.specs.Answers.{answers_in, changes_in, ending_in, fault_in, heading_in};
+ghost use Rattle.kob.specs.Answers.{name_text, names_in, names_text};
 ghost use Rattle.kob.specs.Ending.{ending_of_answers, ending_of_changes};
-ghost use Rattle.kob_policy_rows.specs.Changes.{change_rows};
-ghost use Rattle.kob_policy_rows.specs.Columns.{change_columns};
+ghost use Rattle.kob_policy_rows.specs.Changes.{change_rows, fault_row};
+ghost use Rattle.kob_policy_rows.specs.Columns.{change_columns, fault_columns};
 ghost use Rattle.kob_policy_rows.specs.Csv.{table_text};
 ghost use Rattle.kob_policy_rows.specs.Json.{lines_text};
 ghost use Rattle.kob_policy_text.specs.Access.{any_fails};
 ghost use Rattle.kob_policy_text.specs.Moved.{moved_text};
 ghost use Rattle.kob_policy_text.specs.Review.{changes_text};
+ghost use Rattle.kob_script.specs.Printed.{fault_text, kind_text};
 
 use crate::commands::push_commands;
 use crate::ending::Ending;
 use crate::policy_options::{AnswerForm, Options};
 use crate::report::{Report, tell, tell_lines};
-use bstr::ByteSlice;
 use kob_names::{Items, Text};
 use kob_policy_rows::{
     Cell, change_columns, change_rows, fault_columns, fault_row, omission_columns, omission_rows,
@@ -24,7 +26,7 @@ use kob_policy_rows::{
 use kob_policy_text::{
     Judge, Policy, Questions, any_fails, print_answers, print_changes, print_moved, print_omissions,
 };
-use kob_script::{Fault, print_fault};
+use kob_script::{Fault, FaultKind, print_fault};
 use std::alloc::{AllocError, Global};
 
 /// The names of the files of bindings: `==` and each of them, or an object of JSON.
@@ -32,34 +34,65 @@ pub(crate) fn push_heading(
     alloc: Global,
     out: &mut Vec<u8>,
     options: &Options,
-) -> Result<(), AllocError> {
-    if options.form == AnswerForm::Json {
-        return push_files(alloc, out, options);
+) -> Result<(), AllocError>
+    ensures { OnOk result (out.new.items
+        ≡ out.old.items ++ heading_in options.now.form (names_in options.now)) }
+{
+    let names = names_in(alloc, options)?;
+    match options.form {
+        AnswerForm::Json => print_json_files(alloc, out, &names),
+        AnswerForm::Words | AnswerForm::Csv => push_names(out, &names),
     }
-    out.extend_from_slice(b"==")?;
-    if options.policy.is_empty() && options.before.is_empty() {
-        out.extend_from_slice(b" -")?;
-    }
-    for files in [&options.policy, &options.before, &options.after] {
-        for file in files.as_slice() {
-            out.extend_from_slice(b" ")?;
-            out.extend_from_slice(file.as_bytes())?;
-        }
-    }
-    out.extend_from_slice(b"\n")
 }
 
-fn push_files(alloc: Global, out: &mut Vec<u8>, options: &Options) -> Result<(), AllocError> {
+/// The files of bindings; without one, standard input.
+fn names_in(alloc: Global, options: &Options) -> Result<Vec<Text>, AllocError>
+    ensures { IfOk result (λ names. names.items ≡ names_in options.now) }
+{
     let mut names = Vec::new(alloc);
-    for files in [&options.policy, &options.before, &options.after] {
-        for file in files.as_slice() {
-            names.push(Text::copied(alloc, file.as_str())?)?;
-        }
-    }
+    push_copies(alloc, &mut names, &options.policy)?;
+    push_copies(alloc, &mut names, &options.before)?;
+    push_copies(alloc, &mut names, &options.after)?;
     if names.is_empty() {
         names.push(Text::copied(alloc, "-")?)?;
     }
-    print_json_files(alloc, out, &names)
+    Ok(names)
+}
+
+fn push_copies(alloc: Global, names: &mut Vec<Text>, files: &[String]) -> Result<(), AllocError>
+    ensures { OnOk result (names.new.items
+        ≡ names.old.items ++ map (λ file. string_bytes file) files.now) }
+{
+    for file in files {
+        names.push(Text::copied(alloc, file.as_str())?)?;
+    }
+    Ok(())
+}
+
+#[tactic(auto, using(kob_words::proofs::Appending::appending))]
+fn push_names(out: &mut Vec<u8>, names: &[Text]) -> Result<(), AllocError>
+    ensures { OnOk result (out.new.items ≡ out.old.items ++ names_text names.now) }
+{
+    out.extend_from_slice(b"==")?;
+    push_each_name(out, names)?;
+    out.extend_from_slice(b"\n")
+}
+
+fn push_each_name(out: &mut Vec<u8>, names: &[Text]) -> Result<(), AllocError>
+    ensures { OnOk result (out.new.items ≡ out.old.items ++ flat_map name_text names.now) }
+{
+    for name in names {
+        push_name(out, name)?;
+    }
+    Ok(())
+}
+
+#[tactic(auto, using(kob_words::proofs::Appending::appending))]
+fn push_name(out: &mut Vec<u8>, name: &Text) -> Result<(), AllocError>
+    ensures { OnOk result (out.new.items ≡ out.old.items ++ name_text name.now) }
+{
+    out.extend_from_slice(b" ")?;
+    out.extend_from_slice(name.as_str().as_bytes())
 }
 
 /// A fault: `FILE fault line LINE KIND`, or an object of JSON. A table has none.
@@ -69,16 +102,24 @@ pub(crate) fn push_fault(
     out: &mut Vec<u8>,
     name: &str,
     fault: Fault,
-) -> Result<(), AllocError> {
+) -> Result<(), AllocError>
+    ensures { OnOk result (out.new.items ≡ out.old.items ++ fault_in form name.now fault) }
+{
     match form {
-        AnswerForm::Words => {
-            out.extend_from_slice(name.as_bytes())?;
-            out.extend_from_slice(b" ")?;
-            print_fault(out, fault)
-        }
+        AnswerForm::Words => push_fault_line(out, name, fault),
         AnswerForm::Json => push_fault_object(alloc, out, name, fault),
         AnswerForm::Csv => Ok(()),
     }
+}
+
+#[tactic(auto, using(kob_words::proofs::Appending::appending))]
+fn push_fault_line(out: &mut Vec<u8>, name: &str, fault: Fault) -> Result<(), AllocError>
+    ensures { OnOk result (out.new.items
+        ≡ out.old.items ++ (name.now ++ codes " " ++ fault_text fault)) }
+{
+    out.extend_from_slice(name.as_bytes())?;
+    out.extend_from_slice(b" ")?;
+    print_fault(out, fault)
 }
 
 fn push_fault_object(
@@ -86,19 +127,35 @@ fn push_fault_object(
     out: &mut Vec<u8>,
     name: &str,
     fault: Fault,
-) -> Result<(), AllocError> {
-    let mut text = Vec::new(alloc);
-    print_fault(&mut text, fault)?;
-    let kind = text
-        .as_slice()
-        .trim_end()
-        .rsplit_str(b" ")
-        .next()
-        .unwrap_or(b"");
-    let kind = str::from_utf8(kind).unwrap_or("");
+) -> Result<(), AllocError>
+    ensures { OnOk result (out.new.items ≡ out.old.items
+        ++ lines_text fault_columns (fault_row name.now fault.line (kind_text fault.kind) ∷ [])) }
+{
     let mut rows = Vec::new(alloc);
-    rows.push(fault_row(alloc, name, fault.line, kind)?)?;
+    rows.push(fault_row(alloc, name, fault.line, kind_name(fault.kind))?)?;
     print_json(alloc, out, fault_columns(), &rows)
+}
+
+/// The name of a kind, as a fault is printed.
+fn kind_name(kind: FaultKind) -> &'static str
+    ensures { result.now ≡ kind_text kind }
+{
+    match kind {
+        FaultKind::BadEscape => "BadEscape",
+        FaultKind::LateSetting => "LateSetting",
+        FaultKind::BadLine => "BadLine",
+        FaultKind::BadText => "BadText",
+        FaultKind::BadPrincipal => "BadPrincipal",
+        FaultKind::BadHost => "BadHost",
+        FaultKind::BadNumber => "BadNumber",
+        FaultKind::BadWord => "BadWord",
+        FaultKind::Usage => "Usage",
+        FaultKind::NoAction => "NoAction",
+        FaultKind::BadName => "BadName",
+        FaultKind::BadMix => "BadMix",
+        FaultKind::NoResource => "NoResource",
+        FaultKind::NoPrincipal => "NoPrincipal",
+    }
 }
 
 /// What is left out, each on a line. Beside a table it is said on standard error.

@@ -18,14 +18,22 @@ use kob_script::ScriptError;
 use std::alloc::AllocError;
 use std::rt::{Clock, Files};
 
-/// Why no more questions of a part are answered: how the part ends, which was reported unless it is
-/// out of memory.
+/// Why no more questions of a part are answered.
 #[derive(Clone, Copy)]
-pub(crate) struct Stop(pub(crate) Ending);
+pub(crate) enum Stop {
+    /// What was reported ends the part so.
+    Ended(Ending),
+    Memory(AllocError),
+}
 
 impl From<AllocError> for Stop {
-    fn from(_refused: AllocError) -> Stop {
-        Stop(Ending::OutOfMemory)
+    ghost use Rattle.std.specs.Prelude.{◌≡◌, alloc_error};
+    ghost use Rattle.kob.specs.declared.policy_lists.Stop.TheVariants.{Memory};
+
+    ghost from_gives = { λ _ stop. stop ≡ Memory alloc_error };
+
+    fn from(refused: AllocError) -> Stop {
+        Stop::Memory(refused)
     }
 }
 
@@ -36,7 +44,7 @@ pub(crate) fn list_of<R: AllocGlobal + Files + Input + Eprint>(
 ) -> Result<Vec<u8>, Stop> {
     match text_of(rt, Kind::List, file) {
         Ok(text) => Ok(text),
-        Err(fault) => Err(Stop(say_unread(rt, file, &fault))),
+        Err(fault) => Err(Stop::Ended(say_unread(rt, file, &fault))),
     }
 }
 
@@ -70,11 +78,11 @@ pub(crate) fn unless_fault<R: AllocGlobal + Eprint>(
 ) -> Result<(), Stop> {
     match read {
         Ok(()) => Ok(()),
-        Err(ScriptError::Memory(_)) => Err(Stop(Ending::OutOfMemory)),
+        Err(ScriptError::Memory(refused)) => Err(Stop::Memory(refused)),
         Err(ScriptError::Fault(fault)) => {
             out.clear();
             push_fault(rt.alloc(), form, out, source.name, fault)?;
-            Err(Stop(say_fault(rt, source, fault)))
+            Err(Stop::Ended(say_fault(rt, source, fault)))
         }
     }
 }
@@ -172,14 +180,14 @@ fn open_judge<R: AllocGlobal + Clock + Eprint>(
         tell(rt, Report::Skipped(policy.skipped().len()));
     }
     if !options.skip && !policy.omissions().is_empty() {
-        return Err(Stop(tell(rt, Report::LeftOut(policy.omissions().len()))));
+        return Err(Stop::Ended(tell(rt, Report::LeftOut(policy.omissions().len()))));
     }
     stages.tell(rt, Stage::Open(policy.bindings().len()));
     match Judge::open(rt.alloc(), policy) {
         Ok(judge) => Ok(judge),
-        Err(CreateFault::Memory(_)) => Err(Stop(Ending::OutOfMemory)),
+        Err(CreateFault::Memory(refused)) => Err(Stop::Memory(refused)),
         Err(CreateFault::TooMany | CreateFault::SerialsSpent) => {
-            Err(Stop(tell(rt, Report::TooMany)))
+            Err(Stop::Ended(tell(rt, Report::TooMany)))
         }
     }
 }

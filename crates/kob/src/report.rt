@@ -1,16 +1,13 @@
 //! What is reported on standard error: `kob: WHAT`, a line each, and how a report ends.
 
-ghost use Rattle.std.specs.Prelude.{◌≡◌, ◌≢◌, ◌++◌, IsErr, OnOk, codes, false};
+ghost use Rattle.std.specs.Prelude.{◌≡◌, ◌≢◌, IsErr, false};
 ghost use Rattle.kob.specs.Ending.{EndsRefused, EndsUnread, ending_of_fault};
-ghost use Rattle.kob.specs.Reports.{ending_of_report, note_text};
+ghost use Rattle.kob.specs.Reports.{ending_of_file, ending_of_report};
 
 use crate::ending::{Ending, ending_of_fault};
 use crate::input::InputFault;
-use bstr::ByteSlice;
-use kob_mistakes::Mistake;
 use kob_scene_play::PlayFault;
-use kob_words::push_bytes;
-use std::alloc::{AllocError, Global};
+use std::alloc::AllocError;
 use std::fmt;
 use std::io::{self, ErrorKind, Write};
 
@@ -36,9 +33,16 @@ pub enum Report<'a> {
     /// More bindings than can be in force.
     TooMany,
     /// Out of memory while something was done for a text.
-    OutOfMemory(&'a str),
+    OutOfMemory(&'a str, AllocError),
     /// A subject that has no page of help.
     NoHelp(&'a str),
+    /// On one file.
+    File(FileReport<'a>),
+}
+
+/// A line on standard error about one file.
+#[derive(Clone, Copy)]
+pub enum FileReport<'a> {
     /// A scene without a service, of which a connector is asked.
     NoService(&'a str),
     /// A scene with several services, of which the connector of one is asked.
@@ -101,21 +105,33 @@ impl fmt::Display for Report<'_> {
                 f.write_str("kob: topic: two files are expected: kob topic ROWS RECORDS")
             }
             Report::TooMany => f.write_str("kob: more than 100,000 different bindings"),
-            Report::OutOfMemory(name) => write!(f, "kob: {name}: out of memory"),
+            Report::OutOfMemory(name, _) => write!(f, "kob: {name}: out of memory"),
             Report::NoHelp(subject) => {
                 write!(f, "kob: no help on {subject}; kob help lists the subjects")
             }
-            Report::NoService(name) => write!(f, "kob: {name}: no service, so no connector"),
-            Report::SeveralServices(name) => {
+            Report::File(report) => report.fmt(f),
+        }
+    }
+}
+
+impl fmt::Display for FileReport<'_> {
+    ghost use Rattle.kob.specs.Reports.{file_text};
+
+    ghost output = { λ report. file_text report };
+
+    fn fmt<W: fmt::Write>(&self, f: &mut fmt::Formatter<W>) -> fmt::Result {
+        match self {
+            FileReport::NoService(name) => write!(f, "kob: {name}: no service, so no connector"),
+            FileReport::SeveralServices(name) => {
                 write!(
                     f,
                     "kob: {name}: several services; --service NAME exports the one of that name"
                 )
             }
-            Report::UnknownService { name, service } => {
+            FileReport::UnknownService { name, service } => {
                 write!(f, "kob: {name}: no service {service}")
             }
-            Report::Variant {
+            FileReport::Variant {
                 name,
                 service,
                 words,
@@ -125,13 +141,13 @@ impl fmt::Display for Report<'_> {
                     "kob: {name}: the variant of {service} is not exported: {words}"
                 )
             }
-            Report::Unmet { name, count, line } => {
+            FileReport::Unmet { name, count, line } => {
                 write!(
                     f,
                     "kob: {name}: expectations not met: {count}, the first in line {line}"
                 )
             }
-            Report::Unlike { name, line, form } => {
+            FileReport::Unlike { name, line, form } => {
                 write!(f, "kob: {name}: line {line}: expected {form}")
             }
         }
@@ -144,11 +160,19 @@ pub fn tell(rt: &impl Eprint, report: Report<'_>) -> Ending
 {
     let _ = eprintln!(rt; "{report}");
     match report {
-        Report::Skipped(_) | Report::OtherSettings | Report::Variant { .. } => Ending::Whole,
-        Report::Unmet { .. } => Ending::Differs,
-        Report::OutOfMemory(_) => Ending::OutOfMemory,
+        Report::Skipped(_) | Report::OtherSettings => Ending::Whole,
+        Report::File(FileReport::Variant { .. }) => Ending::Whole,
+        Report::File(FileReport::Unmet { .. }) => Ending::Differs,
+        Report::OutOfMemory(..) => Ending::OutOfMemory,
         _ => Ending::Failed,
     }
+}
+
+/// The same of a file.
+pub fn tell_file(rt: &impl Eprint, report: FileReport<'_>) -> Ending
+    ensures { result ≡ ending_of_file report.entry }
+{
+    tell(rt, Report::File(report))
 }
 
 /// A text that was not read.
@@ -214,71 +238,4 @@ pub fn tell_lines(rt: &impl Eprint, made: Result<(), AllocError>, text: &[u8]) -
         (Ok(()), Ok(text)) => eprint!(rt; "{text}").is_ok(),
         _ => false,
     }
-}
-
-/// The most bytes of a word that are shown.
-const SHOWN: usize = 200;
-
-/// The line of a mistake with a mark below the word that is wrong, and what was expected there.
-pub fn push_mistake(
-    alloc: Global,
-    out: &mut Vec<u8>,
-    mistake: &Mistake<'_>,
-) -> Result<(), AllocError> {
-    push_line(alloc, out, mistake)?;
-    push_note(out, "expected", mistake.form)?;
-    if let Some(name) = &mistake.nearest {
-        push_note(out, "nearest", name.as_str())?;
-    }
-    if let Some(hint) = mistake.hint {
-        push_note(out, "hint", hint)?;
-    }
-    Ok(())
-}
-
-#[tactic(auto, using(kob_words::proofs::Appending::appending))]
-fn push_note(out: &mut Vec<u8>, what: &str, text: &str) -> Result<(), AllocError>
-    ensures { OnOk result (out.new.items ≡ out.old.items ++ note_text what.now text.now) }
-{
-    out.extend_from_slice(b"  ")?;
-    out.extend_from_slice(what.as_bytes())?;
-    out.extend_from_slice(b": ")?;
-    out.extend_from_slice(text.as_bytes())?;
-    out.extend_from_slice(b"\n")
-}
-
-/// The bytes of a word as they stand in the line, blanks between quotes included; a byte that no
-/// terminal shows is written `%xx`.
-fn push_shown(out: &mut Vec<u8>, word: &[u8]) -> Result<(), AllocError> {
-    for byte in word {
-        if byte.is_ascii_graphic() || *byte == b' ' {
-            out.push(*byte)?;
-        } else {
-            push_bytes(out, &[*byte])?;
-        }
-    }
-    Ok(())
-}
-
-/// The words of the line, and carets below the one that is wrong.
-fn push_line(alloc: Global, out: &mut Vec<u8>, mistake: &Mistake<'_>) -> Result<(), AllocError> {
-    let mut below = Vec::new(alloc);
-    out.extend_from_slice(b" ")?;
-    below.extend_from_slice(b" ")?;
-    for (place, word) in mistake.words.iter().enumerate() {
-        out.extend_from_slice(b" ")?;
-        below.extend_from_slice(b" ")?;
-        let before = out.len();
-        push_shown(out, word.get(..SHOWN).unwrap_or(word))?;
-        let mark = if place == mistake.place { b'^' } else { b' ' };
-        for _ in before..out.len() {
-            below.push(mark)?;
-        }
-    }
-    if mistake.place >= mistake.words.len() {
-        below.extend_from_slice(b" ^")?;
-    }
-    out.extend_from_slice(b"\n")?;
-    out.extend_from_slice(below.as_slice().trim_end())?;
-    out.extend_from_slice(b"\n")
 }

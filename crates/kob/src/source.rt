@@ -4,7 +4,8 @@ ghost use Rattle.std.specs.Prelude.{◌≡◌};
 ghost use Rattle.kob_mistakes.specs.declared.question.Lines.TheVariants.{Questions};
 
 use crate::ending::Ending;
-use crate::report::{self, push_mistake, tell_lines};
+use crate::marks::push_mistake;
+use crate::report::{self, tell_lines};
 use kob_mistakes::{Lines, line_mistake};
 use kob_policy_text::plain_text;
 use kob_script::Fault;
@@ -51,7 +52,7 @@ fn say_mistake<R: AllocGlobal + Eprint>(
 ) -> Result<(), AllocError> {
     let mistake = line_mistake(rt.alloc(), text, fault.line, fault.kind, lines)?;
     let mut out = Vec::new(rt.alloc());
-    let made = push_mistake(rt.alloc(), &mut out, &mistake);
+    let made = push_mistake(&mut out, &mistake);
     tell_lines(rt, made, &out);
     Ok(())
 }

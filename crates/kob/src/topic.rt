@@ -6,7 +6,7 @@ ghost use Rattle.kob_topic_check.specs.Findings.{counts_text, findings_text};
 
 use crate::ending::Ending;
 use crate::input::{Kind, text_of};
-use crate::report::{self, Report, tell};
+use crate::report::{self, FileReport, Report, tell, tell_file};
 use kob_topic_check::{
     ReadError, Record, Row, print_counts, print_findings, read_records, read_rows,
 };
@@ -74,8 +74,8 @@ fn fault_of(rt: &impl Eprint, name: &str, error: ReadError, form: &str) -> Endin
     ensures { result ≡ ending_of_list error }
 {
     match error {
-        ReadError::Memory(_) => tell(rt, Report::OutOfMemory(name)),
-        ReadError::Line(line) => tell(rt, Report::Unlike { name, line, form }),
+        ReadError::Memory(refused) => tell(rt, Report::OutOfMemory(name, refused)),
+        ReadError::Line(line) => tell_file(rt, FileReport::Unlike { name, line, form }),
     }
 }
 
@@ -89,7 +89,7 @@ fn print_with<R: AllocGlobal + Files + Input + Print + Eprint>(
     let mut out = Vec::new(rt.alloc());
     let ending = match push_report(rt.alloc(), &mut out, rows, &records) {
         Ok(ending) => ending,
-        Err(_) => return Err(tell(rt, Report::OutOfMemory(name))),
+        Err(refused) => return Err(tell(rt, Report::OutOfMemory(name, refused))),
     };
     match io::writer(rt).write_all(&out) {
         Ok(()) => Ok(ending),

@@ -1,10 +1,11 @@
 //! The answers about a list that are not as they were expected to be.
 
-ghost use Rattle.std.specs.Prelude.{◌≡◌, filter, find, length};
+ghost use Rattle.std.specs.Prelude.{◌≡◌, IfOk, filter, find, length, map};
 ghost use Rattle.std.specs.Option.{option_copied};
-ghost use Rattle.kob.specs.Unmet.{is_unmet};
+ghost use Rattle.kob.specs.Unmet.{has_question, is_unmet, line_among, question_line};
+ghost use Rattle.kob_script.specs.Script.{lines_in};
 
-use crate::report::{Report, tell};
+use crate::report::{FileReport, tell_file};
 use bstr::ByteSlice;
 use kob_names::Text;
 use kob_policy_text::{Judge, Query, Question, is_allowed};
@@ -19,8 +20,6 @@ pub(crate) struct Asked {
 }
 
 impl Asked {
-    ghost use Rattle.std.specs.Prelude.{◌≡◌, IfOk};
-
     pub(crate) fn new(
         alloc: Global,
         name: &str,
@@ -43,22 +42,28 @@ impl Asked {
 
 /// Says of each text how many of its questions are not answered as expected, and the line of the
 /// first.
-pub(crate) fn say_unmet<R: Eprint>(rt: &R, judge: &Judge, queries: &[Query], asked: &[Asked]) {
+pub(crate) fn say_unmet<R: AllocGlobal + Eprint>(
+    rt: &R,
+    judge: &Judge,
+    queries: &[Query],
+    asked: &[Asked],
+) -> Result<(), AllocError> {
     let mut from = 0;
     for text in asked {
         let own = queries.get(from..text.until).unwrap_or(&[]);
         if let Some(first) = first_unmet(judge, own) {
-            tell(
+            tell_file(
                 rt,
-                Report::Unmet {
+                FileReport::Unmet {
                     name: text.name.as_str(),
                     count: unmet_count(judge, own) as u64,
-                    line: question_line(&text.text, first.text.as_slice()),
+                    line: question_line(rt.alloc(), &text.text, first.text.as_slice())?,
                 },
             );
         }
         from = text.until;
     }
+    Ok(())
 }
 
 fn first_unmet<'q>(judge: &Judge, queries: &'q [Query]) -> Option<&'q Query>
@@ -87,13 +92,36 @@ fn is_unmet(judge: &Judge, query: &Query) -> bool
 }
 
 /// The line of the text that has this question, the first of several; 0 if there is none.
-fn question_line(text: &[u8], question: &[u8]) -> u64 {
-    let mut number: u64 = 0;
-    for line in text.lines() {
-        number = number.saturating_add(1);
-        if line.trim() == question {
+fn question_line(alloc: Global, text: &[u8], question: &[u8]) -> Result<u64, AllocError>
+    ensures { IfOk result (λ line. line ≡ question_line text.now question.now) }
+{
+    let lines = lines_of(alloc, text)?;
+    Ok(line_among(&lines, question))
+}
+
+fn lines_of(alloc: Global, text: &[u8]) -> Result<Vec<&[u8]>, AllocError>
+    ensures { IfOk result (λ lines. map (λ line. line.now) lines.items ≡ lines_in text.now) }
+{
+    text.lines().collect(alloc)
+}
+
+#[tactic(auto, using(kob_mistakes::proofs::Walking::goes_on, kob_mistakes::proofs::Walking::stops, kob_mistakes::proofs::Walking::ends))]
+fn line_among(lines: &[&[u8]], question: &[u8]) -> u64
+    ensures { result ≡ line_among (map (λ line. line.now) lines.now) question.now }
+{
+    let mut number: u64 = 1;
+    for line in lines {
+        if has_question(line, question) {
             return number;
         }
+        number += 1;
     }
     0
+}
+
+#[tactic(auto, unfolding(kob_policy_text::specs::Listing::trimmed))]
+fn has_question(line: &[u8], question: &[u8]) -> bool
+    ensures { result ≡ has_question question.now line.now }
+{
+    line.trim() == question
 }
