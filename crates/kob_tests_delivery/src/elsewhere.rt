@@ -215,7 +215,10 @@ fn are_judged(
     let all = judged(alloc, entries, sent?, taken?)?;
     let (_, before) = entries.split_last()?;
     let lacking = judged(alloc, before, sent?, taken?)?;
-    let refused = matches!(lacking, Err(JudgeFault::Delivery(DeliveryFault::Consumer)));
+    let refused = matches!(
+        lacking,
+        Err(JudgeFault::Delivery(DeliveryFault::Consumer(_)))
+    );
     Some(all.is_ok() && refused)
 }
 
