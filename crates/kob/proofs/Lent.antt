@@ -1,6 +1,6 @@
 -- Words of a line that are lent, before a place and from it on.
 use Rattle.std.proofs.Common.{List, [], ap, drop, drop_of_length-le, length, map, sym, take, ℕ, ◌∙◌, ◌≡◌, ◌≤◌}
-use Rattle.std.proofs.lemmas.List.{drop-map, length-map, take-map, take_all}
+use Rattle.std.proofs.lemmas.List.{drop-map, take-map, take_all}
 
 pub whole : (word : List ℕ) (most : ℕ) → length word ≤ most → word ≡ take most word
 whole word most less = sym (take_all most word less)
