@@ -2,7 +2,6 @@ pub mod Answers
 pub mod Commands
 pub mod Connect
 pub mod Ending
-pub mod Expected
 pub mod Export
 pub mod Exporting
 pub mod Headings
