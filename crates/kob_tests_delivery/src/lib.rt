@@ -56,6 +56,8 @@ mod rules;
 #[cfg(test)]
 mod sessions;
 #[cfg(test)]
+mod sharing;
+#[cfg(test)]
 mod spared;
 #[cfg(test)]
 mod spared_sessions;

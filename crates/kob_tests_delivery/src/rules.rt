@@ -1,15 +1,21 @@
 //! The premises of the access laws, decided for a journal whose entries are written out.
 
+ghost use Rattle.std.specs.Prelude.{IfSome, IsTrue};
+ghost use Rattle.kob_delivery.specs.View.{IsReserved};
+ghost use Rattle.kob_names.specs.declared.kinds.Operation.TheVariants.{Write};
+ghost use Rattle.kob_names.specs.declared.kinds.ResourceKind.TheVariants.{Topic};
+
 use crate::making::{event_of, recorded};
 use crate::revoked::write_allowed;
 use kob_broker::Settings;
 use kob_delivery::{
-    RuleFault, first_other_actor, first_super_producer, first_unreserved, is_reserved,
-    only_committer_by_rules, only_producer_by_rules,
+    RuleFault, a_reservation_lasts, first_opener, first_other_actor, first_super_producer,
+    first_unreserved, is_reserved, only_committer_by_rules, only_committer_in_turn,
+    only_producer_by_rules, only_producer_in_turn, opener_in_turn,
 };
-use kob_names::{Items, Operation, Principal, ResourceKind, Text};
+use kob_names::{Items, Operation, PlainValue, Principal, ResourceKind, Text};
 use kob_script::read_script;
-use kob_shared::{Journal, Recorded};
+use kob_shared::{Entry, Journal, Recorded};
 use std::alloc::Global;
 
 /// The entries, each with its worker. No binding is in force from entry 4 on, and from entry 5 on
@@ -111,14 +117,93 @@ fn rules_hold(alloc: Global, journal: &Journal, settings: &Settings) -> Option<b
     )
 }
 
+/// Whether the topic is reserved for the principal, by what is in force at first and by what the
+/// entries open.
+fn stays_reserved(
+    alloc: Global,
+    settings: &Settings,
+    journal: &Journal,
+    service: &Principal,
+    topic: &Text,
+) -> Option<bool>
+    ensures { IfSome result (λ stays. IsTrue stays
+        → IsReserved settings.now journal.now service.now Write Topic topic.now) }
+{
+    let (write, kind) = (Operation::Write, ResourceKind::Topic);
+    let at_first = is_reserved(alloc, settings, service, write, kind, topic).ok()?;
+    let opener = first_opener(journal, service, write, kind, topic, settings.everyone);
+    a_reservation_lasts();
+    match opener {
+        None => Some(at_first),
+        Some(_) => Some(false),
+    }
+}
+
+/// The topic `x` stays reserved. The topic `t` does not from entry 4 on; if a name without bindings
+/// is everyone's, it does not from entry 3 on.
+fn reservations_last(alloc: Global, journal: &Journal, settings: &Settings) -> Option<bool> {
+    let service = Principal::parse(alloc, "User:svc").ok()?;
+    let apart = Text::copied(alloc, "x").ok()?;
+    let stays = stays_reserved(alloc, settings, journal, &service, &apart);
+    let topic = Text::copied(alloc, "t").ok()?;
+    let opened = stays_reserved(alloc, settings, journal, &service, &topic);
+    let (write, kind) = (Operation::Write, ResourceKind::Topic);
+    let closed = opener_in_turn(&[journal], &service, write, kind, &topic, false).ok()?;
+    let open = opener_in_turn(&[journal], &service, write, kind, &topic, true).ok()?;
+    Some((stays, opened, closed, open) == (Some(true), Some(false), Some(4), Some(3)))
+}
+
+/// A journal of copies of entries of another.
+fn part(alloc: Global, journal: &Journal, from: usize, to: usize) -> Option<Journal> {
+    let mut entries = Vec::new(alloc);
+    for place in from..to {
+        let entry: Entry = journal.get(place)?.copy(alloc).ok()?;
+        entries.push(entry).ok()?;
+    }
+    let made = Journal::from_entries(alloc, &entries).ok();
+    drop(entries);
+    made
+}
+
+/// The same of two journals in turn, of which the first ends before entry 5.
+fn rules_hold_in_turn(alloc: Global, journals: &[&Journal], settings: &Settings) -> Option<bool> {
+    let nobody = Principal::parse(alloc, "User:nobody").ok()?;
+    let topic = Text::copied(alloc, "tx").ok()?;
+    let left = only_producer_in_turn(alloc, settings, journals, 9, &nobody, &topic);
+    let service = Principal::parse(alloc, "User:svc").ok()?;
+    let other = only_producer_in_turn(alloc, settings, journals, 1, &service, &topic);
+    let group = Text::copied(alloc, "g").ok()?;
+    let t = Text::copied(alloc, "t").ok()?;
+    let commits = only_committer_in_turn(alloc, settings, journals, 9, &nobody, &group, &t);
+    Some(
+        matches!(left, Err(RuleFault::NotReserved(5)))
+            && matches!(other, Err(RuleFault::OtherActor(5)))
+            && matches!(commits, Err(RuleFault::SuperUser(7))),
+    )
+}
+
+fn in_turn(alloc: Global, journal: &Journal, settings: &Settings) -> Option<bool> {
+    let head = part(alloc, journal, 0, 5)?;
+    let Some(tail) = part(alloc, journal, 5, 8) else {
+        drop(head);
+        return None;
+    };
+    let held = rules_hold_in_turn(alloc, &[&head, &tail], settings);
+    drop(head);
+    drop(tail);
+    held
+}
+
 fn holds(alloc: Global) -> Option<bool> {
     let mut recorded = recorded(alloc, 8)?;
     let served = serve_all(alloc, &mut recorded);
     let premises = premises_hold(alloc, recorded.journal(), recorded.opening());
     let rules = rules_hold(alloc, recorded.journal(), recorded.opening());
+    let last = reservations_last(alloc, recorded.journal(), recorded.opening());
+    let in_turn = in_turn(alloc, recorded.journal(), recorded.opening());
     drop(recorded);
     served?;
-    Some(premises? && rules?)
+    Some(premises? && rules? && last? && in_turn?)
 }
 
 #[test]
