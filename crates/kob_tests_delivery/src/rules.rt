@@ -110,8 +110,10 @@ fn rules_hold(alloc: Global, journal: &Journal, settings: &Settings) -> Option<b
     let group = Text::copied(alloc, "g").ok()?;
     let t = Text::copied(alloc, "t").ok()?;
     let commits = only_committer_by_rules(alloc, settings, journal, 9, &nobody, &group, &t);
+    let free = only_committer_by_rules(alloc, settings, journal, 9, &nobody, &group, &topic);
     Some(
         owned.is_ok()
+            && free.is_ok()
             && matches!(left, Err(RuleFault::NotReserved(5)))
             && matches!(commits, Err(RuleFault::SuperUser(7))),
     )
@@ -139,18 +141,14 @@ fn stays_reserved(
     }
 }
 
-/// The topic `x` stays reserved. The topic `t` does not from entry 4 on; if a name without bindings
-/// is everyone's, it does not from entry 3 on.
+/// The topic `x` stays reserved, and the topic `t` does not.
 fn reservations_last(alloc: Global, journal: &Journal, settings: &Settings) -> Option<bool> {
     let service = Principal::parse(alloc, "User:svc").ok()?;
     let apart = Text::copied(alloc, "x").ok()?;
     let stays = stays_reserved(alloc, settings, journal, &service, &apart);
     let topic = Text::copied(alloc, "t").ok()?;
     let opened = stays_reserved(alloc, settings, journal, &service, &topic);
-    let (write, kind) = (Operation::Write, ResourceKind::Topic);
-    let closed = opener_in_turn(&[journal], &service, write, kind, &topic, false).ok()?;
-    let open = opener_in_turn(&[journal], &service, write, kind, &topic, true).ok()?;
-    Some((stays, opened, closed, open) == (Some(true), Some(false), Some(4), Some(3)))
+    Some((stays, opened) == (Some(true), Some(false)))
 }
 
 /// A journal of copies of entries of another.
@@ -165,8 +163,21 @@ fn part(alloc: Global, journal: &Journal, from: usize, to: usize) -> Option<Jour
     made
 }
 
-/// The same of two journals in turn, of which the first ends before entry 5.
-fn rules_hold_in_turn(alloc: Global, journals: &[&Journal], settings: &Settings) -> Option<bool> {
+/// Entry 4 opens the topic `t`; if a name without bindings is everyone's, entry 3 does. None opens
+/// the topic `x`.
+fn openers_in_turn(alloc: Global, journals: &[&Journal]) -> Option<bool> {
+    let service = Principal::parse(alloc, "User:svc").ok()?;
+    let (write, kind) = (Operation::Write, ResourceKind::Topic);
+    let topic = Text::copied(alloc, "t").ok()?;
+    let apart = Text::copied(alloc, "x").ok()?;
+    let closed = opener_in_turn(journals, &service, write, kind, &topic, false);
+    let open = opener_in_turn(journals, &service, write, kind, &topic, true);
+    let none = opener_in_turn(journals, &service, write, kind, &apart, false);
+    Some((closed, open, none) == (Ok(Some(4)), Ok(Some(3)), Ok(None)))
+}
+
+/// What breaks the rules of journals in turn.
+fn are_refused_in_turn(alloc: Global, journals: &[&Journal], settings: &Settings) -> Option<bool> {
     let nobody = Principal::parse(alloc, "User:nobody").ok()?;
     let topic = Text::copied(alloc, "tx").ok()?;
     let left = only_producer_in_turn(alloc, settings, journals, 9, &nobody, &topic);
@@ -182,13 +193,31 @@ fn rules_hold_in_turn(alloc: Global, journals: &[&Journal], settings: &Settings)
     )
 }
 
+/// They hold of the principal that may write, and of a topic on which nobody commits.
+fn hold_in_turn(alloc: Global, journals: &[&Journal], settings: &Settings) -> Option<bool> {
+    let topic = Text::copied(alloc, "tx").ok()?;
+    let other = Principal::parse(alloc, "User:other").ok()?;
+    let group = Text::copied(alloc, "g").ok()?;
+    let owned = only_producer_in_turn(alloc, settings, journals, 9, &other, &topic);
+    let free = only_committer_in_turn(alloc, settings, journals, 9, &other, &group, &topic);
+    Some(owned.is_ok() && free.is_ok())
+}
+
+fn decided_in_turn(alloc: Global, journals: &[&Journal], settings: &Settings) -> Option<bool> {
+    let opened = openers_in_turn(alloc, journals)?;
+    let refused = are_refused_in_turn(alloc, journals, settings)?;
+    let held = hold_in_turn(alloc, journals, settings)?;
+    Some(opened && refused && held)
+}
+
+/// The journal in two parts, of which the first ends before entry 4.
 fn in_turn(alloc: Global, journal: &Journal, settings: &Settings) -> Option<bool> {
-    let head = part(alloc, journal, 0, 5)?;
-    let Some(tail) = part(alloc, journal, 5, 8) else {
+    let head = part(alloc, journal, 0, 4)?;
+    let Some(tail) = part(alloc, journal, 4, 8) else {
         drop(head);
         return None;
     };
-    let held = rules_hold_in_turn(alloc, &[&head, &tail], settings);
+    let held = decided_in_turn(alloc, &[&head, &tail], settings);
     drop(head);
     drop(tail);
     held
