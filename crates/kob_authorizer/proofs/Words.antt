@@ -1,7 +1,8 @@
 -- The names that the lemmas cite, passed on from one place.
 pub use Rattle.kob_authorizer.specs.Decide.{question_view, decide, decide_by_bindings, first_serial, hits, is_hit, is_match, is_super, is_unmatched, unless_open, verdict_of, Question, question_of, IsEarliest, IsTrueVerdict, Matches, NoneHits, NoneMatches, SomeMatches, Contents, IsRising, State}
 pub use Rattle.kob_authorizer.specs.Creation.{creation, is_among, is_in_force, is_known, new_bindings, serials_in, with_new, Added, AreDistinct, AreInForce, Creates, OnlyAdds, add_one, created, serial_of, with_binding, binding_limit, create_fault, limit_fault, bindings_of}
-pub use Rattle.kob_authorizer.specs.Index.{bindings_left, bindings_taken, lesser, lesser_hits, no_hits, ArePatternsOf, Indexes, empty_index, entries_on, leaf_of, no_patterns, patterns_of, tree_of, with_entry, with_leaf, with_tree, IsIndex, Place, addition, is_place, key_place, kind_in_tree, pattern_place, same_kind, serials_at, with_addition, without_addition, AreRising, behind, entry_at, is_equal, keys_on, least_hits, least_passing, matching_serials, passes_at, serials_for, serials_from, Removal, begins_with, is_first_there, removal_of, removals_of, serials_beside, with_removal, without_removal}
+pub use Rattle.kob_authorizer.specs.Deletion.{bindings_left, bindings_taken}
+pub use Rattle.kob_authorizer.specs.Index.{lesser, lesser_hits, no_hits, ArePatternsOf, Indexes, empty_index, entries_on, leaf_of, no_patterns, patterns_of, tree_of, with_entry, with_leaf, with_tree, IsIndex, Place, addition, is_place, key_place, kind_in_tree, pattern_place, same_kind, serials_at, with_addition, without_addition, AreRising, behind, entry_at, is_equal, keys_on, least_hits, least_passing, matching_serials, passes_at, serials_for, serials_from, Removal, begins_with, is_first_there, removal_of, removals_of, serials_beside, with_removal, without_removal}
 pub use Rattle.kob_authorizer.specs.SuperUsers.{holds_text, texts_of, with_text}
 pub use Rattle.kob_authorizer.specs.declared.hits.Hits.{Hits}
 pub use Rattle.kob_authorizer.specs.declared.index.Index.{Index}

@@ -1,5 +1,5 @@
 -- The trees beside the list of bindings, and what is found by the serials in them.
-use Rattle.std.specs.Prelude.{List, ◌∷◌, ◌++◌, ℕ, ◌≡◌, Bool, true, false, ◌&&◌, map, Option, None, Some, min, ◌==◌, codes, if◌then◌else◌, [], not}
+use Rattle.std.specs.Prelude.{List, ◌∷◌, ◌++◌, ℕ, ◌≡◌, Bool, true, false, ◌&&◌, map, Option, None, Some, min, ◌==◌, codes, if◌then◌else◌, []}
 use Rattle.kob_names.specs.Binding.{Binding, same_binding}
 use Rattle.kob_names.specs.declared.kinds.ResourceKind.{ResourceKind}
 use Rattle.kob_names.specs.declared.kinds.ResourceKind.TheVariants.{Topic, Group, Cluster, TransactionalId}
@@ -16,8 +16,7 @@ use Rattle.kob_authorizer.specs.declared.index.Index.{Index}
 use Rattle.kob_authorizer.specs.declared.index.Leaf.{Leaf}
 use Rattle.kob_authorizer.specs.declared.patterns.Patterns.{Patterns}
 use Rattle.kob_authorizer.specs.declared.hits.Hits.{Hits}
-use Rattle.kob_authorizer.specs.Decide.{IsRising, Contents, State, is_hit, Question}
-use Rattle.kob_names.specs.Filter.{takes}
+use Rattle.kob_authorizer.specs.Decide.{IsRising, is_hit, Question}
 use Rattle.kob_prefix_tree.specs.declared.kind.PatternKind as of_tree
 use Rattle.kob_prefix_tree.specs.declared.kind.PatternKind.TheVariants as in_tree
 use Rattle.std.specs.FinMap as finite
@@ -279,25 +278,6 @@ without_removal patterns removal =
     with_tree patterns removal.resource (removed_all (tree_of patterns removal.resource)
     removal.pattern.name (kind_in_tree removal.pattern.kind) removal.serials)
 
--- What deleting bindings does to the list in force.
-
--- the filter of a deletion, and what it takes
-pub record Deletion : Type 0 where
-  pub filter : BindingFilter
-  pub taken : List (ℕ × Binding)
-
--- the entries that a filter takes
-abbrev pub bindings_taken : BindingFilter → List (ℕ × Binding) → List (ℕ × Binding)
-bindings_taken wanted entries = filter (λ (entry : ℕ × Binding). takes wanted entry.1) entries
-
--- the entries without those that a filter takes
-abbrev pub bindings_left : BindingFilter → List (ℕ × Binding) → List (ℕ × Binding)
-bindings_left wanted entries = filter (λ (entry : ℕ × Binding). not (takes wanted entry.1)) entries
-
--- the contents without what a filter takes
-abbrev pub without_taken : BindingFilter → Contents → Contents
-without_taken wanted contents = record contents { entries = bindings_left wanted contents.entries }
-
 -- the serials at the pattern that a filter names, where it names one on one kind of resource
 abbrev pub listed_at : Patterns → FilterPattern → Option ResourceKind → Option (List ℕ) → Option (List ℕ)
 listed_at patterns named.Literal (Some resource) (Some name) =
@@ -308,7 +288,3 @@ listed_at patterns pattern resource name = None
 
 abbrev pub listed_by : Patterns → BindingFilter → Option (List ℕ)
 listed_by patterns wanted = listed_at patterns wanted.pattern wanted.resource wanted.name
-
--- the deletion can be carried out: what it takes is what its filter takes of the entries in force
-abbrev pub CanDelete : Deletion → State → Type 0
-CanDelete made state = made.taken ≡ bindings_taken made.filter state.contents.entries

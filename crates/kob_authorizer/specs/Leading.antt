@@ -3,7 +3,8 @@ use Rattle.std.specs.Prelude.{List, [], ◌∷◌, ℕ, ◌≡◌, ◌+◌, ◌�
 use Rattle.std.specs.List.{filter_map}
 use Rattle.kob_names.specs.Binding.{Binding}
 use Rattle.kob_names.specs.declared.filter.BindingFilter.{BindingFilter}
-use Rattle.kob_authorizer.specs.Index.{ArePatternsOf, AreRising, bindings_taken, entry_at}
+use Rattle.kob_authorizer.specs.Deletion.{bindings_taken}
+use Rattle.kob_authorizer.specs.Index.{ArePatternsOf, AreRising, entry_at}
 use Rattle.kob_authorizer.specs.declared.patterns.Patterns.{Patterns}
 
 -- each serial is greater than the one before it

@@ -1,5 +1,6 @@
 pub mod Creation
 pub mod Decide
+pub mod Deletion
 pub mod Index
 pub mod Leading
 pub mod Listed

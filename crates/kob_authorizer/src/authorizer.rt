@@ -5,8 +5,8 @@ ghost use Rattle.std.specs.Prelude.{alloc_error};
 ghost use Rattle.kob_authorizer.specs.Decide.{IsRising, fresh_contents};
 ghost use Rattle.kob_authorizer.specs.Creation.{CanCreate, Creates, addition, with_creation};
 ghost use Rattle.kob_authorizer.specs.Decide.{decide, question_of, IsTrueVerdict};
-ghost use Rattle.kob_authorizer.specs.Index.{CanDelete, bindings_left, bindings_taken};
-ghost use Rattle.kob_authorizer.specs.Index.{without_taken};
+ghost use Rattle.kob_authorizer.specs.Deletion.{CanDelete, bindings_left, bindings_taken};
+ghost use Rattle.kob_authorizer.specs.Deletion.{without_taken};
 ghost use Rattle.kob_authorizer.specs.Creation.{binding_limit, create_fault};
 
 use crate::creation::PreparedCreate;

@@ -2,7 +2,7 @@
 
 ghost use Rattle.std.specs.Prelude.{◌≡◌, ◌*◌, ◌≤◌, ◌++◌, ◌∷◌, [], IfOk, OnOk, length, map};
 ghost use Rattle.std.specs.List.{filter_map};
-ghost use Rattle.kob_authorizer.specs.Index.{bindings_taken, bindings_left};
+ghost use Rattle.kob_authorizer.specs.Deletion.{bindings_taken, bindings_left};
 ghost use Rattle.kob_authorizer.specs.Index.{ArePatternsOf, addition, key_place};
 ghost use Rattle.kob_authorizer.specs.Index.{AreRising, entry_at, removals_of};
 
@@ -26,7 +26,8 @@ pub struct PreparedDelete {
 
 impl Model for PreparedDelete {
     ghost use Rattle.std.specs.Prelude.{◌≡◌, map};
-    ghost use Rattle.kob_authorizer.specs.Index.{Deletion, addition, key_place, removals_of};
+    ghost use Rattle.kob_authorizer.specs.Deletion.{Deletion};
+    ghost use Rattle.kob_authorizer.specs.Index.{addition, key_place, removals_of};
 
     ghost Value = { Deletion };
 

@@ -3,7 +3,7 @@
 ghost use Rattle.std.specs.Prelude.{[], ◌≡◌, ◌+◌, ◌*◌, ◌<◌, ◌≤◌, ◌++◌, drop, length, OnOk};
 ghost use Rattle.std.specs.Prelude.{vec_capacity, vec_len};
 ghost use Rattle.std.specs.List.{remove};
-ghost use Rattle.kob_authorizer.specs.Index.{bindings_left};
+ghost use Rattle.kob_authorizer.specs.Deletion.{bindings_left};
 
 use kob_names::{Binding, BindingFilter};
 use std::alloc::{AllocError, Global};

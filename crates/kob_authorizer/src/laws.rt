@@ -4,7 +4,7 @@ ghost use Rattle.std.specs.Prelude.{◌≡◌, ◌↔◌, Contains, IsTrue, List
 ghost use Rattle.kob_authorizer.specs.Decide.{Contents, IsRising};
 ghost use Rattle.kob_authorizer.specs.Creation.{AreDistinct, AreInForce, OnlyAdds, addition};
 ghost use Rattle.kob_authorizer.specs.Decide.{decide, decide_by_bindings, Question};
-ghost use Rattle.kob_authorizer.specs.Index.{bindings_left};
+ghost use Rattle.kob_authorizer.specs.Deletion.{bindings_left};
 ghost use Rattle.kob_authorizer.specs.Decide.{IsTrueVerdict, NoneHits, NoneMatches};
 ghost use Rattle.kob_names.specs.Binding.{Binding, is_granted};
 ghost use Rattle.kob_names.specs.declared.filter.BindingFilter.{BindingFilter};

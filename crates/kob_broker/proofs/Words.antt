@@ -5,7 +5,8 @@ pub use Rattle.kob_authorizer.proofs.Entries.{removed_rises}
 pub use Rattle.kob_authorizer.proofs.Verdicts.{true_verdict}
 pub use Rattle.kob_authorizer.specs.Decide.{Contents, IsRising}
 pub use Rattle.kob_authorizer.specs.Creation.{Added, add_one}
-pub use Rattle.kob_broker.specs.Records.{HasRoom, IsBatchOutcome, outcome_by, outcome_told, prepared_for, refusal_by, header_bytes, record_bytes, offset_before, with_start, fetch_reasons, fetched_at, batch_reasons, judged_at, offset_told, place_reasons, with_batch, BatchOutcome, Unchanged, Prepared, Batch, Idem, Record, AppendFault, Placement, Judgement, Next, code_of, Produce, Offset}
+pub use Rattle.kob_broker.specs.Batches.{HasRoom, IsBatchOutcome, outcome_by, outcome_told, prepared_for, refusal_by}
+pub use Rattle.kob_broker.specs.Records.{header_bytes, record_bytes, offset_before, with_start, fetch_reasons, fetched_at, batch_reasons, judged_at, offset_told, place_reasons, with_batch, BatchOutcome, Unchanged, Prepared, Batch, Idem, Record, AppendFault, Placement, Judgement, Next, code_of, Produce, Offset}
 pub use Rattle.kob_broker.specs.Step.{Makes, MakesFor, state_of, Broker, Outcome, after, after_write, body, effect, effect_by, named, partition_in, reasons_against, refusal, RunsAlike, StepsAlike, replies_of, state_after, step, step_by, CreateTopics, DeleteGroups, DeleteRecords, DeleteTopics, Fetch, ListOffsets, OffsetCommit, OffsetFetch}
 pub use Rattle.kob_broker.specs.Bindings.{draft_reasons, Draft}
 pub use Rattle.kob_broker.specs.Denial.{Denied, Done, Refused, denial_naming, denial_of, describes_cluster, describes_group, describes_topic, first_unmet, is_met, question, verdict, is_granted, Verdict, Check, denial_code, rights, end_at, first_reason}

@@ -1,6 +1,7 @@
 pub mod State
 pub mod Denial
 pub mod Records
+pub mod Batches
 pub mod Topics
 pub mod Groups
 pub mod Bindings

@@ -12,7 +12,7 @@ pub use Rattle.kob_rights.specs.declared.reason.Reason.{Reason}
 pub use Rattle.kob_rights.specs.declared.reply.Reply.{Reply}
 pub use Rattle.kob_rights.specs.declared.request.Request.{Request}
 pub use Rattle.kob_names.specs.TextRules.{group_fault, name_limit, topic_fault}
-pub use Rattle.kob_authorizer.specs.Index.{CanDelete, bindings_taken, without_taken}
+pub use Rattle.kob_authorizer.specs.Deletion.{CanDelete, bindings_taken, without_taken}
 pub use Rattle.kob_rights.specs.Requests.{AddBindings, AddTopic, AdvanceStart, Append, CommitOffset, GiveProducerId, RemoveBindings, RemoveGroup, RemoveTopic, Write, partition_named, write_of}
 pub use Rattle.kob_catalog.specs.Kept.{CanAdd, catalog_log, is_bad_count, kept_of, new_topic, topics_of}
 pub use Rattle.kob_partition.specs.Retained.{CanAppend, LogKept, Plain, Retained, plain_meaning, retained_meaning, retained_of}

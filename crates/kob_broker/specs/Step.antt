@@ -1,7 +1,8 @@
 -- What a broker does: one event is one step; what a prepared change does, and when it can be made.
 use Rattle.std.specs.Prelude.{◌≡◌, ◌<◌, ◌≤◌, ◌+◌, ◌++◌, true, [], ◌∷◌, ℕ, Bool, List, Option, Some, None}
 use Rattle.kob_groups.specs.Kept.{groups_of}
-use Rattle.kob_broker.specs.Records.{producer_limit, code_of, delete_records_after, delete_records_reasons, fetch_reasons, fetched_at, init_producer_reasons, judged_at, offset_at, offset_told, produce_after, produce_left, produce_reasons, start_after}
+use Rattle.kob_broker.specs.Batches.{produce_left}
+use Rattle.kob_broker.specs.Records.{producer_limit, code_of, delete_records_after, delete_records_reasons, fetch_reasons, fetched_at, init_producer_reasons, judged_at, offset_at, offset_told, produce_after, produce_reasons, start_after}
 use Rattle.kob_broker.specs.State.{Event, Reply, Request, State, has_partition, topic_map, with_partition, Meaning, Reason, Settings, Topic, open_state, partition_of, state_map, with_bindings, CanCreate, with_creation, CanDelete, without_taken, bindings_taken, CanAdd, catalog_log, kept_of, topics_of, CanAppend, Retained, retained_meaning, Plain, plain_meaning, retained_of, AddBindings, AddTopic, AdvanceStart, Append, CommitOffset, GiveProducerId, RemoveBindings, RemoveGroup, RemoveTopic, Write, partition_named, write_of}
 use Rattle.kob_broker.specs.Topics.{delete_topics_after, create_topics_after, create_topics_reasons, delete_topics_reasons, metadata_of, metadata_reasons}
 pub use Rattle.kob_broker.specs.declared.broker.Broker.{Broker}

@@ -1,7 +1,7 @@
 //! What becomes of a batch.
 
 ghost use Rattle.std.specs.Prelude.{◌≡◌, IfOk, OnErr};
-ghost use Rattle.kob_broker.specs.Records.{TakesBatch, empty_produce, left_by, prepared_for};
+ghost use Rattle.kob_broker.specs.Batches.{TakesBatch, empty_produce, left_by, prepared_for};
 
 use crate::prepared::{Change, Prepared};
 use kob_names::{Batch, Items, PlainValue, Text};

@@ -2,8 +2,8 @@
 
 ghost use Rattle.std.specs.Prelude.{◌≡◌, IfOk, None, OnErr, OnOk};
 ghost use Rattle.kob_broker.specs.Step.{MakesFor, NeedsMemory, request_left, state_of};
-ghost use Rattle.kob_broker.specs.Records.{IsBatchOutcome, left_by, outcome_told, prepared_for};
-ghost use Rattle.kob_broker.specs.Records.{TakesBatch, refusal_by};
+ghost use Rattle.kob_broker.specs.Batches.{IsBatchOutcome, left_by, outcome_told, prepared_for};
+ghost use Rattle.kob_broker.specs.Batches.{TakesBatch, refusal_by};
 ghost use Rattle.kob_broker.specs.Records.{batch_reasons, is_bad_sequence, is_unknown_producer};
 ghost use Rattle.kob_broker.specs.Denial.{first_reason};
 ghost use Rattle.kob_partition.specs.Retained.{retained_meaning};

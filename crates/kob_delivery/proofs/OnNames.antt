@@ -12,7 +12,7 @@ use Rattle.std.specs.List.{AllByRecursion, filter, fold, list_any}
 use Rattle.kob_authorizer.proofs.Entries.{serial_in_force}
 use Rattle.kob_authorizer.specs.Creation.{Added, add_one, addition, bindings_of, is_among, is_in_force, serial_of, with_binding}
 use Rattle.kob_authorizer.specs.Decide.{Contents, is_hit, question_of}
-use Rattle.kob_authorizer.specs.Index.{bindings_left}
+use Rattle.kob_authorizer.specs.Deletion.{bindings_left}
 use Rattle.kob_names.proofs.SameBindings.{same_binding_decides}
 use Rattle.kob_names.specs.Binding.{Binding, matches, reaches}
 use Rattle.kob_names.specs.Filter.{takes}
