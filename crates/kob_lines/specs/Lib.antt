@@ -1,5 +1,4 @@
 pub mod Calls
-pub mod Joined
 pub mod ProgramFaults
 pub mod Received
 pub mod Relayed

@@ -2,7 +2,7 @@
 use Rattle.kob_scene_play.proofs.Words.{ArePassedOn, Bool, Call, Journals, List, Loss, None, Option, PassesCallsOn, Record, Service, Some, [], ap, false, inl, inr, map, map-append, refl, subst, sym, true, ◌++◌, ◌∙◌, ◌∷◌, ◌≡◌}
 use Rattle.kob_lines.proofs.Adding as adding
 use Rattle.kob_lines.specs.Calls.{MakesCalls, ServesAs, ServesEach}
-use Rattle.kob_lines.specs.Joined.{each_append, each_gives}
+use Rattle.kob_lines.proofs.Joined.{each_append, each_gives}
 use Rattle.kob_lines.specs.Servers.{ServesRecorded}
 use Rattle.kob_lines.specs.declared.recorded_line.RecordedServer.{RecordedServer}
 use Rattle.kob_lines.specs.Relayed.{Relayed}

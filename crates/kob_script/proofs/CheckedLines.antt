@@ -1,12 +1,14 @@
 -- The lines of blocks; what a line asks for, and what is left after it; one reading without `acl` lines.
 use Rattle.kob_script.proofs.Each.{with_front}
 use Rattle.kob_script.proofs.LineFaults.{who_asks}
+use Rattle.kob_script.specs.Checks.{first_fault}
 use Rattle.kob_script.proofs.Imports.{IsOk, counted, line_fault, lines_ask, lines_left, requests_on, rest_of, unless_found, AreWholeLines, Checking, ChecksLine, ChecksNext, CliArgs, Err, Event, Fails, Fault, FaultKind, HasNoAclLine, IfRead, IsAnswerTo, IsAnswerToLine, LineError, List, Memory, None, Ok, Option, ReadsAs, Result, Script, ScriptError, ThenLines, Word, [], answers_after, ap, append-nil, append_assoc, arith, asks_clap, concat, drop, drop-drop, drop_more, empty_script, eqb-true, false, fault_at, get_or, kept_answer, length, length-lines, length-take-le, line_len-bounds, line_words, lines-nil, lines-step, lines_in, lines_in_blocks, lines_of, list_all, map, nat_tests, not, refl, requests_of, result_unwrap_or, script_so_far, slice_index_or, subst, sym, then_lines, true, with_words, without_terminator, words_of, ℕ, ◌++◌, ◌+◌, ◌-◌, ◌<◌, ◌==◌, ◌>>=◌, ◌∙◌, ◌∷◌, ◌≡◌, ◌≤◌, Bool, Some, bytes_eq, codes, if◌then◌else◌, is_setting, is_some, ◌&&◌, Request}
 use Rattle.kob_words.proofs.Choices.{both}
 use Rattle.kob_script.specs.CommandLines.{AreRead, asked_by, events_of}
 use Rattle.kob_names.specs.declared.settings.Settings.{Settings}
 use Rattle.std.specs.Prelude.{IfOk}
-use Rattle.kob_script.specs.Words.{LateSetting}
+use Rattle.std.specs.Result.{result_err}
+use Rattle.kob_script.specs.Words.{HidesNoFault, LateSetting}
 use Rattle.kob_script.specs.declared.requests.Blocks.{Blocks}
 use Rattle.kob_script.specs.Script.{requests_in, with_events, with_line, with_setting, lines_from, script_of, LinesFrom}
 use Rattle.kob_script.specs.declared.fault.Fault as fault
@@ -267,6 +269,28 @@ pub no_setting : (answer : Option CliArgs) (s : Script) (words : List Word) (fir
 no_setting answer s (word ∷ words) first some is plain = grind (arith, nat_tests)
 no_setting answer s [] first some is plain = absurd (omega (arith, some))
 
+-- the first fault of words that are no setting is that of a line's words
+pub no_setting_fault : (s : Script) (words : List Word) (first : Word) → 1 ≤ length words
+    → first ≡ get_or words 0 first → is_setting first ≡ false → first_fault s words ≡ line_fault words
+no_setting_fault s (word ∷ words) first some is plain = grind (arith, nat_tests)
+no_setting_fault s [] first some is plain = absurd (omega (arith, some))
+
+pub hides_none : (r : Result (Unit {0}) LineError) (fault : Option FaultKind) → fault ≡ None → HidesNoFault r fault
+hides_none (Ok done) fault is = tt
+hides_none (Err (Memory e)) fault is = is
+hides_none (Err (Fault kind)) fault is = tt
+
+-- words that ask for events have no fault
+pub read_words_are_right : (answer : Option CliArgs) (words : List Word) (asked : List Event)
+    → events_of answer words ≡ Ok asked → line_fault words ≡ None
+unfolding events_of
+read_words_are_right answer words asked is = found_none (line_fault words) (asked_by answer words) asked is
+  where
+    found_none : (fault : Option FaultKind) (told : Result (List Event) FaultKind) (events : List Event)
+        → unless_found fault told ≡ Ok events → fault ≡ None
+    found_none None told events is = refl
+    found_none (Some kind) told events is = absurd cc
+
 module _ (s : Script) (line : List ℕ) (new : Checking) (old kept : List (Option CliArgs)) where
   -- a line that was checked by clap's answer to its words
   pub line_checked : (words : List Word) (answer : Option CliArgs) → words_of line ≡ Ok words → IsAnswerTo words answer
@@ -278,7 +302,7 @@ module _ (s : Script) (line : List ℕ) (new : Checking) (old kept : List (Optio
   pub words_fail : (words : List Word) (answer : Option CliArgs) (e : LineError) → words_of line ≡ Ok words
       → IsAnswerTo words answer → Fails e (with_words answer s words) → ChecksLine s line new old kept (Err e)
   unfolding with_line
-  words_fail words answer (Memory e) has is fails = tt
+  words_fail words answer (Memory e) has is fails = rw has refl
   words_fail words answer (Fault kind) has is fails = rw has (answer, is, fails)
 
   -- a line about which clap is not asked
@@ -289,10 +313,11 @@ module _ (s : Script) (line : List ℕ) (new : Checking) (old kept : List (Optio
   unasked_checked (Err e) words has unasked fails same = words_fail words None e has (grind (arith, nat_tests)) fails
 
   -- a line with an escape that is not whole
-  pub line_fails : (e : LineError) → Fails e (words_of line) → ChecksLine s line new old kept (Err e)
+  pub line_fails : (e : LineError) → Fails e (words_of line)
+      → HidesNoFault {A = Unit {0}} (Err e) (result_err (words_of line)) → ChecksLine s line new old kept (Err e)
   unfolding with_line
-  line_fails (Memory e) fails = tt
-  line_fails (Fault kind) fails = rw fails (None, tt, refl)
+  line_fails (Memory e) fails hides = hides
+  line_fails (Fault kind) fails hides = rw fails (None, tt, refl)
 
 -- What was checked so far: the lines that are left may be read after it as all may be, and all ask
 -- for its events and for what those that are left do, by answers after those that were kept.

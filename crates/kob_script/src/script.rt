@@ -4,7 +4,8 @@
 ghost use Rattle.std.specs.List.{concat};
 ghost use Rattle.std.specs.Prelude.{◌≡◌, ◌<◌, ◌^◌, ℕ, List, Ok, length, true, IfOk, option_copied};
 ghost use Rattle.kob_rights.specs.declared.event.Event as event;
-ghost use Rattle.kob_script.specs.Checks.{ChecksLine, ChecksNext, as_read, fault_at, script_so_far};
+ghost use Rattle.kob_script.specs.Checks.{ChecksLine, ChecksNext, as_read, fault_at};
+ghost use Rattle.kob_script.specs.Checks.{first_fault, script_so_far};
 ghost use Rattle.std.specs.Result.{result_err};
 ghost use Rattle.kob_script.specs.Words.{Gives, HidesNoFault, words_of};
 ghost use Rattle.kob_script.specs.Script.{AreWholeLines, HasNoAclLine, IfRead, ReadsAs, asks_clap};
@@ -172,9 +173,11 @@ fn check_words(
     words: &[Word<'_>],
     answer: Option<&CliArgs>,
 ) -> Result<(), LineError>
-    ensures { (events : List event.Event) → checking.old.requests ≡ length events
+    ensures next { (events : List event.Event) → checking.old.requests ≡ length events
         → ChecksNext checking.new result
         (with_words (option_copied answer.entry) (script_so_far checking.old events) words.now) }
+    ensures memory { (events : List event.Event) → checking.old.requests ≡ length events
+        → HidesNoFault result (first_fault (script_so_far checking.old events) words.now) }
 {
     match words {
         [] => Ok(()),

@@ -8,11 +8,11 @@ returns-in_err-check_words c = λ line events has asks counts.
     rw (p.1, p.2)
     (words_fail (script_so_far c.args.checking.now events) line c.check_words.new.checking
     c.args.answers.now.items c.args.answers.now.items c.args.words.now c.in_ok-answer.answer _
-    has c.in_ok-answer.ensures.answer (rw c.as_ref.ensures.value at (c.in_err-check_words.ensures events counts)))
+    has c.in_ok-answer.ensures.answer (rw c.as_ref.ensures.value at (c.in_err-check_words.ensures.next events counts)))
 
 pub returns : goal.returns
 returns c = λ line events has asks counts.
     line_checked (script_so_far c.args.checking.now events) line c.check_words.new.checking
     c.args.answers.now.items _ c.args.words.now c.in_ok-answer.answer has c.in_ok-answer.ensures.answer
     (c.in_ok-push.ensures.items ∙ keeps_one _ c.args.words.now c.in_ok-answer.answer asks)
-    (rw c.as_ref.ensures.value at (c.in_ok-check_words.ensures events counts))
+    (rw c.as_ref.ensures.value at (c.in_ok-check_words.ensures.next events counts))

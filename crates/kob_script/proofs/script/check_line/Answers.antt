@@ -7,10 +7,10 @@ returns-in_err-words c = λ events counts.
     let p = err_from_is_err_and c.from_residual.result c.from_residual.ensures.1 in
     rw (p.1, p.2)
     (line_fails (script_so_far c.args.checking.now events) c.args.line.now c.args.checking.now c.args.answers.now.items
-    c.args.answers.now.items _ c.in_err-words.ensures.gives)
+    c.args.answers.now.items _ c.in_err-words.ensures.gives c.in_err-words.ensures.memory)
 
 pub returns : goal.returns
 returns c = λ events counts.
     unasked_checked (script_so_far c.args.checking.now events) c.args.line.now c.check_words.new.checking
     c.args.answers.now.items c.args.answers.now.items c.check_words.result c.in_ok-words.words.items c.in_ok-words.ensures.gives
-    (search rules) (rw c.deref-else-asks_clap.ensures.value at (c.check_words.ensures events counts)) (λ i. c.args.answers.now.items)
+    (search rules) (rw c.deref-else-asks_clap.ensures.value at (c.check_words.ensures.next events counts)) (λ i. c.args.answers.now.items)
