@@ -1,5 +1,5 @@
 -- One call of a connection, and what all its calls make of each server.
-use Rattle.kob_lines.proofs.Words.{All-append, All-cons, All-nil, ArePassedOn, AreServed, Call, Delivered, Delivery, Event, Fits, GainsAtMost, IsEntryOf, IsHeardOf, IsJournaled, IsSent, IsServedIfHeard, IsServedInSession, Journals, KeepsSeat, List, Loss, Lost, MakesCalls, None, Option, PassesCallsOn, PassesOn, Record, Reply, Request, Retained, Seat, ServesAs, ServesEach, Settings, Some, [], added_append, after_event, ap, append-nil, arith, calls_are_made, each_gives, entry, event_by, false, inl, inr, map, map-append, nat_tests, no_call_is_made, outcome_of, refl, reply_fits, reply_of, retained_meaning, Served, served_in, step, subst, sym, ℕ, ◌++◌, ◌∙◌, ◌∷◌, ◌≡◌, ◌⊎◌}
+use Rattle.kob_lines.proofs.Words.{All-append, All-cons, All-nil, ArePassedOn, AreServed, Call, Delivered, Delivery, Event, Fits, GainsAtMost, IsEntryOf, IsHeardOf, IsJournaled, IsSent, IsServedIfHeard, IsServedInSession, Journals, KeepsSeat, List, Loss, Lost, MakesCalls, None, Option, PassesCallsOn, PassesOn, Record, Reply, Request, Retained, Seat, ServesAs, ServesEach, Settings, Some, [], added_append, after_event, ap, append-nil, arith, calls_are_made, entry, event_by, false, inl, inr, map, map-append, nat_tests, no_call_is_made, outcome_of, refl, reply_fits, reply_of, retained_meaning, Served, served_in, step, subst, sym, ℕ, ◌++◌, ◌∙◌, ◌∷◌, ◌≡◌, ◌⊎◌}
 use Rattle.kob_broker.specs.State.{State}
 use Rattle.kob_lines.specs.Servers.{ServesLossy, ServesRecorded}
 use Rattle.kob_lines.specs.declared.lossy.Loss.TheVariants as losses
@@ -7,6 +7,17 @@ use Rattle.kob_lines.specs.declared.recorded_line.RecordedServer.{RecordedServer
 use Rattle.std.specs.Prelude.{IfSome}
 
 -- ---- of any server
+
+module _ {S : Type 0} (serves : S → S → Request → Option Reply → Type 0) where
+  -- what holds of no call, of each call and of calls after calls holds of all calls
+  pub each_gives : (holds : S → S → List Call → Type 0)
+      → ((s : S) → holds s s [])
+      → ((a b : S) (c : Call) → ServesAs serves a b c.request c.heard → holds a b (c ∷ []))
+      → ((a b c : S) (xs ys : List Call) → holds a b xs → holds b c ys → holds a c (xs ++ ys))
+      → (old new : S) (cs : List Call) → ServesEach serves old new cs → holds old new cs
+  each_gives holds stays one more old new [] same = subst (λ s. holds old s []) (sym same) (stays old)
+  each_gives holds stays one more old new (c ∷ cs) (mid, first, rest) =
+      more old mid new (c ∷ []) cs (one old mid c first) (each_gives holds stays one more mid new cs rest)
 
 module _ {S : Type 0} (serves : S → S → Request → Option Reply → Type 0) (old new : S) (request : Request) where
   heard_as : (heard : Option Reply) (delivery : Delivery) → ServesAs serves old new request heard

@@ -6,7 +6,7 @@ pub use Rattle.kob_inbox.specs.Tick.{Point, Ticks}
 pub use Rattle.kob_inbox.specs.declared.fetcher.Subscription.{Subscription}
 pub use Rattle.kob_inbox.specs.declared.tick.Tick.{Tick}
 pub use Rattle.kob_lines.specs.Calls.{ArePassedOn, GainsAtMost, GoesOnBy, IsEntryOf, IsHeardOf, IsJournaled, IsMadeBelow, IsSent, IsServedIfHeard, IsServedInSession, Journals, KeepsSeat, MakesCalls, PassesCallsOn, PassesOn, ServesAs, ServesEach, reply_of, served_in}
-pub use Rattle.kob_lines.proofs.Joined.{added_append, calls_are_made, each_gives, no_call_is_made}
+pub use Rattle.kob_lines.specs.Joined.{added_append, calls_are_made, no_call_is_made}
 pub use Rattle.kob_lines.specs.Relayed.{HasConsumerRun, HasServiceRun, HoldsFirst, Relayed}
 pub use Rattle.kob_lines.specs.declared.lossy.Loss.{Loss}
 pub use Rattle.kob_names.specs.declared.settings.Settings.{Settings}

@@ -1,4 +1,5 @@
 pub mod Calls
+pub mod Joined
 pub mod ProgramFaults
 pub mod Received
 pub mod Relayed

@@ -70,7 +70,7 @@ impl<S: Serve> Connection<S> {
 }
 
 impl<S: Serve> Line for Connection<S> {
-    ghost use Rattle.kob_lines.proofs.Joined.{calls_are_made, no_call_is_made};
+    ghost use Rattle.kob_lines.specs.Joined.{calls_are_made, no_call_is_made};
 
     ghost calls = { λ line. line.calls.made.items };
 

@@ -1,7 +1,7 @@
 -- One call at a desk, and those of a tick.
 use Rattle.kob_pipeline.proofs.Words.{All-cons, All-nil, AreMade, AreNotedOrLost, AreServed, AreServedByLoss, AtDesk, Call, CallFault, Change, ConsumerGoesOn, ConsumerPlan, Dispatching, Doing, Err, HasWorked, IfNone, IfOk, IfSome, InboxEnd, IsConsumerStep, IsConsumption, IsEventOf, IsHeard, IsInboxLeft, IsOfConsumerStep, IsOfServiceStep, IsOutboxLeft, IsServiceRun, IsServiceStep, Leads, List, Loss, None, Ok, Option, OutboxEnd, OutboxEvent, Receipt, Reply, Request, Result, Served, Service, ServiceGoesOn, ServiceStep, Some, WithDesk, Steps, Subscription, [], ap, append-nil, append_assoc, append_cancel_left, arith, dispatch_of, event_at, get_or, get_or_push, inl, inr, later_than, length, length-append, map, nat_tests, nothing, refl, served_by_notes, with_desk, stored_row, sym, take, take_more, ℕ, ◌++◌, ◌+◌, ◌-◌, ◌<◌, ◌∙◌, ◌∷◌, ◌≡◌}
 use Rattle.kob_rights.specs.declared.event.Event.{Event}
-use Rattle.kob_pipeline.proofs.Noting.{nothing_is_noted, noted_append}
+use Rattle.kob_pipeline.specs.Noting.{nothing_is_noted, noted_append}
 use Rattle.kob_router.proofs.Runs.{calls_append, run_append}
 use Rattle.kob_lines.proofs.ConsumerCourses.{calls_joined, joined}
 use Rattle.kob_lines.proofs.Adding.{served_append}

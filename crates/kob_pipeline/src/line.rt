@@ -183,7 +183,7 @@ impl<'a, R: Wait, G: Gate> DeskLine<'a, R, G> {
 
 impl<'a, R: Wait, G: Gate> Line for DeskLine<'a, R, G> {
     ghost use Rattle.kob_pipeline.specs.Served.{AreMade};
-    ghost use Rattle.kob_pipeline.proofs.Noting.{calls_are_made, no_call_is_made};
+    ghost use Rattle.kob_pipeline.specs.Noting.{calls_are_made, no_call_is_made};
 
     ghost calls = { λ line. line.calls.made.items };
 

@@ -2,7 +2,7 @@
 use Rattle.kob_scene_play.proofs.Words.{ArePassedOn, Bool, Call, Journals, List, Loss, None, Option, PassesCallsOn, Record, Service, Some, [], ap, false, inl, inr, map, map-append, refl, subst, sym, true, ◌++◌, ◌∙◌, ◌∷◌, ◌≡◌}
 use Rattle.kob_lines.proofs.Adding as adding
 use Rattle.kob_lines.specs.Calls.{MakesCalls, ServesAs, ServesEach}
-use Rattle.kob_lines.proofs.Joined.{each_append, each_gives}
+use Rattle.kob_lines.specs.Joined.{each_append}
 use Rattle.kob_lines.specs.Servers.{ServesRecorded}
 use Rattle.kob_lines.specs.declared.recorded_line.RecordedServer.{RecordedServer}
 use Rattle.kob_lines.specs.Relayed.{Relayed}
@@ -86,7 +86,7 @@ module _ {S : Type 0} (below : S → RecordedServer) (is_bare : S → Bool) wher
       → Journals (below old).worker (below old).principal (below old).host (sent_as (is_bare old) calls)
       (sent_as (is_bare old) then_calls) (below old).recorded.now (below new).recorded.now
   journals_sent old new calls then_calls makes =
-      let each = each_gives ServesSent SendsEach none_sends one_sends more_sends old new makes.made makes.served in
+      let each = adding.each_gives ServesSent SendsEach none_sends one_sends more_sends old new makes.made makes.served in
       adding.journals (below old) (below new) (sent_as (is_bare old) calls) (sent_as (is_bare old) then_calls)
       (record {
         made = sent_as (is_bare old) makes.made;
@@ -98,7 +98,7 @@ module _ {S : Type 0} (below : S → RecordedServer) (is_bare : S → Bool) wher
   pub same_broker : (old new : S) (calls then_calls : List Call) → MakesCalls ServesSent old new calls then_calls
       → (below new).recorded.ghost_name ≡ (below old).recorded.ghost_name
   same_broker old new calls then_calls makes =
-      let each = each_gives ServesSent SendsEach none_sends one_sends more_sends old new makes.made makes.served in
+      let each = adding.each_gives ServesSent SendsEach none_sends one_sends more_sends old new makes.made makes.served in
       (adding.journals_each (below old) (below new) (sent_as (is_bare old) makes.made) each.1).0
 
 bare_are_passed_on : (calls below : List Call) → ArePassedOn calls below

@@ -1,6 +1,6 @@
 -- Calls after calls of a connection.
 use Rattle.std.proofs.Common.{◌≡◌, List, [], ◌∷◌, ◌++◌, Option, refl, sym, ap, ◌∙◌, subst, append_assoc, append-nil}
-use Rattle.kob_lines.specs.Calls.{MakesCalls, ServesAs, ServesEach}
+use Rattle.kob_lines.specs.Calls.{MakesCalls, ServesEach}
 use Rattle.kob_rights.specs.declared.reply.Reply.{Reply}
 use Rattle.kob_rights.specs.declared.request.Request.{Request}
 use Rattle.kob_router.specs.declared.line.Call.{Call}
@@ -11,16 +11,6 @@ abbrev pub added_append : {A : Type 0} (before xs ys mid now : List A) → mid �
 added_append before xs ys mid now one two = two ∙ ap (λ zs. zs ++ ys) one ∙ append_assoc before xs ys
 
 module _ {S : Type 0} (serves : S → S → Request → Option Reply → Type 0) where
-  -- what holds of no call, of each call and of calls after calls holds of all calls
-  pub each_gives : (holds : S → S → List Call → Type 0)
-      → ((s : S) → holds s s [])
-      → ((a b : S) (c : Call) → ServesAs serves a b c.request c.heard → holds a b (c ∷ []))
-      → ((a b c : S) (xs ys : List Call) → holds a b xs → holds b c ys → holds a c (xs ++ ys))
-      → (old new : S) (cs : List Call) → ServesEach serves old new cs → holds old new cs
-  each_gives holds stays one more old new [] same = subst (λ s. holds old s []) (sym same) (stays old)
-  each_gives holds stays one more old new (c ∷ cs) (mid, first, rest) =
-      more old mid new (c ∷ []) cs (one old mid c first) (each_gives holds stays one more mid new cs rest)
-
   pub each_append : (a b c : S) (xs ys : List Call) → ServesEach serves a b xs → ServesEach serves b c ys
       → ServesEach serves a c (xs ++ ys)
   each_append a b c [] ys one two = subst (λ s. ServesEach serves s c ys) one two
