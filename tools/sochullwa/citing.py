@@ -82,6 +82,43 @@ def behind(path: pathlib.Path, text: str) -> list[Definition]:
     return found
 
 
+# A public function, up to the next function or item; and a clause, up to its brace.
+FUNCTION = re.compile(r"^ *pub (?:const )?fn .*?(?=^ *(?:pub(?:\(crate\))? )?(?:const )?(?:fn|impl|struct|enum|trait)\b|\Z)", re.M | re.S)
+CLAUSE = re.compile(r"^ *(?:ensures|requires)\b[^{\n]*(?=\{)", re.M)
+
+
+def braces(text: str) -> str:
+    """A text up to the brace that closes its first one."""
+    depth = 0
+    for at, it in enumerate(text):
+        depth += (it == "{") - (it == "}")
+        if depth == 0:
+            return text[: at + 1]
+    return text
+
+
+def public_clauses(text: str) -> str:
+    """The clauses of the public functions of a source."""
+    found = (function[0] for function in FUNCTION.finditer(text))
+    return "\n".join(braces(it[clause.end() :]) for it in found for clause in CLAUSE.finditer(it))
+
+
+def uncited(crates: Iterable[str]) -> Iterator[pathlib.Path]:
+    """The files of definitions of these crates on which no contract of a public function rests."""
+    known: dict[Definition, None] = {}
+    sources = sorted(it for crate in crates for it in (CRATES / crate / "src").rglob("*.rt"))
+    todo = [it for source in sources for it in cited(source, public_clauses(source.read_text()))]
+    while todo:
+        it = todo.pop()
+        if it not in known:
+            known[it] = None
+            todo += cited(it.path, it.text)
+    reached = {it.path for it in known}
+    for path in sorted(it for crate in crates for it in (CRATES / crate / "specs").glob("*.antt")):
+        if path.name != "Lib.antt" and path not in reached and len(declared_in(path)) > 0:
+            yield path
+
+
 CONTRACT = re.compile(r"```contract (\S+) (\S+)\n(.*?)```\n", re.S)
 
 

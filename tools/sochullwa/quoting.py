@@ -5,10 +5,11 @@ import pathlib
 import re
 from collections.abc import Callable, Iterable
 
+from sochullwa import citing
 from sochullwa.repository import CRATES, TOP, listed
 
 BLOCK = re.compile(
-    r"```(script|output|contract|function|files|layers|edits|tried|sizes|lines) ([^\n]+)\n(.*?)```\n", re.S
+    r"```(script|output|contract|function|files|layers|edits|tried|sizes|lines|uncited) ([^\n]+)\n(.*?)```\n", re.S
 )
 # The crates by subject, for the table of sizes; the tests and all other crates have rows of their own.
 SUBJECTS = {
@@ -164,6 +165,17 @@ def tried(name: str) -> str:
     return "".join(row_of(crate, cells) for crate, cells in [("", kinds), *lines])
 
 
+def uncited(name: str) -> str:
+    """The files of definitions of the libraries of a list that no public function's contract cites, neither
+    itself nor by what it cites, with their subjects."""
+    libraries = [it for it in crates_of(name) if not (CRATES / it / "src/main.rt").exists()]
+    lines = []
+    for path in citing.uncited(libraries):
+        subject = path.read_text().partition("\n")[0].removeprefix("-- ")
+        lines.append(f"{path.parts[-3] + '/' + path.name:38}{subject}\n")
+    return "".join(lines)
+
+
 KINDS: dict[str, Callable[[str], str]] = {
     "script": file,
     "output": file,
@@ -175,6 +187,7 @@ KINDS: dict[str, Callable[[str], str]] = {
     "tried": tried,
     "sizes": sizes,
     "lines": lines_of_each,
+    "uncited": uncited,
 }
 
 

@@ -64,3 +64,18 @@ class Citing(unittest.TestCase):
         self.assertEqual(citing.tables(page, law), wanted.format(f"| kob_high | {high} |\n"))
         low = [link("Next", "kob_low/specs/Marks.antt", 10), link("first", "kob_low/specs/Marks.antt", 5)]
         self.assertEqual(citing.tables(page, law + both), wanted.format(f"| kob_low | {', '.join(low)} |\n"))
+
+    def test_a_file_that_no_public_contract_rests_on_is_uncited(self) -> None:
+        low = self.room / "crates/kob_low/specs"
+        put(self.room, {"crates/kob_low/specs/Inner.antt": "-- Inner.\n\nabbrev pub inner : Nat\ninner = zero\n"})
+        put(self.room, {"crates/kob_low/specs/Lib.antt": "pub mod Inner\n"})
+        self.assertEqual(list(citing.uncited(["kob_low", "kob_high"])), [low / "Inner.antt"])
+        private = "ghost use Rattle.kob_low.specs.Inner.{inner};\n\nfn private()\n    ensures { inner }\n{\n}\n"
+        put(self.room, {"crates/kob_high/src/private.rt": private})
+        self.assertEqual(list(citing.uncited(["kob_low", "kob_high"])), [low / "Inner.antt"])
+        put(self.room, {"crates/kob_high/src/private.rt": private.replace("fn p", "pub fn p")})
+        self.assertEqual(list(citing.uncited(["kob_low", "kob_high"])), [])
+
+    def test_the_clauses_of_public_functions_alone_are_read(self) -> None:
+        source = "pub fn one()\n    requires { a {b} c }\n    ensures named { d }\n{\n    e\n}\n\nfn two()\n    ensures { f }\n{\n}\n"
+        self.assertEqual(citing.public_clauses(source), "{ a {b} c }\n{ d }")
