@@ -4,7 +4,10 @@ use Rattle.kob_broker.specs.State.{State}
 use Rattle.kob_lines.specs.Servers.{ServesLossy, ServesRecorded}
 use Rattle.kob_lines.specs.declared.lossy.Loss.TheVariants as losses
 use Rattle.kob_lines.specs.declared.recorded_line.RecordedServer.{RecordedServer}
-use Rattle.std.specs.Prelude.{IfSome}
+use Rattle.kob_lines.specs.Calls.{IsHeardAs, MayAnswer, fault_after, fault_kept, reply_in}
+use Rattle.kob_rights.specs.Requests.{OffsetsWithin}
+use Rattle.kob_shared.specs.declared.faults.CallFault.{CallFault}
+use Rattle.std.specs.Prelude.{Err, IfNone, IfSome, Ok, Result}
 
 -- ---- of any server
 
@@ -53,6 +56,27 @@ module _ {S : Type 0} (serves : S → S → Request → Option Reply → Type 0)
       let there = heard_as heard (Delivered reply) served told in
       subst (λ t. serves old new request t) there.2 there.1
   sent unmade then_unmade heard Lost served told = inr (served.0, served.1)
+
+-- what a line makes of the server's answer
+pub heard_as_told : (request : Request) (answer : Result (Option Reply) CallFault) (heard : Option Reply)
+    (delivery : Delivery) (kept told : Option CallFault) → IfSome heard (λ reply. reply_in answer ≡ Some reply)
+    → IfSome heard (λ reply. Fits request reply) → IfSome heard (λ reply. OffsetsWithin reply)
+    → IfNone heard (IfSome (reply_in answer) (λ reply. MayAnswer request reply → ⊥)) → kept ≡ fault_kept None answer
+    → IsHeardOf heard delivery → told ≡ fault_after kept heard delivery → IsHeardAs request answer delivery told
+heard_as_told request (Err refused) (Some reply) delivery kept told is fits within unheard first of last = absurd cc
+heard_as_told request (Err refused) None (Delivered reply) kept told is fits within unheard first of last = absurd cc
+heard_as_told request (Err refused) None Lost kept told is fits within unheard first of last = (refl, last ∙ first)
+heard_as_told request (Ok None) (Some reply) delivery kept told is fits within unheard first of last = absurd cc
+heard_as_told request (Ok None) None (Delivered reply) kept told is fits within unheard first of last = absurd cc
+heard_as_told request (Ok None) None Lost kept told is fits within unheard first of last = (refl, last ∙ first)
+heard_as_told request (Ok (Some there)) None (Delivered reply) kept told is fits within unheard first of last =
+    absurd cc
+heard_as_told request (Ok (Some there)) None Lost kept told is fits within unheard first of last =
+    inr (unheard, last ∙ first)
+heard_as_told request (Ok (Some there)) (Some reply) (Delivered got) kept told is fits within unheard first of last =
+    (let same : got ≡ there = cc in same, last ∙ first)
+heard_as_told request (Ok (Some there)) (Some reply) Lost kept told is fits within unheard first of last =
+    let same : there ≡ reply = cc in inl (rw same (fits, within), last)
 
 -- ---- of a broker with its journal
 

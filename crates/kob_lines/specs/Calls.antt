@@ -1,6 +1,6 @@
 -- What calls make of a line.
 use Rattle.std.specs.Prelude.{◌≡◌, ◌⊎◌, ◌≤◌, ℕ, List, [], ◌∷◌, ◌++◌, map, None, ◌+◌, Option, Some}
-use Rattle.std.specs.Prelude.{Err, IfSome, Ok, Result}
+use Rattle.std.specs.Prelude.{Err, IfErr, IfSome, Ok, Result}
 use Rattle.std.specs.List.{All}
 use Rattle.kob_router.specs.Line.{Adds, AreServed, Served, one_more}
 use Rattle.kob_router.specs.declared.line.Call.{Call}
@@ -9,6 +9,7 @@ use Rattle.std.specs.Prelude.{alloc_error}
 use Rattle.kob_shared.specs.declared.faults.CallFault.{CallFault}
 use Rattle.kob_shared.specs.declared.faults.CallFault.TheVariants.{Memory}
 use Rattle.kob_shared.specs.declared.journal.Entry.{Entry}
+use Rattle.kob_rights.specs.Requests.{Fits, OffsetsWithin}
 use Rattle.kob_rights.specs.declared.reply.Reply.{Reply}
 use Rattle.kob_rights.specs.declared.request.Request.{Request}
 use Rattle.kob_router.specs.declared.line.Delivery.{Delivery}
@@ -23,6 +24,10 @@ use Rattle.kob_lines.specs.declared.lossy.Loss.TheVariants as losses
 abbrev pub reply_in : Result (Option Reply) CallFault → Option Reply
 reply_in (Ok there) = there
 reply_in (Err fault) = None
+
+-- a reply may be one to the request: it fits, and its offsets are within bounds
+abbrev pub MayAnswer : Request → Reply → Type 0
+MayAnswer request reply = Fits request reply × OffsetsWithin reply
 
 -- a server served a request, and this is heard of it: nothing, or the reply that was there
 abbrev pub ServesAs : {S : Type 0} → (S → S → Request → Option Reply → Type 0) → S → S → Request
@@ -54,6 +59,28 @@ IsSent serves old new unmade then_unmade request (Delivered reply) =
 IsSent serves old new unmade then_unmade request Lost =
     ((then_unmade ≡ one_more unmade) × (new ≡ old))
     ⊎ ((there : Option Reply) × serves old new request there)
+
+-- what a line makes of the server's answer: the delivery, and the fault that it keeps. That is the
+-- server's, or out of memory if a reply to the request could not be kept. Another reply counts as none
+abbrev pub IsHeardAs : Request → Result (Option Reply) CallFault → Delivery → Option CallFault
+    → Type 0
+IsHeardAs request (Err refused) delivery fault = (delivery ≡ Lost) × (fault ≡ Some refused)
+IsHeardAs request (Ok None) delivery fault = (delivery ≡ Lost) × (fault ≡ None)
+IsHeardAs request (Ok (Some reply)) (Delivered heard) fault = (heard ≡ reply) × (fault ≡ None)
+IsHeardAs request (Ok (Some reply)) Lost fault =
+    (MayAnswer request reply × (fault ≡ Some (Memory alloc_error)))
+    ⊎ ((MayAnswer request reply → ⊥) × (fault ≡ None))
+
+-- a call has this delivery and this fault: a line makes them of the server's answer, or there was no
+-- memory to note the call, and the server was not asked
+abbrev pub IsAnswered : {S : Type 0} → (S → S → Request → Option Reply → Type 0)
+    → (S → Request → CallFault → Type 0) → S → S → Request → Delivery → Option CallFault → Type 0
+IsAnswered serves refuses old new request delivery fault =
+    ((new ≡ old) × (delivery ≡ Lost) × (fault ≡ Some (Memory alloc_error)))
+    ⊎ ((answer : Result (Option Reply) CallFault)
+    × serves old new request (reply_in answer)
+    × IfErr answer (λ refused. refuses old request refused)
+    × IsHeardAs request answer delivery fault)
 
 -- ---- a journal
 

@@ -1,8 +1,9 @@
 //! A line over anything that serves requests.
 
-ghost use Rattle.std.specs.Prelude.{◌≡◌, ◌≢◌, [], None, IfErr, IfSome, IsErrOf, Option, Some};
-ghost use Rattle.std.specs.Prelude.{◌⊎◌, alloc_error};
-ghost use Rattle.kob_lines.specs.Calls.{IsSent, MakesCalls, fault_kept, reply_in};
+ghost use Rattle.std.specs.Prelude.{◌≡◌, ◌≢◌, ◌⊎◌, [], None, IfErr, IfNone, IfSome, IsErrOf};
+ghost use Rattle.std.specs.Prelude.{Option, Some, alloc_error};
+ghost use Rattle.kob_lines.specs.Calls.{IsAnswered, MayAnswer, IsSent, MakesCalls};
+ghost use Rattle.kob_lines.specs.Calls.{fault_kept, reply_in};
 ghost use Rattle.kob_rights.specs.Requests.{Fits, OffsetsWithin};
 ghost use Rattle.kob_router.specs.Line.{Adds, IsFaithful};
 
@@ -82,7 +83,7 @@ impl<S: Serve> Line for Connection<S> {
 
     /// Makes a call of the server, and notes it. A call for which there was no entry left in the
     /// journal is counted among those that were not made.
-    #[tactic(auto, using(crate::proofs::Adding::one_call_is_made, crate::proofs::Adding::sent))]
+    #[tactic(auto, using(crate::proofs::Adding::heard_as_told, crate::proofs::Adding::one_call_is_made, crate::proofs::Adding::sent))]
     fn send(&mut self, alloc: Global, request: Request) -> Delivery
         ensures added { Adds self.old.calls.made.items self.new.calls.made.items
             self.old.calls.unmade self.new.calls.unmade request result }
@@ -96,6 +97,8 @@ impl<S: Serve> Line for Connection<S> {
             (fault ≡ CallFault.Memory alloc_error) ⊎ S.refuses self.old.server request fault) }
         ensures full { self.new.calls.fault ≡ Some CallFault.JournalFull
             → self.new.calls.made.items ≡ self.old.calls.made.items }
+        ensures kept { IsAnswered S.serves S.refuses self.old.server self.new.server
+            request result self.new.calls.fault }
     {
         let Some(noted) = self.calls.room_for(alloc, &request) else {
             drop(request);
@@ -135,6 +138,8 @@ fn heard(
     ensures same { IfSome result (λ reply. reply_in answer ≡ Some reply) }
     ensures fits { IfSome result (λ reply. Fits request.now reply) }
     ensures within { IfSome result (λ reply. OffsetsWithin reply) }
+    ensures unheard { IfNone result
+        (IfSome (reply_in answer) (λ reply. MayAnswer request.now reply → ⊥)) }
     ensures kept { calls.new ≡ record calls.old { fault = fault_kept calls.old.fault answer } }
 {
     match answer {
@@ -151,6 +156,7 @@ fn received(request: &Request, there: Option<Reply>) -> Option<Reply>
     ensures same { IfSome result (λ reply. there ≡ Some reply) }
     ensures fits { IfSome result (λ reply. Fits request.now reply) }
     ensures within { IfSome result (λ reply. OffsetsWithin reply) }
+    ensures unheard { IfNone result (IfSome there (λ reply. MayAnswer request.now reply → ⊥)) }
 {
     let reply = there?;
     if fits(request, &reply) && has_offsets_within(&reply) {
