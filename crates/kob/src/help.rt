@@ -158,7 +158,7 @@ hexadecimal digits stand for a byte. A line that begins with # is a comment.
           [reads TOPIC:PARTITION ..]
     NAME tick [lose-request|lose-reply]     NAME run    NAME restart    NAME inbox
   journal               every request that was served, with its reply
-  law SERVICE CONSUMER  whether the laws of delivery apply to the two
+  law SERVICE CONSUMER  whether the theorem of delivery applies to the two
   check SERVICE CONSUMER    which events are delivered, waiting, lost, doubled or misordered
   expect SERVICE CONSUMER delivered all|lost ID|order       status 3 if it is not so
 ";

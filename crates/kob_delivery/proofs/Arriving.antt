@@ -1,5 +1,5 @@
 -- What an inbox makes of the records that arrive.
-use Rattle.kob_delivery.proofs.Words.{AllByRecursion, Arrival, Bool, Contains, Denied, Done, Fetch, IsConsumerRun, List, None, Option, Place, Record, Refused, Reply, Request, Some, Subscription, [], ap, arith, arrivals, bytes_eq, cons_option, cursor_of, event_id, false, filter, filter_map, firsts, fold, id_text, intake_of, is_there, list_any, map, map_push, nat_eq, nat_tests, option_map, place_at, range_with_len, refl, take, taken_by, taken_ids, taken_in, taken_of, told_id, with_intake, with_new, with_record, ℕ, ◌∷◌, ◌≡◌}
+use Rattle.kob_delivery.proofs.Words.{AllByRecursion, Arrival, Bool, Contains, Denied, Done, Fetch, IsConsumerRun, List, None, Option, Place, Record, Refused, Reply, Request, Some, Subscription, [], ap, arith, arrivals, bytes_eq, cons_option, cursor_of, event_id, false, filter, filter_map, firsts, fold, id_text, intake_of, is_there, list_any, map, map_push, nat_eq, nat_tests, option_map, place_at, range_with_len, refl, take, taken_by, taken_ids, taken_in, taken_of, carried_id, with_intake, with_new, with_record, ℕ, ◌∷◌, ◌≡◌}
 use Rattle.kob_inbox.specs.Contents.{Contents}
 use Rattle.kob_inbox.specs.Run.{standing, Move, State, after}
 use Rattle.kob_inbox.specs.Run.Move.{Called, Restarted}
@@ -11,7 +11,7 @@ use Rattle.kob_rights.specs.declared.reply.Body.TheVariants as bodies
 
 -- the event id of what arrived
 abbrev pub told_by : Arrival → Option (List ℕ)
-told_by a = told_id a.message
+told_by a = carried_id a.message
 
 abbrev pub ids_told : List Arrival → List (List ℕ)
 ids_told arrived = filter_map told_by arrived
@@ -94,11 +94,11 @@ filter_told test (a ∷ arrived) = by (filter_told test arrived) (told_by a) ref
 -- the firsts of what is taken in order are those of a front
 
 told_there : (records : List Record) (arrived : List Arrival) → AllByRecursion (IsContent records) arrived
-    → ids_told arrived ≡ filter_map (told_at told_id records) (map offset_of arrived)
+    → ids_told arrived ≡ filter_map (told_at carried_id records) (map offset_of arrived)
 told_there records [] h = refl
 told_there records (a ∷ arrived) h = rw h.0 (ap (cons_option (told_by a)) (told_there records arrived h.1))
 
 pub firsts_of_front : (records : List Record) (n : ℕ) (arrived : List Arrival)
     → firsts nat_eq (map offset_of arrived) ≡ range_with_len 0 n → AllByRecursion (IsContent records) arrived
-    → firsts bytes_eq (ids_told arrived) ≡ firsts bytes_eq (filter_map told_id (take n records))
+    → firsts bytes_eq (ids_told arrived) ≡ firsts bytes_eq (filter_map carried_id (take n records))
 firsts_of_front records n arrived offsets contents = grind (arith, nat_tests, told_there, told_by_firsts, told_at, offset_of, told_by_front)

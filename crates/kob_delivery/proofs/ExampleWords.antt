@@ -19,7 +19,7 @@ pub use Rattle.kob_outbox.specs.declared.change.Change.{Change}
 pub use Rattle.kob_outbox.specs.declared.event.OutboxEvent.{OutboxEvent}
 pub use Rattle.kob_partition.specs.Retained.{records_of, Retained}
 pub use Rattle.kob_delivery.proofs.Laws.{holds_a_prefix, holds_a_prefix_among}
-pub use Rattle.kob_delivery.specs.Delivered.{IsCopy, IsDelivered, IsPrefixOf, IsTakenInOrder, ReachesInOrder, firsts, goes_to, routed_to, rows_of, ids_of, rows_of_aggregate, taken_ids, taken_of_aggregate, told_id}
+pub use Rattle.kob_delivery.specs.Delivered.{IsCopy, IsDelivered, IsPrefixOf, IsTakenInOrder, ReachesInOrder, firsts, goes_to, routed_to, rows_of, ids_of, rows_of_aggregate, taken_ids, taken_of_aggregate, carried_id}
 pub use Rattle.kob_delivery.specs.View.{ActsAlone, ArePrivate, Commits, IsNeverDeleted, IsPrivate, IsReserved, IsReservedFor, IsSoleCommitter, IsSoleProducer, NoSuperUser, Produces, Gives, IsHistory, IsSameView, View, opening_view, with_batch, with_commit, with_producer, without_topic}
 pub use Rattle.kob_delivery.specs.Reserved.{LeavesReserved}
 pub use Rattle.kob_delivery.specs.Repeats.{copies_of, restarts_of}

@@ -1,5 +1,5 @@
 -- What the outbox of a service keeps of the rows that were recorded, and a partition's log of those routed there.
-use Rattle.kob_delivery.proofs.Words.{AllByRecursion, Batch, Bool, Change, Contains, Contains-append_left, Contents, Dispatching, Event, Idem, IsGiven, IsRecordOf, IsRecordable, List, Next, None, Option, OutboxEvent, Place, Producer, Record, Repeat, Sent, Sequence, Some, [], after_record, after_use, ap, append-nil, append_assoc, arith, batch_of, bytes_eq, cases_Bool, empty, eq-eqb, eqb-true, false, filter, filter_keep, filter_map, filter_map-append, filter_skip, find, firsts, fold-append, get_or, get_or-drop, get_or_append_left, get_or_push, goes_to, history, history_from, id_text, ids_of, inl, inr, is_same, judge, judge_same, later_than, le-ltb, length, length-append, length-drop, length-map, length_push, list_any, lt-ltb, ltb-true, map-append, map_push, memory_length, nat_lt, nat_tests, next_seq, records_of, records_of_push, refl, routed_to, same_place, sent_batch, sent_in, sequence_of, slice_get, slice_get-get_or, stored_event, subst, sym, told_id, true, with_new, with_sequence_for, without_sent, ℕ, ◌%◌, ◌++◌, ◌+◌, ◌<◌, ◌==◌, ◌∙◌, ◌∷◌, ◌≡◌, ◌≤◌}
+use Rattle.kob_delivery.proofs.Words.{AllByRecursion, Batch, Bool, Change, Contains, Contains-append_left, Contents, Dispatching, Event, Idem, IsGiven, IsRecordOf, IsRecordable, List, Next, None, Option, OutboxEvent, Place, Producer, Record, Repeat, Sent, Sequence, Some, [], after_record, after_use, ap, append-nil, append_assoc, arith, batch_of, bytes_eq, cases_Bool, empty, eq-eqb, eqb-true, false, filter, filter_keep, filter_map, filter_map-append, filter_skip, find, firsts, fold-append, get_or, get_or-drop, get_or_append_left, get_or_push, goes_to, history, history_from, id_text, ids_of, inl, inr, is_same, judge, judge_same, later_than, le-ltb, length, length-append, length-drop, length-map, length_push, list_any, lt-ltb, ltb-true, map-append, map_push, memory_length, nat_lt, nat_tests, next_seq, records_of, records_of_push, refl, routed_to, same_place, sent_batch, sent_in, sequence_of, slice_get, slice_get-get_or, stored_event, subst, sym, carried_id, true, with_new, with_sequence_for, without_sent, ℕ, ◌%◌, ◌++◌, ◌+◌, ◌<◌, ◌==◌, ◌∙◌, ◌∷◌, ◌≡◌, ◌≤◌}
 use Rattle.kob_delivery.proofs.Lists.{AreAmong, any_same, bytes_turned, filter_twice, filter_all, all_last, all_weaker, any_last, none_in_filter, same_bytes, same_here, contains_more, places_are, same_some}
 use Rattle.circular_buffer.specs.Buffer.{keep_last}
 use Rattle.kob_producers.specs.Judge.{next_sequence}
@@ -83,7 +83,7 @@ given_later l (Some idem) g = l.each idem.id g
 pub record IsBatchOf (route : Dispatching) (q : Place) (row : Event) (message : Record) (issued : List ℕ)
     (b : Batch) : Type 0
   where
-    pub tells : told_id message ≡ Some row.id
+    pub tells : carried_id message ≡ Some row.id
     pub routed : route row ≡ Some (record { place = q; message = message })
     pub single : b.records ≡ message ∷ []
     pub given : IsGiven issued b.idem
@@ -91,7 +91,7 @@ pub record IsBatchOf (route : Dispatching) (q : Place) (row : Event) (message : 
 module _ (route : Dispatching) (q : Place) where
   -- of the rows the log holds those up to some, and each batch is of a producer that was given its id
   pub record IsLogged (rows : List Event) (log : List Batch) (issued : List ℕ) (upto : List Event) : Type 0 where
-    pub delivered : firsts bytes_eq (filter_map told_id (records_of log)) ≡ ids_of (routed_to route q upto)
+    pub delivered : firsts bytes_eq (filter_map carried_id (records_of log)) ≡ ids_of (routed_to route q upto)
     pub each : AllByRecursion (IsRecordOf route q rows) (records_of log)
     pub given : AllByRecursion (λ (b : Batch). IsGiven issued b.idem) log
 

@@ -1,6 +1,6 @@
 -- Each premise is needed, further: where a topic may be deleted between two rows, and where others may send a row's record
 -- again.
-use Rattle.kob_delivery.proofs.ExampleWords.{Bool, DeleteTopics, Done, Entry, Event, Fetch, InitProducerId, IsConsumerPart, IsDelivered, IsHistory, IsNeverDeleted, IsPrefixOf, IsServicePart, IsSoleCommitter, IsSoleProducer, List, None, OffsetFetch, Place, Produce, ReachesInOrder, Record, Some, Target, View, [], ap, arith, bytes_eq, codes, copies_of, dispatch_of, false, filter, filter_map, firsts, goes_to, id_text, ids_of, inr, nat_tests, opening_view, records_of, refl, restarts_of, routed_to, rows_of, subst, taken_ids, taken_of_aggregate, told_id, true, with_batch, with_producer, without_topic, ℕ, ◌+◌, ◌||◌, ◌∷◌, ◌≡◌, ◌≤◌}
+use Rattle.kob_delivery.proofs.ExampleWords.{Bool, DeleteTopics, Done, Entry, Event, Fetch, InitProducerId, IsConsumerPart, IsDelivered, IsHistory, IsNeverDeleted, IsPrefixOf, IsServicePart, IsSoleCommitter, IsSoleProducer, List, None, OffsetFetch, Place, Produce, ReachesInOrder, Record, Some, Target, View, [], ap, arith, bytes_eq, codes, copies_of, dispatch_of, false, filter, filter_map, firsts, goes_to, id_text, ids_of, inr, nat_tests, opening_view, records_of, refl, restarts_of, routed_to, rows_of, subst, taken_ids, taken_of_aggregate, carried_id, true, with_batch, with_producer, without_topic, ℕ, ◌+◌, ◌||◌, ◌∷◌, ◌≡◌, ◌≤◌}
 use Rattle.uuid.specs.Text.{by_index}
 use Rattle.kob_rights.specs.declared.reply.Body.TheVariants as bodies
 use Rattle.kob_router.specs.Run as router
@@ -110,7 +110,7 @@ sole_producer = grind (arith, nat_tests)
 
 -- of the topic
 
-second_told_alone : firsts bytes_eq (filter_map told_id (records_of (at_end.log here))) ≡ id_text (id_of 2) ∷ []
+second_told_alone : firsts bytes_eq (filter_map carried_id (records_of (at_end.log here))) ≡ id_text (id_of 2) ∷ []
 unfolding by_index
 second_told_alone = refl
 
@@ -134,7 +134,7 @@ needs_a_kept_topic :
 needs_a_kept_topic law =
     let begins = (law target 1 journal at_end moves (after_all router.start moves) here history part sole_producer).ids in
     left_out (subst (λ ids. IsPrefixOf ids (ids_of (row 1 ∷ row 2 ∷ []))) second_told_alone
-    (subst (IsPrefixOf (firsts bytes_eq (filter_map told_id (records_of (at_end.log here))))) both_routed begins))
+    (subst (IsPrefixOf (firsts bytes_eq (filter_map carried_id (records_of (at_end.log here))))) both_routed begins))
 
 -- of an inbox
 

@@ -1,5 +1,5 @@
 -- Ids that read back from records, and the rows of an aggregate among all rows, and among those of a place.
-use Rattle.kob_delivery.proofs.Words.{All, All-from_recursion, AllByRecursion, AreServed, Arrival, Bool, Contains, Contents, Dispatch, Dispatching, Entry, Event, Intake, IsCopy, IsDelivered, IsDistinct, IsPrefixOf, IsRecordOf, IsRouterRun, IsTakenInOrder, List, May, Move, None, Option, Place, ReachesInOrder, Record, Recorded, Some, State, Target, [], after, after_record, and_parts, ap, append-nil, arith, bytes_eq, calls_of, cases_Bool, dispatch_of, event_id, events_of, false, filter, filter_keep, filter_map, filter_skip, firsts, from_place, goes_to, id_text, ids_of, inl, inr, intake_of, is_of_aggregate, is_there, kept_by_filter, list_any, list_any-append, map_push, nat_tests, next_seq, of_each, option_map, place_of, refl, routed_to, rows_of_aggregate, same_place, served_to, slice_index, start, stored_event, subst, suc, sym, take, taken_ids, taken_in, taken_of_aggregate, told_id, true, true≢false, was_kept, with_record, zero, ℕ, ◌%◌, ◌&&◌, ◌++◌, ◌<◌, ◌∙◌, ◌∷◌, ◌≡◌, ◌⊎◌}
+use Rattle.kob_delivery.proofs.Words.{All, All-from_recursion, AllByRecursion, AreServed, Arrival, Bool, Contains, Contents, Dispatch, Dispatching, Entry, Event, Intake, IsCopy, IsDelivered, IsDistinct, IsPrefixOf, IsRecordOf, IsRouterRun, IsTakenInOrder, List, May, Move, None, Option, Place, ReachesInOrder, Record, Recorded, Some, State, Target, [], after, after_record, and_parts, ap, append-nil, arith, bytes_eq, calls_of, cases_Bool, dispatch_of, event_id, events_of, false, filter, filter_keep, filter_map, filter_skip, firsts, from_place, goes_to, id_text, ids_of, inl, inr, intake_of, is_of_aggregate, is_there, kept_by_filter, list_any, list_any-append, map_push, nat_tests, next_seq, of_each, option_map, place_of, refl, routed_to, rows_of_aggregate, same_place, served_to, slice_index, start, stored_event, subst, suc, sym, take, taken_ids, taken_in, taken_of_aggregate, carried_id, true, true≢false, was_kept, with_record, zero, ℕ, ◌%◌, ◌&&◌, ◌++◌, ◌<◌, ◌∙◌, ◌∷◌, ◌≡◌, ◌⊎◌}
 use Rattle.uuid.specs.Text.{by_index, digit_place, lower, nibble, parsed}
 use Rattle.uuid.proofs.RoundTrips.{parses_hyphenated}
 use Rattle.uuid.proofs.TextLemmas.{by_index_at, by_index_cong, by_index_length}
@@ -52,7 +52,7 @@ sent_message target row d h = grind (arith, nat_tests)
 
 pub target_tells : (target : Target) → TellsIds (dispatch_of target)
 target_tells target seq event d h =
-    ap told_id (sym (sent_message target (stored_event seq event) d h)) ∙ text_back event.id
+    ap carried_id (sym (sent_message target (stored_event seq event) d h)) ∙ text_back event.id
 
 -- ---- the rows of an aggregate among all rows, and among those of a place
 
@@ -252,12 +252,12 @@ module _ (target : Target) (rows : List Event) where
       begins_here arrived a records from f pass delivered order =
           rw (first, ← whole)
           (prefix_filter in_aggregate front (ids_of (routed_to (dispatch_of target) a.place rows))
-          (prefix_on front (firsts bytes_eq (filter_map told_id records))
-          (ids_of (routed_to (dispatch_of target) a.place rows)) (front_begins told_id records order.bound)
+          (prefix_on front (firsts bytes_eq (filter_map carried_id records))
+          (ids_of (routed_to (dispatch_of target) a.place rows)) (front_begins carried_id records order.bound)
           delivered.ids))
         where
           front : List (List ℕ)
-          front = firsts bytes_eq (filter_map told_id (take order.bound records))
+          front = firsts bytes_eq (filter_map carried_id (take order.bound records))
 
           passing : Arrival → Bool
           passing b = passes in_aggregate (told_by b)

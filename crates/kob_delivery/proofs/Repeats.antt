@@ -1,6 +1,6 @@
 -- How often a row stands on a partition: a batch that is the next under a producer id is of a row that has none there
 -- under this id.
-use Rattle.kob_delivery.proofs.Words.{AllByRecursion, Batch, Bool, Contains, Contains-append_right, Contents, Dispatching, Event, Hand, IsRecordOf, List, Next, Option, Place, Producer, Record, Sequence, Some, State, [], ap, arith, batch_of, bytes_eq, cases_Bool, false, filter, filter-append, filter_map, filter_map-append, history, ids_of, inl, inr, judge, later_than, length, length-append, length_push, list_any, list_any-append, map, map_push, nat_tests, records_of, refl, sequence_of, subst, sym, told_id, true, true≢false, ℕ, ◌++◌, ◌+◌, ◌∙◌, ◌∷◌, ◌≡◌, ◌≤◌, ◌⊎◌}
+use Rattle.kob_delivery.proofs.Words.{AllByRecursion, Batch, Bool, Contains, Contains-append_right, Contents, Dispatching, Event, Hand, IsRecordOf, List, Next, Option, Place, Producer, Record, Sequence, Some, State, [], ap, arith, batch_of, bytes_eq, cases_Bool, false, filter, filter-append, filter_map, filter_map-append, history, ids_of, inl, inr, judge, later_than, length, length-append, length_push, list_any, list_any-append, map, map_push, nat_tests, records_of, refl, sequence_of, subst, sym, carried_id, true, true≢false, ℕ, ◌++◌, ◌+◌, ◌∙◌, ◌∷◌, ◌≡◌, ◌≤◌, ◌⊎◌}
 use Rattle.kob_partition.proofs.Keeping.{records_of_push}
 use Rattle.kob_delivery.specs.Repeats.{copies_of}
 use Rattle.kob_delivery.proofs.Lists.{all_in, any_last, bytes_are, first_is, same_bytes, same_some}
@@ -17,16 +17,16 @@ copies_more : (id : List ℕ) (log : List Batch) (b : Batch)
     → copies id (log ++ b ∷ []) ≡ copies id log + copies_of id b.records
 copies_more id log b =
     ap (copies_of id) (records_of_push log b)
-    ∙ ap (λ ids. length (filter (bytes_eq id) ids)) (filter_map-append told_id (records_of log) b.records)
-    ∙ ap length (filter-append (bytes_eq id) (filter_map told_id (records_of log)) (filter_map told_id b.records))
-    ∙ length-append (filter (bytes_eq id) (filter_map told_id (records_of log)))
-    (filter (bytes_eq id) (filter_map told_id b.records))
+    ∙ ap (λ ids. length (filter (bytes_eq id) ids)) (filter_map-append carried_id (records_of log) b.records)
+    ∙ ap length (filter-append (bytes_eq id) (filter_map carried_id (records_of log)) (filter_map carried_id b.records))
+    ∙ length-append (filter (bytes_eq id) (filter_map carried_id (records_of log)))
+    (filter (bytes_eq id) (filter_map carried_id b.records))
 
-one_copy : (id told : List ℕ) (x : Record) → told_id x ≡ Some told → bytes_eq id told ≡ true
+one_copy : (id told : List ℕ) (x : Record) → carried_id x ≡ Some told → bytes_eq id told ≡ true
     → copies_of id (x ∷ []) ≡ 1
 one_copy id told x tells on = rw (tells, on) refl
 
-no_copy : (id told : List ℕ) (x : Record) → told_id x ≡ Some told → bytes_eq id told ≡ false
+no_copy : (id told : List ℕ) (x : Record) → carried_id x ≡ Some told → bytes_eq id told ≡ false
     → copies_of id (x ∷ []) ≡ 0
 no_copy id told x tells off = rw (tells, off) refl
 
@@ -46,7 +46,7 @@ pub copies_none : (route : Dispatching) (q : Place) (rows : List Event) (id : Li
     → AllByRecursion (IsRecordOf route q rows) records → copies_of id records ≡ 0
 copies_none route q rows id [] tells new each = refl
 copies_none route q rows id (x ∷ records) tells new ((row, there, to), each) =
-    let told : told_id x ≡ Some row.id =
+    let told : carried_id x ≡ Some row.id =
     all_in (TellsItsId route) rows row there tells (record { place = q; message = x }) to in
     let apart : bytes_eq id row.id ≡ false =
     all_in (λ (r : Event). bytes_eq id r.id ≡ false) rows row there
@@ -223,7 +223,7 @@ few_after_batch route rows c p ss h log issued x restarts k to comes f = record 
     waits : waiting s ≡ h.event ∷ front.0
     waits = k.held.kept.waits ∙ front.1
 
-    told : told_id x ≡ Some h.event.id
+    told : carried_id x ≡ Some h.event.id
     told =
         let rows_are : rows ≡ k.sent ++ h.event ∷ front.0 =
         k.held.kept.rows_are ∙ ap (λ (ys : List Event). k.sent ++ ys) front.1 in

@@ -1,5 +1,5 @@
 -- What a run of a router keeps, beside the log of one partition.
-use Rattle.kob_delivery.proofs.Words.{All-contains, All-from_recursion, AllByRecursion, Batch, Called, Contains, Contains-append_right, Contains-push, Contents, Dispatch, Dispatching, Event, Hand, List, May, Move, Next, None, Option, OutboxEvent, Place, Producer, Record, Recorded, Repeat, Restarted, Sent, Sequence, Some, State, Swept, Took, [], after, after_use, ap, append-nil, append_assoc, arith, batch_of, both_ways, false, goes_to, history, inl, inr, judge, length, length_push, nat_tests, next_seq, place_of, refl, same_place, sent_batch, sequence_of, slice_get, start, stored_event, subst, sym, told_id, with_sequence_for, ℕ, ◌++◌, ◌+◌, ◌∙◌, ◌∷◌, ◌≡◌, ◌⊎◌}
+use Rattle.kob_delivery.proofs.Words.{All-contains, All-from_recursion, AllByRecursion, Batch, Called, Contains, Contains-append_right, Contains-push, Contents, Dispatch, Dispatching, Event, Hand, List, May, Move, Next, None, Option, OutboxEvent, Place, Producer, Record, Recorded, Repeat, Restarted, Sent, Sequence, Some, State, Swept, Took, [], after, after_use, ap, append-nil, append_assoc, arith, batch_of, both_ways, false, goes_to, history, inl, inr, judge, length, length_push, nat_tests, next_seq, place_of, refl, same_place, sent_batch, sequence_of, slice_get, start, stored_event, subst, sym, carried_id, with_sequence_for, ℕ, ◌++◌, ◌+◌, ◌∙◌, ◌∷◌, ◌≡◌, ◌⊎◌}
 use Rattle.kob_delivery.proofs.Logged.{IsKept, kept_at_start, kept_recorded, kept_swept, kept_marked, IsLogged, logged_later, logged_more_rows, IsBatchOf, logged_again, logged_elsewhere, logged_first, AreCounted, counted_none, no_history, sequence_prepared, wrapped, IsNumber, apart_wrapped, counted_last, history_last, idem_of, next_base, next_wrapped, repeat_base, sequence_used_elsewhere, sequence_used_here}
 use Rattle.kob_delivery.proofs.Lists.{AreAmong, all_append, among_more, bytes_turned, get_front, first_is, same_here, same_some}
 use Rattle.kob_delivery.proofs.Rows.{recorded}
@@ -10,7 +10,7 @@ here (Some row) = row ∷ []
 
 -- what the route makes of a row tells the row's id
 abbrev pub TellsItsId : Dispatching → Event → Type 0
-TellsItsId route row = (d : Dispatch) → route row ≡ Some d → told_id d.message ≡ Some row.id
+TellsItsId route row = (d : Dispatch) → route row ≡ Some d → carried_id d.message ≡ Some row.id
 
 -- the same of every event that can be recorded
 abbrev pub TellsIds : Dispatching → Type 0

@@ -1,5 +1,5 @@
 -- Two events of one aggregate, and where they go: for the example of a history.
-use Rattle.kob_delivery.proofs.ExampleWords.{AllByRecursion, Batch, Change, Event, Global, Hand, IsAscii, IsUtf8-from_ascii, List, OutboxEvent, Place, Producer, Record, Some, String, Target, [], arith, batch_of, bytes_eq, codes, dispatch_of, false, id_text, null_ptr, refl, stored_event, suc, told_id, zero, ℕ, ◌<◌, ◌∷◌, ◌≡◌}
+use Rattle.kob_delivery.proofs.ExampleWords.{AllByRecursion, Batch, Change, Event, Global, Hand, IsAscii, IsUtf8-from_ascii, List, OutboxEvent, Place, Producer, Record, Some, String, Target, [], arith, batch_of, bytes_eq, codes, dispatch_of, false, id_text, null_ptr, refl, stored_event, suc, carried_id, zero, ℕ, ◌<◌, ◌∷◌, ◌≡◌}
 use Rattle.bstr.proofs.Computing.{computing}
 use Rattle.uuid.specs.Text.{by_index}
 use Rattle.kob_router.specs.declared.settings.RouteBy.TheVariants as by
@@ -86,10 +86,10 @@ producer n = record { id = n; epoch = 0 }
 abbrev pub batch : Producer → ℕ → ℕ → Batch
 batch p base n = batch_of p base (message n)
 
-pub first_told : told_id (message 1) ≡ Some (id_text (id_of 1))
+pub first_told : carried_id (message 1) ≡ Some (id_text (id_of 1))
 unfolding by_index
 first_told = refl
 
-pub second_told : told_id (message 2) ≡ Some (id_text (id_of 2))
+pub second_told : carried_id (message 2) ≡ Some (id_text (id_of 2))
 unfolding by_index
 second_told = refl

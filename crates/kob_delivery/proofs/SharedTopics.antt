@@ -1,6 +1,6 @@
 -- A history of a consumer with a topic of its service and one of another service, which sends an event of its own: all
 -- that the law of topics of several services asks holds of it, and the one for private topics does not apply.
-use Rattle.kob_delivery.proofs.ExampleWords.{ArePrivate, AreRoutedTo, AreSharedTopics, Batch, Bool, Contains, Done, Entry, Event, Fetch, InitProducerId, IsConsumerPart, IsHistory, IsSharedTopic, IsServicePart, List, None, OffsetCommit, OffsetFetch, Place, Produce, Producer, ReachesInOrder, Some, Subscription, View, [], ap, arith, codes, dispatch_of, false, get_or, holds_a_prefix_among, id_text, ids_of, inl, inr, is_one_of, nat_tests, opening_view, place_of, refl, rows_of, rows_of_aggregate, subst, suc, sym, taken_ids, told_id, true, with_batch, with_commit, with_producer, zero, ◌||◌, ◌∙◌, ◌∷◌, ◌≡◌}
+use Rattle.kob_delivery.proofs.ExampleWords.{ArePrivate, AreRoutedTo, AreSharedTopics, Batch, Bool, Contains, Done, Entry, Event, Fetch, InitProducerId, IsConsumerPart, IsHistory, IsSharedTopic, IsServicePart, List, None, OffsetCommit, OffsetFetch, Place, Produce, Producer, ReachesInOrder, Some, Subscription, View, [], ap, arith, codes, dispatch_of, false, get_or, holds_a_prefix_among, id_text, ids_of, inl, inr, is_one_of, nat_tests, opening_view, place_of, refl, rows_of, rows_of_aggregate, subst, suc, sym, taken_ids, carried_id, true, with_batch, with_commit, with_producer, zero, ◌||◌, ◌∙◌, ◌∷◌, ◌≡◌}
 use Rattle.uuid.specs.Text.{by_index}
 use Rattle.kob_rights.specs.declared.on_groups.OffsetCommit.{OffsetCommit as CommitRequest}
 use Rattle.kob_rights.specs.declared.on_groups.OffsetFetch.{OffsetFetch as PositionRequest}
@@ -167,7 +167,7 @@ none_goes_there r (zero, within, at) =
     differ (sym (ap (λ (p : Place). p.topic) same ∙ r.topic_is))
 none_goes_there r (suc k, within, at) = absurd (omega (arith, within))
 
-none_carried : is_one_of (ids_of rows) (told_id (message 2)) ≡ false
+none_carried : is_one_of (ids_of rows) (carried_id (message 2)) ≡ false
 none_carried = rw second_told (ap (λ (b : Bool). b || false) first_is_new)
 
 shared_here : IsSharedTopic (dispatch_of target) rows 1 2 (codes "g") (codes "t") journal

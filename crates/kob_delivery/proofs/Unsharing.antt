@@ -1,5 +1,5 @@
 -- Which topics rows are routed to, and which event ids records carry.
-use Rattle.kob_delivery.proofs.Words.{Bool, Dispatching, Event, List, None, Option, Place, Produce, Record, Request, Some, [], ap, bytes_eq, event_id, false, id_text, list_any, map, place_of, refl, slice_get, suc, sym, told_id, true, true≢false, zero, ℕ, ◌||◌, ◌∙◌, ◌∷◌, ◌≡◌}
+use Rattle.kob_delivery.proofs.Words.{Bool, Dispatching, Event, List, None, Option, Place, Produce, Record, Request, Some, [], ap, bytes_eq, event_id, false, id_text, list_any, map, place_of, refl, slice_get, suc, sym, carried_id, true, true≢false, zero, ℕ, ◌||◌, ◌∙◌, ◌∷◌, ◌≡◌}
 use Rattle.std.proofs.Common.{IsTrue, not, ◌↔◌}
 use Rattle.kob_delivery.proofs.Lists.{all_in, bytes_are, contains_at, same_bytes}
 use Rattle.kob_delivery.proofs.Opening.{none_opens, none_passes}
@@ -20,16 +20,16 @@ of_rows id (row ∷ rows) = ap (λ b. bytes_eq (id_text id) (id_text row.event.i
 pub carried : (message : Record) (id : List ℕ) (rows : List Row) (found : Option (List ℕ)) (carries : Bool)
     → found ≡ event_id message → found ≡ Some id
     → carries ≡ list_any (λ (row : Row). bytes_eq (id_text id) (id_text row.event.id)) rows
-    → carries ≡ is_one_of (ids_of (map stored_row rows)) (told_id message)
+    → carries ≡ is_one_of (ids_of (map stored_row rows)) (carried_id message)
 carried message id rows found carries told is any =
     let same : event_id message ≡ Some id = sym told ∙ is in rw same (any ∙ of_rows id rows)
 
 -- a PRODUCE sends none if no record carries one
 pub sent_none : (ids : List (List ℕ)) (request : Request) (asked : ProduceRequest) (carried : Bool)
-    → request ≡ Produce asked → carried ≡ list_any (λ message. is_one_of ids (told_id message)) asked.batch.records
+    → request ≡ Produce asked → carried ≡ list_any (λ message. is_one_of ids (carried_id message)) asked.batch.records
     → IsTrue (not carried) ↔ SendsNone ids request
 sent_none ids request asked carried is any =
-    rw is (none_opens (λ message. is_one_of ids (told_id message)) asked.batch.records carried (not carried) any refl)
+    rw is (none_opens (λ message. is_one_of ids (carried_id message)) asked.batch.records carried (not carried) any refl)
 
 -- ---- routed rows
 

@@ -16,7 +16,7 @@ pub use Rattle.kob_outbox.specs.declared.change.Change.{Change}
 pub use Rattle.kob_outbox.specs.declared.event.OutboxEvent.{OutboxEvent}
 pub use Rattle.kob_partition.proofs.Keeping.{records_of_append, records_of_push}
 pub use Rattle.kob_partition.specs.Retained.{history_from, sent_in}
-pub use Rattle.kob_delivery.specs.Delivered.{IsCopy, IsDelivered, IsPrefixOf, IsRecordOf, IsSent, IsTakenInOrder, IsWaitingOrSent, ReachesInOrder, firsts, from_place, goes_to, ids_of, is_of_aggregate, routed_to, rows_of, rows_of_aggregate, taken_ids, taken_of_aggregate, told_id, with_new}
+pub use Rattle.kob_delivery.specs.Delivered.{IsCopy, IsDelivered, IsPrefixOf, IsRecordOf, IsSent, IsTakenInOrder, IsWaitingOrSent, ReachesInOrder, firsts, from_place, goes_to, ids_of, is_of_aggregate, routed_to, rows_of, rows_of_aggregate, taken_ids, taken_of_aggregate, carried_id, with_new}
 pub use Rattle.kob_delivery.specs.View.{ActsAlone, ArePrivate, Commits, Deletes, IsNeverDeleted, IsNoDeletion, IsOwnCommit, IsOwnProduce, IsReserved, IsReservedFor, IsSoleCommitter, IsSoleProducer, NoSuperUser, Produces, Accepts, Does, Gives, IsGiven, IsHistory, IsSameView, Step, View, batches_of, judged_in, opening_view, Reads, read_from, view_after, view_of, with_batch, with_commit, with_producer}
 pub use Rattle.kob_delivery.specs.Served.{IsConsumerPart, IsServicePart, served_to}
 pub use Rattle.kob_delivery.specs.Types.{AreServed, Arrival, Body, Call, DeleteGroups, DeleteTopics, Dispatching, Entry, Fetch, InitProducerId, IsConsumerRun, OffsetCommit, OffsetFetch, Place, Plain, Produce, Reply, Request, Retained, Served, Settings, Subscription, dispatch_of, history, id_text, open_state, place_at, plain_meaning, records_of, same_place, stored_event, taken_in, taken_of}

@@ -28,8 +28,8 @@ abbrev pub ids_of : List Event → List (List ℕ)
 ids_of rows = map (λ row. row.id) rows
 
 -- the event id that a record carries, in the form in which outbox and inbox keep it
-abbrev pub told_id : Record → Option (List ℕ)
-told_id message = option_map id_text (event_id message)
+abbrev pub carried_id : Record → Option (List ℕ)
+carried_id message = option_map id_text (event_id message)
 
 -- what is made of a row goes to this place
 abbrev pub goes_to : Place → Option Dispatch → Bool
@@ -51,7 +51,7 @@ IsRecordOf route place rows message =
 pub record IsDelivered (route : Dispatching) (place : Place) (rows : List Event)
     (records : List Record) : Type 0 where
   pub ids :
-      IsPrefixOf (firsts bytes_eq (filter_map told_id records))
+      IsPrefixOf (firsts bytes_eq (filter_map carried_id records))
       (ids_of (routed_to route place rows))
   pub each : AllByRecursion (IsRecordOf route place rows) records
 

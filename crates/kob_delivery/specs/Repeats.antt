@@ -2,7 +2,7 @@
 use Rattle.std.specs.Prelude.{ℕ, ◌+◌, List, [], ◌∷◌, filter, length, bytes_eq}
 use Rattle.std.specs.List.{filter_map}
 use Rattle.kob_delivery.specs.Types.{Record, Move}
-use Rattle.kob_delivery.specs.Delivered.{told_id}
+use Rattle.kob_delivery.specs.Delivered.{carried_id}
 use Rattle.kob_router.specs.Run.Move.{Restarted}
 
 -- how often the router was started again among the moves of a service
@@ -13,4 +13,4 @@ restarts_of (_ ∷ moves) = restarts_of moves
 
 -- how many of the records carry the event id
 abbrev pub copies_of : List ℕ → List Record → ℕ
-copies_of id records = length (filter (bytes_eq id) (filter_map told_id records))
+copies_of id records = length (filter (bytes_eq id) (filter_map carried_id records))

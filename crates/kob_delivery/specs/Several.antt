@@ -2,7 +2,7 @@
 use Rattle.std.specs.Prelude.{◌≡◌, ◌⊎◌, ℕ, List, Bool, false, bytes_eq, Contains, Option, None, Some, slice_get, take}
 use Rattle.std.specs.List.{list_any, AllByRecursion}
 use Rattle.kob_delivery.specs.Types.{Record, Request, Produce, Dispatching, Place, Entry}
-use Rattle.kob_delivery.specs.Delivered.{told_id, ids_of}
+use Rattle.kob_delivery.specs.Delivered.{carried_id, ids_of}
 use Rattle.kob_delivery.specs.View.{IsNeverDeleted, IsSoleCommitter, IsSoleProducer, Produces}
 use Rattle.kob_outbox.specs.Contents.{Event}
 use Rattle.kob_names.specs.Same.{same_text}
@@ -15,7 +15,7 @@ is_one_of ids (Some id) = list_any (bytes_eq id) ids
 
 -- the record carries none of these event ids
 abbrev pub CarriesNone : List (List ℕ) → Record → Type 0
-CarriesNone ids message = is_one_of ids (told_id message) ≡ false
+CarriesNone ids message = is_one_of ids (carried_id message) ≡ false
 
 -- nor does any record of the PRODUCE
 abbrev pub SendsNone : List (List ℕ) → Request → Type 0

@@ -2,7 +2,7 @@
 
 ghost use Rattle.std.specs.List.{list_any};
 ghost use Rattle.std.specs.Prelude.{◌≡◌, ◌↔◌, IfOk, IsTrue, MatchOption, bytes_eq, map};
-ghost use Rattle.kob_delivery.specs.Delivered.{ids_of, told_id};
+ghost use Rattle.kob_delivery.specs.Delivered.{ids_of, carried_id};
 ghost use Rattle.kob_delivery.specs.Several.{AreRoutedTo, AreSharedTopics, IsFirstUnshared};
 ghost use Rattle.kob_delivery.specs.Several.{IsSharedTopic, SendsNone, goes_to_topic, is_one_of};
 ghost use Rattle.kob_outbox.specs.Contents.{id_text, stored_row};
@@ -154,13 +154,13 @@ fn sends_none(request: &Request, rows: &[Row]) -> bool
 /// Whether one of the records carries an event id of the rows.
 fn carry_one(records: &[Record], rows: &[Row]) -> bool
     ensures { result ≡ list_any (λ message. is_one_of (ids_of (map stored_row rows.now))
-        (told_id message)) records.now }
+        (carried_id message)) records.now }
 {
     records.iter().any(|message| carries_one(message, rows))
 }
 
 fn carries_one(message: &Record, rows: &[Row]) -> bool
-    ensures { result ≡ is_one_of (ids_of (map stored_row rows.now)) (told_id message.now) }
+    ensures { result ≡ is_one_of (ids_of (map stored_row rows.now)) (carried_id message.now) }
 {
     match event_id(message) {
         Some(id) => is_one_of(id, rows),
