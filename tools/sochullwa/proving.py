@@ -1,6 +1,7 @@
 """Checks and builds over the libraries that `rt ci`, run at the top before, left in crates/*/out."""
 import functools
 import pathlib
+import shutil
 import subprocess
 from collections.abc import Iterable, Sequence
 
@@ -10,6 +11,8 @@ from sochullwa.repository import CRATES, Words, is_own, libraries
 @functools.cache
 def kit() -> pathlib.Path:
     """The folder of the kit."""
+    if not shutil.which("rt"):
+        raise SystemExit("there is no command rt: this needs the Rattle kit (README.md, Requirements)")
     page = subprocess.run(["rt", "doc"], capture_output=True, text=True, check=True).stdout
     return pathlib.Path(page.split()[0]).parent
 

@@ -35,6 +35,13 @@ class Kit(unittest.TestCase):
             it.start()
             self.addCleanup(it.stop)
 
+    def test_without_the_kit_it_is_said_what_is_missing(self) -> None:
+        with (
+            mock.patch.dict(os.environ, {"PATH": str(self.room)}),
+            self.assertRaisesRegex(SystemExit, "no command rt: this needs the Rattle kit"),
+        ):
+            proving.kit()
+
     def test_a_library_is_built_where_its_folder_is(self) -> None:
         self.assertEqual(proving.unbuilt(["low", "uuid"]), ["low"])
         proving.built("low").mkdir(parents=True)

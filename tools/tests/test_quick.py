@@ -28,3 +28,15 @@ class Quick(unittest.TestCase):
             self.assertEqual((pathlib.Path(folder) / "bin/kob").read_text(), "kob at -O1")
         self.assertEqual(levels, [("-O0", False), ("-O1", True)])
         self.assertEqual(said.getvalue().count("bin/kob "), 2)
+
+    def test_a_name_of_no_program_is_refused_before_any_is_built(self) -> None:
+        for name in ("kobb", "kob_names"):
+            with (
+                mock.patch.object(quick.sys, "argv", ["quick", "kob", name]),
+                mock.patch.object(quick, "build", mock.Mock()) as build,
+                contextlib.redirect_stderr(io.StringIO()) as said,
+                self.assertRaises(SystemExit),
+            ):
+                quick.main()
+            build.assert_not_called()
+            self.assertIn(f"{name} is no program of crates/", said.getvalue())
