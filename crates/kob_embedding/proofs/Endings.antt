@@ -4,7 +4,7 @@ use Rattle.std.proofs.Common.{inl, inr}
 use Rattle.std.proofs.lemmas.List.{length-map}
 use Rattle.std.specs.List.{AllByRecursion}
 use Rattle.std.specs.Prelude.{IfErr, IsSome, MatchOption, slice_get}
-use Rattle.kob_embedding.specs.Running.{AreSteps, EndsSending, Moment, SendsFor, sending_after}
+use Rattle.kob_embedding.specs.Running.{AreSteps, AreTries, EndsSending, Moment, SendsFor, TriesFor, sending_after}
 use Rattle.kob_lines.specs.declared.program_fault.ProgramFault.{ProgramFault}
 use Rattle.kob_lines.specs.declared.program_fault.ProgramFault.TheVariants as program
 use Rattle.kob_outbox.specs.Contents.{Contents, Event, first_after, later_than, stored_row}
@@ -38,6 +38,16 @@ one_tick count before last now tick was made on = record {
     longer : (n count : ℕ) → n ≡ count → suc n ≡ count + 1
     longer n count is = omega arith
 
+few : (n count most : ℕ) → n ≡ count → count < most → suc n ≤ most
+few n count most is within = omega arith
+
+-- one tick more was made
+pub one_try : (count most : ℕ) (before last now : Moment) (tick : sent.Tick) → Sending count before last
+    → IsTick last.relayed now.relayed last.calls now.calls last.unmade now.unmade tick
+    → count < most → TriesFor most before now
+one_try count most before last now tick was made within =
+    (tick ∷ was.ticks, (last, was.made, made), (was.on, few (length was.ticks) count most was.many within))
+
 -- a tick ends the work
 pub sending_ends : (count most : ℕ) (before last now : Moment) (tick : sent.Tick)
     (ended : Result (Unit {0}) ProgramFault) → Sending count before last
@@ -47,11 +57,8 @@ sending_ends count most before last now tick (Ok done) was made is within = tt
 sending_ends count most before last now tick (Err fault) was made is within = (
   tick ∷ was.ticks,
   (last, was.made, made),
-  (was.on, few (length was.ticks) count most was.many within, inl is),
+  ((was.on, few (length was.ticks) count most was.many within), inl is),
 )
-  where
-    few : (n count most : ℕ) → n ≡ count → count < most → suc n ≤ most
-    few n count most is within = omega arith
 
 -- all ticks were made
 pub sending_used_up : (count most : ℕ) (before now : Moment) → Sending count before now → count ≡ most
@@ -64,7 +71,22 @@ sending_used_up count most before now was all =
         → count ≡ most → EndsSending most ticks program.Stopped
     ends [] count most on many all = (sym all ∙ sym many, refl)
     ends (tick ∷ ticks) count most on many all =
-        let is : length (tick ∷ ticks) ≡ most = many ∙ all in (on.1, omega (arith, is), inr (on.0, is, refl))
+        let is : length (tick ∷ ticks) ≡ most = many ∙ all in ((on.1, omega (arith, is)), inr (on.0, is, refl))
+
+pub tries_used_up : (count most : ℕ) (before now : Moment) → Sending count before now → count ≡ most
+    → TriesFor most before now
+tries_used_up count most before now was all = (was.ticks, was.made, tries was.ticks count most was.on was.many all)
+  where
+    tries : (ticks : List sent.Tick) (count most : ℕ)
+        → AllByRecursion (λ one. sending_after one ≡ None) ticks → length ticks ≡ count
+        → count ≡ most → AreTries most ticks
+    tries [] count most on many all = tt
+    tries (tick ∷ ticks) count most on many all =
+        let is : length (tick ∷ ticks) ≡ most = many ∙ all in (on.1, omega (arith, is))
+
+-- no tick was made
+pub no_try : (most : ℕ) (before now : Moment) → before ≡ now → TriesFor most before now
+no_try most before now same = ([], same, tt)
 
 -- only a tick that found no row ends the work well
 none_after : (route : Dispatching) (tick : sent.Tick) (moves : List Move) (now : State) (unmade then_unmade : ℕ)

@@ -85,12 +85,24 @@ AreSteps (tick ∷ ticks) before now =
     (last : Moment) × AreSteps ticks before last
     × IsTick last.relayed now.relayed last.calls now.calls last.unmade now.unmade tick
 
--- The work of sending all rows ends with this fault after these ticks, the latest first: that one
--- says so, or it is `Stopped` after as many as may be made. It went on after all others.
+-- these ticks, the latest first, are no more than may be made, and the work of sending all rows went
+-- on after all but the latest: only that one may have found no row
+abbrev pub AreTries : ℕ → List router_tick.Tick → Type 0
+AreTries most [] = Unit {0}
+AreTries most (tick ∷ ticks) =
+    AllByRecursion (λ one. sending_after one ≡ None) ticks × (length (tick ∷ ticks) ≤ most)
+
+-- some such ticks were made
+abbrev pub TriesFor : ℕ → Moment → Moment → Type 0
+TriesFor most before now =
+    (ticks : List router_tick.Tick) × AreSteps ticks before now × AreTries most ticks
+
+-- the work ends with this fault after these ticks: the latest says so, or it is `Stopped` after as
+-- many as may be made
 abbrev pub EndsSending : ℕ → List router_tick.Tick → ProgramFault → Type 0
 EndsSending most [] fault = (most ≡ 0) × (fault ≡ program.Stopped)
 EndsSending most (tick ∷ ticks) fault =
-    AllByRecursion (λ one. sending_after one ≡ None) ticks × (length (tick ∷ ticks) ≤ most)
+    AreTries most (tick ∷ ticks)
     × ((sending_after tick ≡ Some (Err fault))
     ⊎ ((sending_after tick ≡ None) × (length (tick ∷ ticks) ≡ most) × (fault ≡ program.Stopped)))
 

@@ -1,10 +1,11 @@
 //! The law of delivery of a service and a consumer without a plan.
 
-ghost use Rattle.std.specs.Prelude.{◌≡◌, ◌+◌, IfErr, IfOk, MatchOption, OnOk};
+ghost use Rattle.std.specs.Prelude.{◌≡◌, IfErr, OnOk};
 ghost use Rattle.kob_broker.specs.State.{State};
-ghost use Rattle.kob_delivery.specs.View.{ArePrivate, IsBreach, IsHistory, View, opening_view};
+ghost use Rattle.kob_delivery.specs.InTurn.{entries_of};
+ghost use Rattle.kob_delivery.specs.View.{IsHistory, View, opening_view};
 ghost use Rattle.kob_embedding.specs.declared.reaching.DeliveryFault.TheVariants.{Memory};
-ghost use Rattle.kob_embedding.specs.InTurn.{AreInTurn, entries_of};
+ghost use Rattle.kob_embedding.specs.InTurn.{AreInTurn};
 ghost use Rattle.kob_embedding.specs.Running.{HasPremises, IsLacking, ReachesReader};
 ghost use Rattle.kob_names.specs.declared.settings.Settings.{Settings};
 ghost use Rattle.kob_partition.specs.Retained.{Retained};
@@ -14,10 +15,8 @@ use crate::consumer_end::ConsumerEnd;
 use crate::part::first_unserved;
 use crate::service_end::ServiceEnd;
 use kob_delivery::{
-    Breach, a_legal_journal_is_a_history, an_inbox_holds_a_prefix_of_each_aggregate, first_breach,
+    Breach, a_legal_journal_is_a_history, an_inbox_holds_a_prefix_of_each_aggregate, breach_in_turn,
 };
-use kob_names::{Text, sum_of};
-use kob_router::Place;
 use kob_shared::{Journal, Recorded, journals_in_turn_are_legal};
 use std::alloc::{AllocError, Global};
 use thiserror::Error;
@@ -35,7 +34,7 @@ pub enum DeliveryFault {
     /// The same of the consumer.
     #[error("the journal has other calls of the consumer from call {0} on")]
     Consumer(usize),
-    /// The first entry that breaks a premise, as [`first_breach`] finds it.
+    /// The first entry that breaks a premise, as [`breach_in_turn`] finds it.
     #[error("an entry of the journal breaks a premise")]
     Premise(Breach),
 }
@@ -105,38 +104,4 @@ pub fn reaches_in_turn(
         Some(breach) => Err(DeliveryFault::Premise(breach)),
         None => Ok(()),
     }
-}
-
-/// The first entry of journals that follow one another which breaks a premise, as [`first_breach`]
-/// finds it. The error says that a number does not count the entries: memory holds fewer.
-fn breach_in_turn(
-    journals: &[&Journal],
-    sender: usize,
-    taker: usize,
-    group: &Text,
-    assignment: &[Place],
-) -> Result<Option<Breach>, AllocError>
-    ensures { IfOk result (λ found. MatchOption found
-        (ArePrivate sender taker group.now assignment.now (entries_of journals.now))
-        (IsBreach sender taker group.now assignment.now (entries_of journals.now))) }
-{
-    let mut before: usize = 0;
-    for journal in journals {
-        if let Some(breach) = first_breach(*journal, sender, taker, group, assignment) {
-            return Ok(Some(Breach {
-                assigned: breach.assigned,
-                premise: breach.premise,
-                entry: sum(before, breach.entry)?,
-            }));
-        }
-        before = sum(before, journal.len())?;
-    }
-    Ok(None)
-}
-
-/// The sum of two numbers of entries.
-fn sum(one: usize, other: usize) -> Result<usize, AllocError>
-    ensures { IfOk result (λ both. both ≡ one + other) }
-{
-    sum_of(one, other)
 }

@@ -1,7 +1,7 @@
 use Rattle.kob_embedding.proofs.Words.{Some, ap, refl, slice_get, subst, sym, take, take_all, ◌∙◌, ◌≡◌}
 use Rattle.kob_embedding.proofs.Followings.{history_of_made, seen_more, stranger_in}
 use Rattle.std.proofs.lemmas.Option.{slice_get-get_or}
-use Rattle.kob_embedding.specs.InTurn.{entries_of}
+use Rattle.kob_delivery.specs.InTurn.{entries_of}
 use Rattle.kob_embedding.specs.History.{AreMade, IsUnmade, after_all}
 use Rattle.kob_embedding.specs.Seen.{Shows}
 use Rattle.std.specs.Prelude.{MatchOption}

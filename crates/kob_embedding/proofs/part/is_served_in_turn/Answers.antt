@@ -1,6 +1,6 @@
 use Rattle.kob_embedding.proofs.Words.{served_to}
 use Rattle.kob_embedding.proofs.Servings.{none_unserved}
-use Rattle.kob_embedding.specs.InTurn.{entries_of}
+use Rattle.kob_delivery.specs.InTurn.{entries_of}
 use Rattle.kob_embedding.proofs.part.is_served_in_turn.Goals as goal
 
 pub returns : goal.returns

@@ -1,5 +1,5 @@
 use Rattle.kob_embedding.proofs.Words.{served_to, take, ◌≡◌}
-use Rattle.kob_embedding.specs.InTurn.{entries_of}
+use Rattle.kob_delivery.specs.InTurn.{entries_of}
 use Rattle.kob_embedding.specs.Pairing.{told_by}
 use Rattle.kob_embedding.proofs.part.own_entries.Given as goal
 

@@ -2,7 +2,7 @@ use Rattle.kob_embedding.proofs.Words.{ArePrivate, AreServed, Fetcher, ap, refl,
 use Rattle.kob_embedding.proofs.InTurn.{are_a_history}
 use Rattle.kob_embedding.proofs.Reachings.{delivered, private_in_it, served_in_it}
 use Rattle.kob_delivery.specs.View.{IsBreach}
-use Rattle.kob_embedding.specs.InTurn.{entries_of}
+use Rattle.kob_delivery.specs.InTurn.{entries_of}
 use Rattle.std.specs.Prelude.{MatchOption}
 use Rattle.kob_embedding.proofs.reaching.reaches_in_turn.Goals as goal
 

@@ -1,11 +1,21 @@
 use Rattle.kob_embedding.proofs.Words.{rules, sym, ◌≡◌}
-use Rattle.kob_embedding.proofs.Endings.{none_waits, one_tick, sending_ends}
+use Rattle.kob_embedding.proofs.Endings.{none_waits, one_tick, one_try, sending_ends}
 use Rattle.kob_embedding.specs.Running.{at}
 use Rattle.kob_embedding.proofs.running_service.RunningService.send_for.Goals as goal
 
 pub returns-in-Some-clause-sent : goal.returns-in-Some-clause-sent
 returns-in-Some-clause-sent g c =
     none_waits _ _ _ _ _ _ c.tick-tick.result c.in-Some.ended c.tick-tick.ensures.done (sym c.in-Some.ensures)
+
+pub returns-in-Some-clause-tries : goal.returns-in-Some-clause-tries
+returns-in-Some-clause-tries g c =
+    let old = c.args.self.now in
+    let was = c.loop.self in
+    let now = c.tick-tick.new.self in
+    one_try c.loop.counter c.args.most (at old.relayed (g.L.Line.calls old.line) (g.L.Line.unmade old.line))
+    (at was.relayed (g.L.Line.calls was.line) (g.L.Line.unmade was.line))
+    (at now.relayed (g.L.Line.calls now.line) (g.L.Line.unmade now.line)) c.tick-tick.result c.loop.invariant.4
+    c.tick-tick.ensures.done c.loop-test.true
 
 pub returns-in-Some-clause-ends : goal.returns-in-Some-clause-ends
 returns-in-Some-clause-ends g c =
