@@ -10,7 +10,7 @@ use crate::lines::only_event;
 use crate::listing::known_operation;
 use crate::question::{Access, Act, Asker};
 use crate::question_words::{asker_of, is_word, right_of, two_texts};
-use kob_names::{Batch, Items, Text};
+use kob_names::{Batch, Items, PlainValue, Text};
 use kob_rights::{Event, OffsetCommit, Produce, Request};
 use kob_script::{FaultKind, LineError, Word, events_of, text_of};
 use std::alloc::Global;
@@ -148,21 +148,19 @@ fn may_consume(
 }
 
 /// What a request asks, unless it is said to come from `*`.
-fn access_by(event: Event) -> Result<Access, LineError>
+fn access_by(alloc: Global, event: Event) -> Result<Access, LineError>
     ensures { Gives result (access_by event) }
 {
     if event.host.as_str() == "*" {
         drop(event);
         return Err(LineError::Fault(FaultKind::BadHost));
     }
-    let Event {
-        principal,
-        host,
-        request,
-    } = event;
     Ok(Access {
-        asker: Asker { principal, host },
-        act: Act::Request(request),
+        asker: Asker {
+            principal: event.principal.copy(alloc)?,
+            host: event.host.copy(alloc)?,
+        },
+        act: Act::Request(event.into_request()),
     })
 }
 
@@ -173,7 +171,7 @@ fn may_request(alloc: Global, words: &[Word<'_>]) -> Result<Access, LineError>
 {
     let asked = events_of(alloc, words, &None)?;
     match only_event(asked) {
-        Some(event) => access_by(event),
+        Some(event) => access_by(alloc, event),
         None => Err(LineError::Fault(FaultKind::BadLine)),
     }
 }
