@@ -1,5 +1,5 @@
 -- The bytes of a line are read one by one, and the words of options passed on one by one.
-use Rattle.kob_policy_text.proofs.Words.{List, [], ◌∷◌, true, append_assoc, append-nil, ap, arith, drop, drop_more, drop_of_length-le, get_or, held_at, length, nat_tests, next_place, no_cells, no_words, refl, sym, with_cell_byte, with_shell_byte, ℕ, ◌++◌, ◌+◌, ◌<◌, ◌≡◌, ◌≤◌}
+use Rattle.kob_policy_text.proofs.Words.{Bor, List, [], ◌∷◌, true, append_assoc, append-nil, ap, arith, drop, drop_more, drop_of_length-le, get_or, held_at, length, nat_tests, next_place, no_cells, no_words, refl, sym, texts, with_cell_byte, with_shell_byte, ℕ, ◌++◌, ◌+◌, ◌<◌, ◌≡◌, ◌≤◌}
 use Rattle.kob_policy_text.specs.Lines.{is_for_other_kind}
 use Rattle.kob_policy_text.specs.Options.{held_options}
 use Rattle.kob_script.specs.Words.{Word}
@@ -47,15 +47,16 @@ pub cells_end : (cells : Cells) (line : List ℕ) (i : ℕ)
 unfolding cells_in
 cells_end cells line i kept past = rw (sym (all_read cells _ line i kept past)) refl
 
-pub passes_more : (place : Place) (words : List (List ℕ)) (i : ℕ) (d word : List ℕ) (out new whole : List (List ℕ))
-    → out ++ held_options place (drop i words) ≡ whole → i < length words → word ≡ get_or words i d
-    → new ≡ out ++ held_at place word → new ++ held_options (next_place place word) (drop (i + 1) words) ≡ whole
+pub passes_more : (place : Place) (words : List (Bor (List ℕ))) (i : ℕ) (d word : Bor (List ℕ)) (out new whole : List (List ℕ))
+    → out ++ held_options place (texts (drop i words)) ≡ whole → i < length words → word ≡ get_or words i d
+    → new ≡ out ++ held_at place word.now
+    → new ++ held_options (next_place place word.now) (texts (drop (i + 1) words)) ≡ whole
 unfolding held_options
 passes_more place words i d word out new whole kept below is more =
     grind (arith, nat_tests, drop_more, append_assoc)
 
-pub passes_all : (place : Place) (words : List (List ℕ)) (i : ℕ) (out whole : List (List ℕ))
-    → out ++ held_options place (drop i words) ≡ whole → length words ≤ i → out ≡ whole
+pub passes_all : (place : Place) (words : List (Bor (List ℕ))) (i : ℕ) (out whole : List (List ℕ))
+    → out ++ held_options place (texts (drop i words)) ≡ whole → length words ≤ i → out ≡ whole
 unfolding held_options
 passes_all place words i out whole kept past = grind (arith, nat_tests, drop_of_length-le, append-nil)
 

@@ -9,7 +9,7 @@ use Rattle.kob_names.specs.declared.kinds.Permission.TheVariants.{Allow, Deny}
 use Rattle.kob_authorizer.proofs.Entries.{at_head}
 use Rattle.kob_policy_review.proofs.Changing.{from_flat, in_flat}
 use Rattle.kob_policy_review.proofs.Standing.{first_or_rest}
-use Rattle.kob_policy_text.specs.Steps.{addition, additions, is_among, is_only, removal, removals, steps}
+use Rattle.kob_policy_text.specs.Steps.{additions, is_among, is_only, removals, step_on, steps}
 use Rattle.kob_policy_text.specs.declared.commands.Step.{Step}
 use Rattle.kob_policy_text.specs.declared.commands.Step.TheVariants.{Add, Remove}
 use Rattle.kob_policy_text.proofs.Doing.{Entries, Has, among_has, has_among, cases_has, parted, after_steps, later, from_either, stays, comes, goes}
@@ -52,14 +52,14 @@ module _ (before after : Entries) where
   addition_is : (permission : Permission) (binding : Binding)
       → Contains (additions permission before after) (Add binding)
       → Comes permission binding
-  unfolding additions addition
+  unfolding additions step_on
   addition_is permission binding there =
-      let (entry, (in_after, adds)) = from_flat (addition permission before) after (Add binding) there in
+      let (entry, (in_after, adds)) = from_flat (step_on true permission before) after (Add binding) there in
       go entry in_after (cases_Bool (is_only permission before entry)) adds
     where
       go : (entry : ℕ × Binding) → Contains after entry
           → (is_only permission before entry ≡ true) ⊎ (is_only permission before entry ≡ false)
-          → Contains (addition permission before entry) (Add binding) → Comes permission binding
+          → Contains (step_on true permission before entry) (Add binding) → Comes permission binding
       go entry in_after (inl passes) adds =
           elim (first_or_rest (Add entry.1) [] (Add binding) (rw passes at adds)) [
             | inl same ↦ (
@@ -73,22 +73,22 @@ module _ (before after : Entries) where
 
   is_addition : (permission : Permission) (binding : Binding) → Comes permission binding
       → Contains (additions permission before after) (Add binding)
-  unfolding additions addition
+  unfolding additions step_on
   is_addition permission binding ((entry, (there, is)), (permits, apart)) =
-      in_flat (addition permission before) after entry (Add binding) there
+      in_flat (step_on true permission before) after entry (Add binding) there
       (rw (only_passes permission before entry binding is permits apart)
       (subst (λ (b : Binding). Contains (Add entry.1 ∷ []) (Add b)) is (at_head (Add entry.1) [])))
 
   no_removal : (permission : Permission) (binding : Binding)
       → ¬ Contains (additions permission before after) (Remove binding)
-  unfolding additions addition
+  unfolding additions step_on
   no_removal permission binding there =
-      let (entry, (in_after, adds)) = from_flat (addition permission before) after (Remove binding) there in
+      let (entry, (in_after, adds)) = from_flat (step_on true permission before) after (Remove binding) there in
       go entry (cases_Bool (is_only permission before entry)) adds
     where
       go : (entry : ℕ × Binding)
           → (is_only permission before entry ≡ true) ⊎ (is_only permission before entry ≡ false)
-          → Contains (addition permission before entry) (Remove binding) → ⊥
+          → Contains (step_on true permission before entry) (Remove binding) → ⊥
       go entry (inl passes) adds =
           elim (first_or_rest (Add entry.1) [] (Remove binding) (rw passes at adds)) [
             | inl same ↦ cc
@@ -100,14 +100,14 @@ module _ (before after : Entries) where
   removal_is : (permission : Permission) (binding : Binding)
       → Contains (removals permission before after) (Remove binding)
       → Goes permission binding
-  unfolding removals removal
+  unfolding removals step_on
   removal_is permission binding there =
-      let (entry, (in_before, removes)) = from_flat (removal permission after) before (Remove binding) there in
+      let (entry, (in_before, removes)) = from_flat (step_on false permission after) before (Remove binding) there in
       go entry in_before (cases_Bool (is_only permission after entry)) removes
     where
       go : (entry : ℕ × Binding) → Contains before entry
           → (is_only permission after entry ≡ true) ⊎ (is_only permission after entry ≡ false)
-          → Contains (removal permission after entry) (Remove binding) → Goes permission binding
+          → Contains (step_on false permission after entry) (Remove binding) → Goes permission binding
       go entry in_before (inl passes) removes =
           elim (first_or_rest (Remove entry.1) [] (Remove binding) (rw passes at removes)) [
             | inl same ↦ (
@@ -121,21 +121,21 @@ module _ (before after : Entries) where
 
   pub is_removal : (permission : Permission) (binding : Binding) → Goes permission binding
       → Contains (removals permission before after) (Remove binding)
-  unfolding removals removal
+  unfolding removals step_on
   is_removal permission binding ((entry, (there, is)), (permits, apart)) =
-      in_flat (removal permission after) before entry (Remove binding) there
+      in_flat (step_on false permission after) before entry (Remove binding) there
       (rw (only_passes permission after entry binding is permits apart)
       (subst (λ (b : Binding). Contains (Remove entry.1 ∷ []) (Remove b)) is (at_head (Remove entry.1) [])))
 
   no_addition : (permission : Permission) (binding : Binding)
       → ¬ Contains (removals permission before after) (Add binding)
-  unfolding removals removal
+  unfolding removals step_on
   no_addition permission binding there =
-      let (entry, (in_before, removes)) = from_flat (removal permission after) before (Add binding) there in
+      let (entry, (in_before, removes)) = from_flat (step_on false permission after) before (Add binding) there in
       go entry (cases_Bool (is_only permission after entry)) removes
     where
       go : (entry : ℕ × Binding) → (is_only permission after entry ≡ true) ⊎ (is_only permission after entry ≡ false)
-          → Contains (removal permission after entry) (Add binding) → ⊥
+          → Contains (step_on false permission after entry) (Add binding) → ⊥
       go entry (inl passes) removes =
           elim (first_or_rest (Remove entry.1) [] (Add binding) (rw passes at removes)) [
             | inl same ↦ cc

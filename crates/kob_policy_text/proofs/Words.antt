@@ -26,7 +26,7 @@ pub use Rattle.std.proofs.Common.{Bool, Err, is_none, List, None, Ok, Result, []
 pub use Rattle.std.proofs.lemmas.Bool.Decides.{nat_tests}
 pub use Rattle.std.proofs.lemmas.Iterator.Consumers.{YieldsList-at, YieldsList-from_filter, map_from_collect}
 pub use Rattle.std.proofs.lemmas.Iterator.Splits.{YieldsList-from_slice_split}
-pub use Rattle.std.proofs.lemmas.List.{drop_more, nil_from_length}
+pub use Rattle.std.proofs.lemmas.List.{drop_more, map-append, nil_from_length}
 pub use Rattle.std.proofs.lemmas.Result.{err_from_is_err_and}
 pub use Rattle.std.proofs.lemmas.Str.{IsUtf8-from_is_utf8, is_utf8-from_IsUtf8}
 pub use Rattle.std.specs.Borrow.{Bor}

@@ -57,6 +57,10 @@ held_name text = if is_other_kind text then other_principal else text
 abbrev pub user_in : List ℕ → Result (List ℕ) FaultKind
 user_in bytes = text_in bytes >>= λ text. principal_of (held_name text)
 
+-- the host that bytes name
+abbrev pub host_in : List ℕ → Result (List ℕ) FaultKind
+host_in bytes = text_in bytes >>= host_of
+
 -- The parts of bytes around a mark.
 
 -- what stands before a place, and what stands after a mark there
@@ -154,14 +158,15 @@ abbrev pub holder_by : Option Operation → List ℕ → Result (List ℕ) Fault
 holder_by None user = principal_of other_operation
 holder_by (Some operation) user = Ok user
 
+abbrev pub holder_of : Option Operation → List ℕ → Result (List ℕ) FaultKind
+holder_of operation bytes = user_in bytes >>= holder_by operation
+
 unfoldable pub grant_of : GrantWords → Result Grant FaultKind
 grant_of words = do
   permission ← ok_or (permission_named (unclosed words.permission)) BadWord
   operation ← ok_or (listed_operation words.operation) BadWord
-  user ← user_in words.principal
-  principal ← holder_by operation user
-  text ← text_in words.host
-  host ← host_of text
+  principal ← holder_of operation words.principal
+  host ← host_in words.host
   Ok (record {
     permission = permission;
     principal = principal;
@@ -177,32 +182,38 @@ abbrev pub one_principal : List ℕ → Result (List ℕ) FaultKind
 one_principal text = if holds_mark text (codes ")(principal=") then Err BadLine else Ok text
 
 -- (principal=PRINCIPAL, host=HOST, operation=OPERATION, permissionType=PERMISSION)
-unfoldable pub newer_grant : List ℕ → Result Item FaultKind
-newer_grant line = do
+unfoldable pub newer_words : List ℕ → Result GrantWords FaultKind
+newer_words line = do
   inside ← around_first line (codes "(principal=")
   by_permission ← around_last inside.1 (codes ", permissionType=")
   by_operation ← around_last by_permission.0 (codes ", operation=")
   by_host ← around_last by_operation.0 (codes ", host=")
   principal ← one_principal by_host.0
-  grant_item (record {
+  Ok (record {
     principal = principal;
     host = by_host.1;
     operation = by_operation.1;
     permission = by_permission.1;
   })
 
+abbrev pub newer_grant : List ℕ → Result Item FaultKind
+newer_grant line = newer_words line >>= grant_item
+
 -- PRINCIPAL has PERMISSION permission for operations: OPERATION from hosts: HOST
-unfoldable pub older_grant : List ℕ → Result Item FaultKind
-older_grant line = do
+unfoldable pub older_words : List ℕ → Result GrantWords FaultKind
+older_words line = do
   by_host ← around_last line (codes " from hosts: ")
   by_operation ← around_last by_host.0 (codes " permission for operations: ")
   by_permission ← around_last by_operation.0 (codes " has ")
-  grant_item (record {
+  Ok (record {
     principal = by_permission.0;
     host = by_host.1;
     operation = by_operation.1;
     permission = by_permission.1;
   })
+
+abbrev pub older_grant : List ℕ → Result Item FaultKind
+older_grant line = older_words line >>= grant_item
 
 -- what the bindings below a heading are on, nothing where it is left out
 abbrev pub headed : Option ResourceKind → PatternKind → List ℕ → Option Target

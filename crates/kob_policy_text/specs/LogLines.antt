@@ -7,11 +7,11 @@ use Rattle.std.specs.Str.{bytes_eq}
 use Rattle.kob_names.specs.declared.kinds.Operation.{Operation}
 use Rattle.kob_names.specs.declared.kinds.ResourceKind.{ResourceKind}
 use Rattle.kob_script.specs.Script.{lines_in}
-use Rattle.kob_script.specs.Words.{◌>>=◌, host_of, text_in}
+use Rattle.kob_script.specs.Words.{◌>>=◌, text_in}
 use Rattle.kob_script.specs.declared.fault.FaultKind.{FaultKind}
 use Rattle.kob_script.specs.declared.fault.FaultKind.TheVariants.{BadLine, BadWord}
 use Rattle.kob_policy_text.specs.Listing.{around_first, around_last, first_parts, last_parts}
-use Rattle.kob_policy_text.specs.Listing.{listed_operation, listed_resource, other_principal, user_in}
+use Rattle.kob_policy_text.specs.Listing.{host_in, listed_operation, listed_resource, other_principal, user_in}
 use Rattle.kob_policy_text.specs.declared.log_line.Recorded.{Recorded}
 use Rattle.kob_policy_text.specs.declared.log_reading.Entry.{Entry}
 use Rattle.kob_policy_text.specs.declared.question.Asker.{Asker}
@@ -90,8 +90,7 @@ right_in operation resource = do
 unfoldable pub asker_in : List ℕ → List ℕ → Result Asker FaultKind
 asker_in principal host = do
   user ← user_in principal
-  text ← text_in host
-  from ← host_of text
+  from ← host_in host
   Ok (record { principal = user; host = from })
 
 -- an access of a kind on which rules can bear, by a principal of the kind `User`

@@ -54,6 +54,13 @@ right_of operation resource name = do
   text ← text_of name
   Ok (record { operation = kind; resource = on; name = full_name on text })
 
+-- two texts, one behind the other
+unfoldable pub two_texts : Word → Word → Result (List ℕ × List ℕ) FaultKind
+two_texts one other = do
+  first ← text_of one
+  second ← text_of other
+  Ok (first, second)
+
 abbrev pub by : Asker → Act → Access
 by asker act = record { asker = asker; act = act }
 
@@ -87,18 +94,16 @@ may_repeat principal host topic = do
 unfoldable pub may_transact : Word → Word → Word → Word → Result Access FaultKind
 may_transact principal host topic id = do
   asker ← asker_of principal host
-  name ← text_of topic
-  transaction ← text_of id
-  Ok (by asker (act.Transactional name transaction))
+  names ← two_texts topic id
+  Ok (by asker (act.Transactional names.0 names.1))
 
 -- PRINCIPAL HOST consume TOPIC GROUP: fetch from the topic and commit offsets for the group
 unfoldable pub may_consume : Word → Word → Word → Word → Result Access FaultKind
 may_consume principal host topic group = do
   asker ← asker_of principal host
-  name ← text_of topic
-  member ← text_of group
+  names ← two_texts topic group
   Ok (by asker (act.Request
-      (OffsetCommit (record { group = member; topic = name; partition = 0; offset = 0 }))))
+      (OffsetCommit (record { group = names.1; topic = names.0; partition = 0; offset = 0 }))))
 
 abbrev pub access_of : Event → Access
 access_of event =
@@ -178,10 +183,8 @@ who_produces topic = text_of topic >>= λ name. Ok (Who (right_to_write name) No
 
 -- who consume TOPIC GROUP
 abbrev pub who_consumes : Word → Word → Result Question FaultKind
-who_consumes topic group = do
-  name ← text_of topic
-  member ← text_of group
-  Ok (WhoConsumes (right_to_read Topic name) (right_to_read Group member))
+who_consumes topic group = two_texts topic group
+    >>= λ names. Ok (WhoConsumes (right_to_read Topic names.0) (right_to_read Group names.1))
 
 abbrev pub who_may : Word → Word → Word → Result Question FaultKind
 who_may operation resource name =
@@ -216,11 +219,18 @@ who_words (operation ∷ resource ∷ third ∷ fourth ∷ []) =
     else who_from operation resource third fourth
 who_words _ = Err BadLine
 
--- rights PRINCIPAL [HOST]
-abbrev pub rights_words : List Word → Result Question FaultKind
-rights_words (principal ∷ []) = text_of principal >>= principal_of >>= λ who. Ok (Rights who None)
-rights_words (principal ∷ host ∷ []) =
+-- rights PRINCIPAL
+abbrev pub rights_anywhere : Word → Result Question FaultKind
+rights_anywhere principal = text_of principal >>= principal_of >>= λ who. Ok (Rights who None)
+
+-- rights PRINCIPAL HOST
+abbrev pub rights_from : Word → Word → Result Question FaultKind
+rights_from principal host =
     asker_of principal host >>= λ asker. Ok (Rights asker.principal (Some asker.host))
+
+abbrev pub rights_words : List Word → Result Question FaultKind
+rights_words (principal ∷ []) = rights_anywhere principal
+rights_words (principal ∷ host ∷ []) = rights_from principal host
 rights_words _ = Err BadLine
 
 abbrev pub sees_words : List Word → Result Question FaultKind

@@ -43,20 +43,20 @@ abbrev pub is_only : Permission → List (ℕ × Binding) → ℕ × Binding →
 is_only permission others entry =
     same_permission entry.1.permission permission && not (is_among others entry.1)
 
--- the command on an entry, unless the others have its binding
-unfoldable pub addition : Permission → List (ℕ × Binding) → ℕ × Binding → List Step
-addition permission others entry =
-    if is_only permission others entry then Add entry.1 ∷ [] else []
+abbrev pub step_of : Bool → Binding → Step
+step_of true binding = Add binding
+step_of false binding = Remove binding
 
-unfoldable pub removal : Permission → List (ℕ × Binding) → ℕ × Binding → List Step
-removal permission others entry =
-    if is_only permission others entry then Remove entry.1 ∷ [] else []
+-- the command on an entry, which adds it or not, unless the others have its binding
+unfoldable pub step_on : Bool → Permission → List (ℕ × Binding) → ℕ × Binding → List Step
+step_on adds permission others entry =
+    if is_only permission others entry then step_of adds entry.1 ∷ [] else []
 
 unfoldable pub additions : Permission → List (ℕ × Binding) → List (ℕ × Binding) → List Step
-additions permission before after = flat_map (addition permission before) after
+additions permission before after = flat_map (step_on true permission before) after
 
 unfoldable pub removals : Permission → List (ℕ × Binding) → List (ℕ × Binding) → List Step
-removals permission before after = flat_map (removal permission after) before
+removals permission before after = flat_map (step_on false permission after) before
 
 abbrev pub steps : List (ℕ × Binding) → List (ℕ × Binding) → List Step
 steps before after =

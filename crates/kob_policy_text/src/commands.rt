@@ -1,11 +1,10 @@
 //! The commands that lead from one policy to another.
 
-ghost use Rattle.std.specs.Prelude.{◌≡◌, ◌++◌, IfOk, OnOk};
+ghost use Rattle.std.specs.Prelude.{◌≡◌, ◌==◌, ◌++◌, IfOk, OnOk, flat_map, length, not};
 ghost use Rattle.kob_authorizer.specs.Decide.{Contents};
 ghost use Rattle.kob_policy_text.specs.Policy.{contents_of};
-ghost use Rattle.kob_policy_text.specs.Steps.{HaveSameSettings, KeepAnswers, addition, additions};
-ghost use Rattle.kob_policy_text.specs.Steps.{exactly, is_among, is_only, pattern_of, removal};
-ghost use Rattle.kob_policy_text.specs.Steps.{removals, steps};
+ghost use Rattle.kob_policy_text.specs.Steps.{HaveSameSettings, KeepAnswers, exactly, is_among};
+ghost use Rattle.kob_policy_text.specs.Steps.{is_only, pattern_of, step_of, step_on, steps};
 
 use crate::judge::Judge;
 use kob_authorizer::Authorizer;
@@ -39,7 +38,7 @@ fn pattern_of(kind: PatternKind) -> FilterPattern
 }
 
 /// A filter that takes equal bindings alone.
-pub fn exactly(alloc: Global, binding: &Binding) -> Result<BindingFilter, AllocError>
+fn exactly(alloc: Global, binding: &Binding) -> Result<BindingFilter, AllocError>
     ensures { IfOk result (λ filter. filter ≡ exactly binding.now) }
 {
     let parts = binding.parts();
@@ -54,15 +53,20 @@ pub fn exactly(alloc: Global, binding: &Binding) -> Result<BindingFilter, AllocE
     })
 }
 
-/// Whether an equal binding is in force.
+/// The entries with an equal binding, by a look-up of its name.
 #[tactic(auto, using(crate::proofs::Doing::found_among))]
-fn is_among(alloc: Global, rules: &Authorizer, binding: &Binding) -> Result<bool, AllocError>
-    ensures { IfOk result (λ is. is ≡ is_among rules.now.contents.entries binding.now) }
+pub fn equals_of(
+    alloc: Global,
+    rules: &Authorizer,
+    binding: &Binding,
+) -> Result<Vec<(u64, Binding)>, AllocError>
+    ensures { IfOk result (λ found. is_among rules.now.contents.entries binding.now
+        ≡ not (length found.items == 0)) }
 {
     let filter = exactly(alloc, binding)?;
     let found = rules.describe(alloc, &filter)?;
     drop(filter);
-    Ok(!found.is_empty())
+    Ok(found)
 }
 
 fn is_only(
@@ -77,89 +81,68 @@ fn is_only(
     if entry.1.parts().permission != permission {
         return Ok(false);
     }
-    Ok(!is_among(alloc, others, &entry.1)?)
+    Ok(equals_of(alloc, others, &entry.1)?.is_empty())
 }
 
-#[tactic(auto, unfolding(crate::specs::Steps::addition))]
-fn push_addition(
+fn step_of(adds: bool, binding: Binding) -> Step
+    ensures { result ≡ step_of adds binding }
+{
+    if adds {
+        Step::Add(binding)
+    } else {
+        Step::Remove(binding)
+    }
+}
+
+#[tactic(auto, unfolding(crate::specs::Steps::step_on))]
+fn push_step(
     alloc: Global,
     found: &mut Vec<Step>,
+    adds: bool,
     permission: Permission,
     others: &Authorizer,
     entry: &(u64, Binding),
 ) -> Result<(), AllocError>
     ensures { OnOk result (found.new.items ≡ found.old.items
-        ++ addition permission others.now.contents.entries entry.now) }
+        ++ step_on adds permission others.now.contents.entries entry.now) }
 {
     if is_only(alloc, permission, others, entry)? {
-        found.push(Step::Add(entry.1.copy(alloc)?))?;
+        found.push(step_of(adds, entry.1.copy(alloc)?))?;
     }
     Ok(())
 }
 
-#[tactic(auto, unfolding(crate::specs::Steps::removal))]
-fn push_removal(
+/// The commands on the entries that the others lack.
+fn push_steps(
     alloc: Global,
     found: &mut Vec<Step>,
+    adds: bool,
     permission: Permission,
     others: &Authorizer,
-    entry: &(u64, Binding),
+    entries: &[(u64, Binding)],
 ) -> Result<(), AllocError>
     ensures { OnOk result (found.new.items ≡ found.old.items
-        ++ removal permission others.now.contents.entries entry.now) }
+        ++ flat_map (step_on adds permission others.now.contents.entries) entries.now) }
 {
-    if is_only(alloc, permission, others, entry)? {
-        found.push(Step::Remove(entry.1.copy(alloc)?))?;
-    }
-    Ok(())
-}
-
-#[tactic(auto, unfolding(crate::specs::Steps::additions))]
-fn push_additions(
-    alloc: Global,
-    found: &mut Vec<Step>,
-    permission: Permission,
-    before: &Authorizer,
-    after: &Authorizer,
-) -> Result<(), AllocError>
-    ensures { OnOk result (found.new.items ≡ found.old.items
-        ++ additions permission before.now.contents.entries after.now.contents.entries) }
-{
-    for entry in after.entries() {
-        push_addition(alloc, found, permission, before, entry)?;
-    }
-    Ok(())
-}
-
-#[tactic(auto, unfolding(crate::specs::Steps::removals))]
-fn push_removals(
-    alloc: Global,
-    found: &mut Vec<Step>,
-    permission: Permission,
-    before: &Authorizer,
-    after: &Authorizer,
-) -> Result<(), AllocError>
-    ensures { OnOk result (found.new.items ≡ found.old.items
-        ++ removals permission before.now.contents.entries after.now.contents.entries) }
-{
-    for entry in before.entries() {
-        push_removal(alloc, found, permission, after, entry)?;
+    for entry in entries {
+        push_step(alloc, found, adds, permission, others, entry)?;
     }
     Ok(())
 }
 
 /// The commands that lead from the bindings of one policy to those of another, in their order. The
 /// error is out of memory.
-#[tactic(auto, using(kob_words::proofs::Appending::appending))]
+#[tactic(auto, using(kob_words::proofs::Appending::appending), unfolding(crate::specs::Steps::additions, crate::specs::Steps::removals))]
 pub fn steps(alloc: Global, before: &Judge, after: &Judge) -> Result<Vec<Step>, AllocError>
     ensures { IfOk result (λ found. found.items
         ≡ steps (contents_of before.now).entries (contents_of after.now).entries) }
 {
     let (old, new) = (before.authorizer(), after.authorizer());
+    let (removed, added) = (old.entries(), new.entries());
     let mut found = Vec::new(alloc);
-    push_additions(alloc, &mut found, Permission::Deny, old, new)?;
-    push_additions(alloc, &mut found, Permission::Allow, old, new)?;
-    push_removals(alloc, &mut found, Permission::Allow, old, new)?;
-    push_removals(alloc, &mut found, Permission::Deny, old, new)?;
+    push_steps(alloc, &mut found, true, Permission::Deny, old, added)?;
+    push_steps(alloc, &mut found, true, Permission::Allow, old, added)?;
+    push_steps(alloc, &mut found, false, Permission::Allow, new, removed)?;
+    push_steps(alloc, &mut found, false, Permission::Deny, new, removed)?;
     Ok(found)
 }

@@ -23,6 +23,7 @@ mod listing;
 mod log_answer;
 mod log_line;
 mod log_reading;
+mod may_words;
 mod moved;
 mod nearest;
 mod objects;

@@ -1,8 +1,9 @@
 //! What a line of a policy says.
 
 ghost use Rattle.std.specs.Prelude.{◌≡◌, IfOk, Ok};
+ghost use Rattle.kob_acl_cli.specs.Lines.{texts};
 ghost use Rattle.kob_policy_text.specs.Lines.{SaysAt, SaysByWords, SaysIn, SaysTrimmed, acl_texts};
-ghost use Rattle.kob_policy_text.specs.Lines.{are_foreign, asker_of, held_words, is_creation};
+ghost use Rattle.kob_policy_text.specs.Lines.{are_foreign, held_words, is_creation};
 ghost use Rattle.kob_policy_text.specs.Lines.{is_for_other_kind, is_foreign, is_heading};
 ghost use Rattle.kob_policy_text.specs.Lines.{is_heading_line, is_listed, is_release, is_skipped};
 ghost use Rattle.kob_policy_text.specs.Lines.{listed_item, listed_items, names_other_kind, only_event};
@@ -21,11 +22,10 @@ use crate::release::release_named;
 use crate::rows::{is_tabular, tabular_item};
 use crate::tool::{tool_arguments, tool_items};
 use crate::users::{OTHER_PRINCIPAL, is_other_kind};
-use kob_names::{Host, Principal, Text};
 use kob_rights::{Event, Request};
 use kob_script::{
     FaultKind, LineError, Word, events_of, everyone_of, host_of, is_setting, is_super,
-    lent_text_of, principal_of, text_of, words_of,
+    lent_text_of, principal_of, words_of,
 };
 use std::alloc::{AllocError, Global};
 use std::collections::VecDeque;
@@ -212,51 +212,46 @@ fn words_items(alloc: Global, words: Vec<Word<'_>>) -> Result<Vec<Item>, LineErr
     rules_of(alloc, events_of(alloc, &held, &None)?)
 }
 
-fn texts_of(alloc: Global, words: &[Word<'_>]) -> Result<Vec<Text>, LineError>
-    ensures { GivesSeen (λ texts. texts.items) result (each text_of words.now) }
+/// The texts of words, borrowed from them.
+fn texts_of<'w>(alloc: Global, words: &'w [Word<'_>]) -> Result<Vec<&'w str>, LineError>
+    ensures { GivesSeen (λ lent. texts lent.items) result (each text_of words.entry.now) }
 {
     let mut texts = Vec::with_capacity(alloc, words.len())?;
     for word in words {
-        let text = text_of(alloc, word)?;
-        texts.push(text)?;
+        match lent_text_of(word) {
+            Ok(text) => texts.push(text)?,
+            Err(kind) => return Err(LineError::Fault(kind)),
+        }
     }
     Ok(texts)
 }
 
-fn asker_of(alloc: Global, name: &Text, address: &Text) -> Result<(Principal, Host), LineError>
-    ensures { Gives result (asker_of name.now address.now) }
-{
-    let principal = principal_of(alloc, name.as_str())?;
-    let host = host_of(alloc, address.as_str())?;
-    Ok((principal, host))
-}
-
-fn texts_behind(
-    alloc: Global,
-    who: &Word<'_>,
-    from: &Word<'_>,
-    arguments: &[Word<'_>],
-) -> Result<Vec<Text>, LineError>
-    ensures { GivesSeen (λ texts. texts.items) result
-        (texts_behind who.now from.now arguments.now) }
-{
-    let name = text_of(alloc, who)?;
-    let address = text_of(alloc, from)?;
-    let texts = texts_of(alloc, arguments)?;
-    let asker = asker_of(alloc, &name, &address)?;
-    drop(asker);
-    Ok(texts)
-}
-
-/// The texts after `acl`.
+/// The texts after `acl`, borrowed from the words.
 #[tactic(auto, unfolding(crate::specs::Lines::acl_texts))]
-fn acl_texts(alloc: Global, words: &[Word<'_>]) -> Result<Vec<Text>, LineError>
-    ensures { GivesSeen (λ texts. texts.items) result (acl_texts words.now) }
+fn acl_texts<'w>(alloc: Global, words: &'w [Word<'_>]) -> Result<Vec<&'w str>, LineError>
+    ensures { GivesSeen (λ lent. texts lent.items) result (acl_texts words.entry.now) }
 {
     match words {
         [who, from, _, arguments @ ..] => texts_behind(alloc, who, from, arguments),
         _ => Ok(Vec::new(alloc)),
     }
+}
+
+fn texts_behind<'w>(
+    alloc: Global,
+    who: &Word<'_>,
+    from: &Word<'_>,
+    arguments: &'w [Word<'_>],
+) -> Result<Vec<&'w str>, LineError>
+    ensures { GivesSeen (λ lent. texts lent.items) result
+        (texts_behind who.now from.now arguments.entry.now) }
+{
+    let name = lent_text_of(who)?;
+    let address = lent_text_of(from)?;
+    let texts = texts_of(alloc, arguments)?;
+    drop(principal_of(alloc, name)?);
+    drop(host_of(alloc, address)?);
+    Ok(texts)
 }
 
 fn asks_by_acl(words: &[Word<'_>]) -> bool

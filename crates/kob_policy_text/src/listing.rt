@@ -2,22 +2,22 @@
 
 ghost use Rattle.std.specs.Prelude.{◌≡◌, codes, ok_or};
 ghost use Rattle.kob_policy_text.specs.Listing.{grant_item, grant_of, headed, heading_item};
-ghost use Rattle.kob_policy_text.specs.Listing.{heading_text, holder_by};
+ghost use Rattle.kob_policy_text.specs.Listing.{heading_text, holder_of};
 ghost use Rattle.kob_policy_text.specs.Listing.{is_other_operation, is_other_resource, known_operation};
 ghost use Rattle.kob_policy_text.specs.Listing.{known_resource};
 ghost use Rattle.kob_policy_text.specs.Listing.{listed_operation, listed_resource, one_principal};
 ghost use Rattle.kob_policy_text.specs.Listing.{unclosed};
-ghost use Rattle.kob_policy_text.specs.Listing.{newer_grant, newer_resource, newer_target};
-ghost use Rattle.kob_policy_text.specs.Listing.{older_grant, older_resource, older_target};
+ghost use Rattle.kob_policy_text.specs.Listing.{newer_grant, newer_resource, newer_target, newer_words};
+ghost use Rattle.kob_policy_text.specs.Listing.{older_grant, older_resource, older_target, older_words};
 ghost use Rattle.kob_policy_text.specs.Listing.{target_item, target_of, first_parts};
 ghost use Rattle.kob_script.specs.Words.{Gives, GivesSeen};
 ghost use Rattle.kob_script.specs.declared.fault.FaultKind.TheVariants.{BadWord};
 
 use crate::item::{Grant, Item, Target};
 use crate::pieces::{around_first, around_last, first_parts, holds_mark, last_parts};
-use crate::users::{OTHER_OPERATION, text_in, user_in};
-use kob_names::{Host, Operation, Pattern, PatternKind, Permission, Principal, ResourceKind, Text};
-use kob_script::{FaultKind, LineError, host_of, principal_of};
+use crate::users::{OTHER_OPERATION, copied_text, host_in, user_in};
+use kob_names::{Operation, Pattern, PatternKind, Permission, Principal, ResourceKind, Text};
+use kob_script::{FaultKind, LineError, principal_of};
 use kob_words::{operation_named, pattern_named, permission_named, resource_named};
 use std::alloc::Global;
 use std::marker::Model;
@@ -157,13 +157,14 @@ pub fn known<T: Drop>(found: Option<T>) -> Result<T, LineError>
 }
 
 /// The user, or the principal in its place if the operation is left out.
-fn holder_by(
+fn holder_of(
     alloc: Global,
     operation: Option<Operation>,
-    user: Principal,
+    bytes: &[u8],
 ) -> Result<Principal, LineError>
-    ensures { Gives result (holder_by operation user) }
+    ensures { Gives result (holder_of operation bytes.now) }
 {
+    let user = user_in(alloc, bytes)?;
     match operation {
         Some(_) => Ok(user),
         None => {
@@ -179,15 +180,19 @@ pub fn grant_of(alloc: Global, words: &GrantWords<'_>) -> Result<Grant, LineErro
 {
     let permission = known(permission_named(unclosed(words.permission)))?;
     let operation = known(listed_operation(words.operation))?;
-    let user = user_in(alloc, words.principal)?;
-    let principal = holder_by(alloc, operation, user)?;
-    let text = text_in(words.host)?;
-    Ok(Grant {
-        permission,
-        principal,
-        host: host_of(alloc, text)?,
-        operation: operation.unwrap_or(Operation::All),
-    })
+    let principal = holder_of(alloc, operation, words.principal)?;
+    match host_in(alloc, words.host) {
+        Ok(host) => Ok(Grant {
+            permission,
+            principal,
+            host,
+            operation: operation.unwrap_or(Operation::All),
+        }),
+        Err(error) => {
+            drop(principal);
+            Err(error)
+        }
+    }
 }
 
 fn grant_item(alloc: Global, words: &GrantWords<'_>) -> Result<Item, LineError>
@@ -207,39 +212,48 @@ fn one_principal(text: &[u8]) -> Result<&[u8], LineError>
 }
 
 /// `(principal=PRINCIPAL, host=HOST, operation=OPERATION, permissionType=PERMISSION)`
-#[tactic(auto, unfolding(crate::specs::Listing::newer_grant))]
-pub fn newer_grant(alloc: Global, line: &[u8]) -> Result<Item, LineError>
-    ensures { Gives result (newer_grant line.now) }
+#[tactic(auto, unfolding(crate::specs::Listing::newer_words))]
+fn newer_words(line: &[u8]) -> Result<GrantWords<'_>, LineError>
+    ensures { Gives result (newer_words line.entry.now) }
 {
     let (_, inside) = around_first(line, b"(principal=")?;
     let (front, permission) = around_last(inside, b", permissionType=")?;
     let (holder, operation) = around_last(front, b", operation=")?;
     let (principal, host) = around_last(holder, b", host=")?;
-    let user = one_principal(principal)?;
-    let words = GrantWords {
-        principal: user,
+    Ok(GrantWords {
+        principal: one_principal(principal)?,
         host,
         operation,
         permission,
-    };
-    grant_item(alloc, &words)
+    })
+}
+
+pub fn newer_grant(alloc: Global, line: &[u8]) -> Result<Item, LineError>
+    ensures { Gives result (newer_grant line.now) }
+{
+    grant_item(alloc, &newer_words(line)?)
 }
 
 /// `PRINCIPAL has PERMISSION permission for operations: OPERATION from hosts: HOST`
-#[tactic(auto, unfolding(crate::specs::Listing::older_grant))]
-pub fn older_grant(alloc: Global, line: &[u8]) -> Result<Item, LineError>
-    ensures { Gives result (older_grant line.now) }
+#[tactic(auto, unfolding(crate::specs::Listing::older_words))]
+fn older_words(line: &[u8]) -> Result<GrantWords<'_>, LineError>
+    ensures { Gives result (older_words line.entry.now) }
 {
     let (front, host) = around_last(line, b" from hosts: ")?;
     let (holder, operation) = around_last(front, b" permission for operations: ")?;
     let (principal, permission) = around_last(holder, b" has ")?;
-    let words = GrantWords {
+    Ok(GrantWords {
         principal,
         host,
         operation,
         permission,
-    };
-    grant_item(alloc, &words)
+    })
+}
+
+pub fn older_grant(alloc: Global, line: &[u8]) -> Result<Item, LineError>
+    ensures { Gives result (older_grant line.now) }
+{
+    grant_item(alloc, &older_words(line)?)
 }
 
 fn headed(kind: Option<ResourceKind>, pattern: PatternKind, name: Text) -> Option<Target>
@@ -263,8 +277,7 @@ pub fn target_of(alloc: Global, words: &TargetWords<'_>) -> Result<Option<Target
 {
     let kind = known(listed_resource(words.resource))?;
     let pattern = known(pattern_named(unclosed(words.pattern)))?;
-    let text = text_in(words.name)?;
-    let name = Text::copied(alloc, text)?;
+    let name = copied_text(alloc, words.name)?;
     Ok(headed(kind, pattern, name))
 }
 
@@ -291,8 +304,7 @@ fn newer_target(text: &[u8]) -> Result<TargetWords<'_>, LineError>
 fn newer_resource(alloc: Global, text: &[u8]) -> Result<Item, LineError>
     ensures { Gives result (newer_resource text.now) }
 {
-    let words = newer_target(text)?;
-    target_item(alloc, &words)
+    target_item(alloc, &newer_target(text)?)
 }
 
 fn older_target<'a>(resource: &'a [u8], rest: &'a [u8]) -> TargetWords<'a>

@@ -10,9 +10,9 @@ ghost use Rattle.kob_script.specs.Words.{Gives, GivesSeen};
 use crate::listing::{known, listed_operation, listed_resource};
 use crate::pieces::{around_first, around_last, first_parts, last_parts};
 use crate::question::{Asker, Right};
-use crate::users::{OTHER_PRINCIPAL, text_in, user_in};
+use crate::users::{OTHER_PRINCIPAL, copied_text, host_in, user_in};
 use kob_names::{Operation, ResourceKind, Text};
-use kob_script::{FaultKind, LineError, host_of};
+use kob_script::{FaultKind, LineError};
 use std::alloc::Global;
 use std::marker::Model;
 
@@ -117,10 +117,7 @@ fn name_in(alloc: Global, name: Option<&[u8]>) -> Result<Option<Text>, LineError
 {
     match name {
         None => Ok(None),
-        Some(bytes) => {
-            let text = text_in(bytes)?;
-            Ok(Some(Text::copied(alloc, text)?))
-        }
+        Some(bytes) => Ok(Some(copied_text(alloc, bytes)?)),
     }
 }
 
@@ -157,9 +154,13 @@ fn asker_in(alloc: Global, principal: &[u8], host: &[u8]) -> Result<Asker, LineE
     ensures { Gives result (asker_in principal.now host.now) }
 {
     let principal = user_in(alloc, principal)?;
-    let text = text_in(host)?;
-    let host = host_of(alloc, text)?;
-    Ok(Asker { principal, host })
+    match host_in(alloc, host) {
+        Ok(host) => Ok(Asker { principal, host }),
+        Err(error) => {
+            drop(principal);
+            Err(error)
+        }
+    }
 }
 
 fn recorded_by(allowed: bool, asker: Asker, right: Option<Right>) -> Option<Recorded>
@@ -181,8 +182,13 @@ fn recorded_of(alloc: Global, words: &AccessWords<'_>) -> Result<Option<Recorded
 {
     let allowed = allowed_by(words.outcome)?;
     let asker = asker_in(alloc, words.principal, words.host)?;
-    let right = right_in(alloc, words.operation, words.resource)?;
-    Ok(recorded_by(allowed, asker, right))
+    match right_in(alloc, words.operation, words.resource) {
+        Ok(right) => Ok(recorded_by(allowed, asker, right)),
+        Err(error) => {
+            drop(asker);
+            Err(error)
+        }
+    }
 }
 
 /// The access that a line records, or none if rules cannot bear on it. The fault is that the line

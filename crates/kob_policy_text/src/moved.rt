@@ -1,13 +1,13 @@
 //! The bindings that one policy has and another lacks.
 
-ghost use Rattle.std.specs.Prelude.{◌≡◌, ◌==◌, ◌++◌, IfOk, OnOk, flat_map, is_some, length, not};
+ghost use Rattle.std.specs.Prelude.{◌≡◌, ◌++◌, IfOk, OnOk, flat_map, is_some};
 ghost use Rattle.std.specs.Prelude.{slice_get};
 ghost use Rattle.kob_policy_text.specs.Moved.{alone_text, headed, is_equal, moved_line};
 ghost use Rattle.kob_policy_text.specs.Moved.{moved_text};
 ghost use Rattle.kob_policy_text.specs.Policy.{contents_of};
 ghost use Rattle.kob_policy_text.specs.Steps.{is_among};
 
-use crate::commands::exactly;
+use crate::commands::equals_of;
 use crate::judge::Judge;
 use crate::printed::push_line_by;
 use kob_authorizer::Authorizer;
@@ -30,22 +30,6 @@ fn place_of(others: &[(u64, Binding)], found: &[(u64, Binding)]) -> usize {
     others
         .binary_search_by_key(&serial, |entry| entry.0)
         .unwrap_or(0)
-}
-
-/// The entries with an equal binding, by a look-up of its name.
-#[tactic(auto, using(crate::proofs::Doing::found_among))]
-fn equals_of(
-    alloc: Global,
-    others: &Authorizer,
-    binding: &Binding,
-) -> Result<Vec<(u64, Binding)>, AllocError>
-    ensures { IfOk result (λ found. is_among others.now.contents.entries binding.now
-        ≡ not (length found.items == 0)) }
-{
-    let filter = exactly(alloc, binding)?;
-    let found = others.describe(alloc, &filter)?;
-    drop(filter);
-    Ok(found)
 }
 
 /// Where an equal binding is among the others.

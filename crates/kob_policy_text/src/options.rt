@@ -133,16 +133,23 @@ fn push_held<'a>(held: &mut Vec<&'a str>, place: Place, word: &'a str) -> Result
 
 /// The words that are passed on to `clap`.
 #[tactic(auto, using(crate::proofs::Passing::passes_more, crate::proofs::Passing::passes_all))]
-fn held_options(alloc: Global, words: &[Text]) -> Result<Vec<&str>, AllocError>
-    ensures { IfOk result (λ held. texts held.items ≡ held_options Anywhere words.entry.now) }
+fn held_options<'w>(alloc: Global, words: &[&'w str]) -> Result<Vec<&'w str>, AllocError>
+    ensures { IfOk result (λ held. texts held.items ≡ held_options Anywhere (texts words.now)) }
 {
     let mut held = Vec::with_capacity(alloc, words.len())?;
     let mut place = Place::Anywhere;
     for word in words {
-        push_held(&mut held, place, word.as_str())?;
-        place = next_place(place, word.as_str());
+        push_held(&mut held, place, word)?;
+        place = next_place(place, word);
     }
     Ok(held)
+}
+
+pub fn push_text(alloc: Global, texts: &mut Vec<Text>, text: &str) -> Result<(), AllocError>
+    ensures { OnOk result (texts.new.items ≡ texts.old.items ++ text.now ∷ []) }
+{
+    texts.push(Text::copied(alloc, text)?)?;
+    Ok(())
 }
 
 /// The names, with another in place of each principal of another kind.
@@ -151,7 +158,7 @@ fn held_names(alloc: Global, names: &Items<Text>) -> Result<Items<Text>, AllocEr
 {
     let mut held = Vec::with_capacity(alloc, names.len())?;
     for name in names.as_slice() {
-        held.push(Text::copied(alloc, held_name(name.as_str()))?)?;
+        push_text(alloc, &mut held, held_name(name.as_str()))?;
     }
     Ok(Items::from_vec(held))
 }
@@ -271,8 +278,8 @@ fn on_ids(alloc: Global) -> Result<Items<Text>, AllocError>
     ensures { IfOk result (λ made. made ≡ codes "Write" ∷ codes "Describe" ∷ []) }
 {
     let mut made = Vec::new(alloc);
-    made.push(Text::copied(alloc, "Write")?)?;
-    made.push(Text::copied(alloc, "Describe")?)?;
+    push_text(alloc, &mut made, "Write")?;
+    push_text(alloc, &mut made, "Describe")?;
     Ok(Items::from_vec(made))
 }
 
@@ -344,8 +351,8 @@ fn answer_to(alloc: Global, words: &[&str]) -> Result<Option<CliArgs>, AllocErro
 
 /// The bindings that the words of `kafka-acls` add, as `clap` reads them.
 #[tactic(auto, using(crate::proofs::Chains::adds))]
-pub fn added(alloc: Global, words: &[Text]) -> Result<Vec<Item>, LineError>
-    ensures { MayGive (λ items. items.items) result (Adds words.now) }
+pub fn added(alloc: Global, words: &[&str]) -> Result<Vec<Item>, LineError>
+    ensures { MayGive (λ items. items.items) result (Adds (texts words.now)) }
 {
     let held = held_options(alloc, words)?;
     let mut answer = answer_to(alloc, &held)?;

@@ -7,6 +7,7 @@ ghost use Rattle.kob_script.specs.Words.{Gives};
 
 use crate::item::Item;
 use crate::listing::is_other_operation;
+use crate::options::push_text;
 use crate::users::OTHER_OPERATION;
 use kob_acl_cli::CliArgs;
 use kob_names::{Draft, Items, PlainValue, Principal, Text};
@@ -40,7 +41,7 @@ pub fn own_operations(alloc: Global, words: &Items<Text>) -> Result<Items<Text>,
     let mut own = Vec::new(alloc);
     for word in words.as_slice() {
         if !is_other_operation(word.as_str().as_bytes()) {
-            own.push(word.copy(alloc)?)?;
+            push_text(alloc, &mut own, word.as_str())?;
         }
     }
     Ok(Items::from_vec(own))
@@ -53,7 +54,7 @@ pub fn others_as_all(alloc: Global, words: &Items<Text>) -> Result<Items<Text>, 
     let mut others = Vec::new(alloc);
     for word in words.as_slice() {
         if is_other_operation(word.as_str().as_bytes()) {
-            others.push(Text::copied(alloc, "All")?)?;
+            push_text(alloc, &mut others, "All")?;
         }
     }
     Ok(Items::from_vec(others))

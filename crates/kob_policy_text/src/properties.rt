@@ -18,9 +18,7 @@ use std::alloc::{AllocError, Global};
 pub fn one(alloc: Global, item: Item) -> Result<Vec<Item>, LineError>
     ensures { GivesSeen (λ items. items.items) result (Ok (item ∷ [])) }
 {
-    let mut items = Vec::new(alloc);
-    items.push(item)?;
-    Ok(items)
+    Ok(Vec::from_array(alloc, [item])?)
 }
 
 #[tactic(auto, unfolding(crate::specs::Lines::super_item))]

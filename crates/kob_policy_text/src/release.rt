@@ -7,7 +7,7 @@ ghost use Rattle.kob_policy_text.specs.Releases.{release_by, release_named};
 use crate::pieces::first_parts;
 
 /// A release of Kafka, by what its brokers ask of an idempotent producer (KIP-679).
-#[derive(Clone, Copy, Debug, PartialEq, Eq)]
+#[derive(Clone, Copy)]
 pub enum Release {
     /// IdempotentWrite on the cluster.
     Before28,

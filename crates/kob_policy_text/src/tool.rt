@@ -1,17 +1,18 @@
 //! The lines that call Kafka's tool.
 
 ghost use Rattle.std.specs.Prelude.{◌≡◌, option_map};
+ghost use Rattle.kob_acl_cli.specs.Lines.{texts};
 ghost use Rattle.kob_policy_text.specs.Lines.{base_name, is_tool, tool_arguments, tool_texts};
 ghost use Rattle.kob_policy_text.specs.Options.{SaysOptions};
 ghost use Rattle.kob_policy_text.specs.Outcomes.{MayGive};
-ghost use Rattle.kob_script.specs.Words.{Gives, GivesSeen, each, text_in};
+ghost use Rattle.kob_script.specs.Words.{GivesSeen, each, text_in};
 
 use crate::item::Item;
 use crate::options::added;
 use crate::pieces::{first_parts, last_parts};
 use crate::shell::shell_words;
 use crate::users::text_in;
-use kob_names::{Bytes, Text};
+use kob_names::Bytes;
 use kob_script::LineError;
 use std::alloc::Global;
 
@@ -46,35 +47,30 @@ pub fn tool_arguments(line: &[u8]) -> Option<&[u8]>
     }
 }
 
-fn copied_text(alloc: Global, bytes: &[u8]) -> Result<Text, LineError>
-    ensures { Gives result (text_in bytes.now) }
-{
-    let text = text_in(bytes)?;
-    Ok(Text::copied(alloc, text)?)
-}
-
-fn texts_in(alloc: Global, words: &[Bytes]) -> Result<Vec<Text>, LineError>
-    ensures { GivesSeen (λ texts. texts.items) result (each text_in words.now) }
+/// The words as texts, borrowed from them.
+fn texts_in(alloc: Global, words: &[Bytes]) -> Result<Vec<&str>, LineError>
+    ensures { GivesSeen (λ lent. texts lent.items) result (each text_in words.entry.now) }
 {
     let mut texts = Vec::with_capacity(alloc, words.len())?;
     for word in words {
-        let text = copied_text(alloc, word.as_slice())?;
-        texts.push(text)?;
+        match text_in(word.as_slice()) {
+            Ok(text) => texts.push(text)?,
+            Err(error) => return Err(error),
+        }
     }
     Ok(texts)
 }
 
-/// The texts that a shell would pass to Kafka's tool.
-fn tool_texts(alloc: Global, arguments: &[u8]) -> Result<Vec<Text>, LineError>
-    ensures { GivesSeen (λ texts. texts.items) result (tool_texts arguments.now) }
+fn words_items(alloc: Global, words: &[Bytes]) -> Result<Vec<Item>, LineError>
+    ensures { MayGive (λ items. items.items) result (SaysOptions (each text_in words.now)) }
 {
-    let words = shell_words(alloc, arguments)?;
-    texts_in(alloc, &words)
+    let texts = texts_in(alloc, words)?;
+    added(alloc, &texts)
 }
 
 pub fn tool_items(alloc: Global, arguments: &[u8]) -> Result<Vec<Item>, LineError>
     ensures { MayGive (λ items. items.items) result (SaysOptions (tool_texts arguments.now)) }
 {
-    let texts = tool_texts(alloc, arguments)?;
-    added(alloc, &texts)
+    let words = shell_words(alloc, arguments)?;
+    words_items(alloc, &words)
 }

@@ -1,13 +1,13 @@
 //! Principals of the kind `User`, and the names that are in place of what is left out.
 
 ghost use Rattle.std.specs.Prelude.{◌≡◌};
-ghost use Rattle.kob_policy_text.specs.Listing.{held_name, is_other_kind, left_out_of, user_in};
+ghost use Rattle.kob_policy_text.specs.Listing.{held_name, host_in, is_other_kind, left_out_of, user_in};
 ghost use Rattle.kob_script.specs.Words.{Gives, GivesSeen, text_in};
 
 use crate::item::LeftOut;
 use bstr::ByteSlice;
-use kob_names::{Draft, Principal};
-use kob_script::{FaultKind, LineError, principal_of};
+use kob_names::{Draft, Host, Principal, Text};
+use kob_script::{FaultKind, LineError, host_of, principal_of};
 use std::alloc::Global;
 
 /// In place of a principal of another kind than `User`.
@@ -25,6 +25,20 @@ pub fn text_in(bytes: &[u8]) -> Result<&str, LineError>
         Ok(text) => Ok(text),
         Err(_) => Err(LineError::Fault(FaultKind::BadText)),
     }
+}
+
+/// A copy of the bytes as text.
+pub fn copied_text(alloc: Global, bytes: &[u8]) -> Result<Text, LineError>
+    ensures { Gives result (text_in bytes.now) }
+{
+    Ok(Text::copied(alloc, text_in(bytes)?)?)
+}
+
+/// The host that bytes name.
+pub fn host_in(alloc: Global, bytes: &[u8]) -> Result<Host, LineError>
+    ensures { Gives result (host_in bytes.now) }
+{
+    host_of(alloc, text_in(bytes)?)
 }
 
 /// Whether the text names a principal of another kind than `User`.

@@ -2,11 +2,11 @@
 
 ghost use Rattle.std.specs.Prelude.{◌≡◌};
 ghost use Rattle.kob_policy_text.specs.Questions.{right_to_read, who_consumes, who_produces};
-ghost use Rattle.kob_policy_text.specs.Questions.{has_prefixes, who_from, who_words};
+ghost use Rattle.kob_policy_text.specs.Questions.{has_prefixes, who_below, who_from, who_may, who_words};
 ghost use Rattle.kob_script.specs.Words.{Gives};
 
 use crate::question::{Question, Right};
-use crate::question_words::{host_in, is_word, right_of};
+use crate::question_words::{host_in, is_word, right_of, two_texts};
 use kob_names::{Operation, ResourceKind, Text};
 use kob_script::{FaultKind, LineError, Word, text_of};
 use std::alloc::Global;
@@ -36,11 +36,21 @@ fn read_of(resource: ResourceKind, name: Text) -> Right
 fn who_consumes(alloc: Global, topic: &Word<'_>, group: &Word<'_>) -> Result<Question, LineError>
     ensures { Gives result (who_consumes topic.now group.now) }
 {
-    let topic = text_of(alloc, topic)?;
-    let group = text_of(alloc, group)?;
+    let (topic, group) = two_texts(alloc, topic, group)?;
     let read = read_of(ResourceKind::Topic, topic);
     let joined = read_of(ResourceKind::Group, group);
     Ok(Question::WhoConsumes(read, joined))
+}
+
+fn who_may(
+    alloc: Global,
+    operation: &Word<'_>,
+    resource: &Word<'_>,
+    name: &Word<'_>,
+) -> Result<Question, LineError>
+    ensures { Gives result (who_may operation.now resource.now name.now) }
+{
+    Ok(Question::Who(right_of(alloc, operation, resource, name)?, None))
 }
 
 /// The cluster has one name, and no names that begin with a prefix.
@@ -54,6 +64,17 @@ fn has_prefixes(right: Right) -> Result<Question, LineError>
     Ok(Question::WhoBelow(right))
 }
 
+fn who_below(
+    alloc: Global,
+    operation: &Word<'_>,
+    resource: &Word<'_>,
+    name: &Word<'_>,
+) -> Result<Question, LineError>
+    ensures { Gives result (who_below operation.now resource.now name.now) }
+{
+    has_prefixes(right_of(alloc, operation, resource, name)?)
+}
+
 fn who_from(
     alloc: Global,
     operation: &Word<'_>,
@@ -64,8 +85,13 @@ fn who_from(
     ensures { Gives result (who_from operation.now resource.now name.now host.now) }
 {
     let right = right_of(alloc, operation, resource, name)?;
-    let host = host_in(alloc, host)?;
-    Ok(Question::Who(right, Some(host)))
+    match host_in(alloc, host) {
+        Ok(host) => Ok(Question::Who(right, Some(host))),
+        Err(error) => {
+            drop(right);
+            Err(error)
+        }
+    }
 }
 
 /// The question that the words after `who` ask.
@@ -77,12 +103,9 @@ pub fn who_words(alloc: Global, words: &[Word<'_>]) -> Result<Question, LineErro
         [command, topic, group] if is_word(command, b"consume") => {
             who_consumes(alloc, topic, group)
         }
-        [operation, resource, name] => {
-            let right = right_of(alloc, operation, resource, name)?;
-            Ok(Question::Who(right, None))
-        }
+        [operation, resource, name] => who_may(alloc, operation, resource, name),
         [operation, resource, prefix, name] if is_word(prefix, b"prefix") => {
-            has_prefixes(right_of(alloc, operation, resource, name)?)
+            who_below(alloc, operation, resource, name)
         }
         [operation, resource, name, host] => who_from(alloc, operation, resource, name, host),
         _ => Err(LineError::Fault(FaultKind::BadLine)),

@@ -4,4 +4,4 @@ use Rattle.kob_policy_text.proofs.options.held_options.Given as goal
 
 abbrev pub invariant-loop-word : goal.invariant-loop-word
 invariant-loop-word l =
-    texts l.held.items ++ held_options l.place (drop l.word-index l.words) ≡ held_options Anywhere l.words
+    texts l.held.items ++ held_options l.place (texts (drop l.word-index l.words)) ≡ held_options Anywhere (texts l.words)

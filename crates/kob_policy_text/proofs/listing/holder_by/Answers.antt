@@ -1,4 +1,0 @@
-use Rattle.kob_policy_text.proofs.listing.holder_by.Goals as goal
-
-pub returns-in-None : goal.returns-in-None
-returns-in-None c = rw c.in-None.is c.principal_of.ensures.gives

@@ -1,0 +1,241 @@
+//! What the words after `may` ask.
+
+ghost use Rattle.std.specs.Prelude.{◌≡◌};
+ghost use Rattle.kob_policy_text.specs.Questions.{access_by, may_by, may_consume, may_produce};
+ghost use Rattle.kob_policy_text.specs.Questions.{may_repeat, may_request, may_right, may_six};
+ghost use Rattle.kob_policy_text.specs.Questions.{may_transact, may_words, produces};
+ghost use Rattle.kob_script.specs.Words.{Gives};
+
+use crate::lines::only_event;
+use crate::listing::known_operation;
+use crate::question::{Access, Act, Asker};
+use crate::question_words::{asker_of, is_word, right_of, two_texts};
+use kob_names::{Batch, Items, PlainValue, Text};
+use kob_rights::{Event, OffsetCommit, Produce, Request};
+use kob_script::{FaultKind, LineError, Word, events_of, text_of};
+use std::alloc::Global;
+
+#[tactic(auto, unfolding(crate::specs::Questions::may_right))]
+fn may_right(
+    alloc: Global,
+    principal: &Word<'_>,
+    host: &Word<'_>,
+    operation: &Word<'_>,
+    resource: &Word<'_>,
+    name: &Word<'_>,
+) -> Result<Access, LineError>
+    ensures { Gives result (may_right principal.now host.now operation.now resource.now name.now) }
+{
+    let asker = asker_of(alloc, principal, host)?;
+    match right_of(alloc, operation, resource, name) {
+        Ok(right) => Ok(Access {
+            asker,
+            act: Act::Right(right),
+        }),
+        Err(error) => {
+            drop(asker);
+            Err(error)
+        }
+    }
+}
+
+fn produces(alloc: Global, topic: Text) -> Act
+    ensures { result ≡ produces topic }
+{
+    Act::Request(Request::Produce(Produce {
+        topic,
+        partition: 0,
+        batch: Batch {
+            idem: None,
+            records: Items::from_vec(Vec::new(alloc)),
+        },
+    }))
+}
+
+#[tactic(auto, unfolding(crate::specs::Questions::may_produce))]
+fn may_produce(
+    alloc: Global,
+    principal: &Word<'_>,
+    host: &Word<'_>,
+    topic: &Word<'_>,
+) -> Result<Access, LineError>
+    ensures { Gives result (may_produce principal.now host.now topic.now) }
+{
+    let asker = asker_of(alloc, principal, host)?;
+    match text_of(alloc, topic) {
+        Ok(name) => Ok(Access {
+            asker,
+            act: produces(alloc, name),
+        }),
+        Err(error) => {
+            drop(asker);
+            Err(error)
+        }
+    }
+}
+
+#[tactic(auto, unfolding(crate::specs::Questions::may_repeat))]
+fn may_repeat(
+    alloc: Global,
+    principal: &Word<'_>,
+    host: &Word<'_>,
+    topic: &Word<'_>,
+) -> Result<Access, LineError>
+    ensures { Gives result (may_repeat principal.now host.now topic.now) }
+{
+    let asker = asker_of(alloc, principal, host)?;
+    match text_of(alloc, topic) {
+        Ok(name) => Ok(Access {
+            asker,
+            act: Act::Idempotent(name),
+        }),
+        Err(error) => {
+            drop(asker);
+            Err(error)
+        }
+    }
+}
+
+#[tactic(auto, unfolding(crate::specs::Questions::may_transact))]
+fn may_transact(
+    alloc: Global,
+    principal: &Word<'_>,
+    host: &Word<'_>,
+    topic: &Word<'_>,
+    id: &Word<'_>,
+) -> Result<Access, LineError>
+    ensures { Gives result (may_transact principal.now host.now topic.now id.now) }
+{
+    let asker = asker_of(alloc, principal, host)?;
+    match two_texts(alloc, topic, id) {
+        Ok((name, transaction)) => Ok(Access {
+            asker,
+            act: Act::Transactional(name, transaction),
+        }),
+        Err(error) => {
+            drop(asker);
+            Err(error)
+        }
+    }
+}
+
+#[tactic(auto, unfolding(crate::specs::Questions::may_consume))]
+fn may_consume(
+    alloc: Global,
+    principal: &Word<'_>,
+    host: &Word<'_>,
+    topic: &Word<'_>,
+    group: &Word<'_>,
+) -> Result<Access, LineError>
+    ensures { Gives result (may_consume principal.now host.now topic.now group.now) }
+{
+    let asker = asker_of(alloc, principal, host)?;
+    match two_texts(alloc, topic, group) {
+        Ok((topic, group)) => Ok(Access {
+            asker,
+            act: Act::Request(Request::OffsetCommit(OffsetCommit {
+                group,
+                topic,
+                partition: 0,
+                offset: 0,
+            })),
+        }),
+        Err(error) => {
+            drop(asker);
+            Err(error)
+        }
+    }
+}
+
+/// What a request asks, unless it is said to come from `*`.
+fn access_by(alloc: Global, event: Event) -> Result<Access, LineError>
+    ensures { Gives result (access_by event) }
+{
+    if event.host.as_str() == "*" {
+        drop(event);
+        return Err(LineError::Fault(FaultKind::BadHost));
+    }
+    Ok(Access {
+        asker: Asker {
+            principal: event.principal.copy(alloc)?,
+            host: event.host.copy(alloc)?,
+        },
+        act: Act::Request(event.into_request()),
+    })
+}
+
+/// A request as a script has it; `acl` is not one.
+#[tactic(auto, unfolding(crate::specs::Questions::may_request))]
+fn may_request(alloc: Global, words: &[Word<'_>]) -> Result<Access, LineError>
+    ensures { Gives result (may_request words.now) }
+{
+    let asked = events_of(alloc, words, &None)?;
+    match only_event(asked) {
+        Some(event) => access_by(alloc, event),
+        None => Err(LineError::Fault(FaultKind::BadLine)),
+    }
+}
+
+#[tactic(auto, unfolding(crate::specs::Questions::may_by))]
+fn may_by(
+    alloc: Global,
+    words: &[Word<'_>],
+    principal: &Word<'_>,
+    host: &Word<'_>,
+    command: &Word<'_>,
+    one: &Word<'_>,
+    other: &Word<'_>,
+) -> Result<Access, LineError>
+    ensures { Gives result
+        (may_by words.now principal.now host.now command.now one.now other.now) }
+{
+    if known_operation(command.decoded()).is_some() {
+        may_right(alloc, principal, host, command, one, other)
+    } else if is_word(command, b"consume") {
+        may_consume(alloc, principal, host, one, other)
+    } else if !is_word(command, b"produce") {
+        may_request(alloc, words)
+    } else if is_word(other, b"idempotent") {
+        may_repeat(alloc, principal, host, one)
+    } else {
+        Err(LineError::Fault(FaultKind::BadLine))
+    }
+}
+
+#[tactic(auto, unfolding(crate::specs::Questions::may_six))]
+fn may_six(
+    alloc: Global,
+    words: &[Word<'_>],
+    principal: &Word<'_>,
+    host: &Word<'_>,
+    command: &Word<'_>,
+    topic: &Word<'_>,
+    how: &Word<'_>,
+    id: &Word<'_>,
+) -> Result<Access, LineError>
+    ensures { Gives result
+        (may_six words.now principal.now host.now command.now topic.now how.now id.now) }
+{
+    if is_word(command, b"produce") && is_word(how, b"transactional") {
+        may_transact(alloc, principal, host, topic, id)
+    } else {
+        may_request(alloc, words)
+    }
+}
+
+pub fn may_words(alloc: Global, words: &[Word<'_>]) -> Result<Access, LineError>
+    ensures { Gives result (may_words words.now) }
+{
+    match words {
+        [principal, host, command, topic] if is_word(command, b"produce") => {
+            may_produce(alloc, principal, host, topic)
+        }
+        [principal, host, command, one, other] => {
+            may_by(alloc, words, principal, host, command, one, other)
+        }
+        [principal, host, command, topic, how, id] => {
+            may_six(alloc, words, principal, host, command, topic, how, id)
+        }
+        _ => may_request(alloc, words),
+    }
+}
