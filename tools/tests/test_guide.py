@@ -150,6 +150,8 @@ class Guide(unittest.TestCase):
         table += "| Crate | Cited above and not quoted |\n|---|---|\n"
         link = "[`first`](../crates/kob_low/specs/Marks.antt#L2)"
         self.written(page.format(""), page.format(f"{table}| kob_low | {link} |\n\n"))
+        moved = "[`gone`](../crates/kob_low/specs/Marks.antt#L9)\n"
+        self.written(page.format(moved), page.format(f"{table}| kob_low | {link} |\n\n"))
 
     def test_contents_list_the_headings(self) -> None:
         page = "<!-- contents -->\n{}<!-- end of contents -->\n\n## Its `first` part\n\n"
