@@ -1,7 +1,7 @@
 -- The first line of which something is so, among those that are left.
-use Rattle.std.proofs.Common.{Bool, List, None, Option, Some, arith, drop, ap, drop_of_length-le, false, get_or, length, map, sym, take, true, ℕ, ◌+◌, ◌<◌, ◌∙◌, ◌≡◌, ◌≤◌}
+use Rattle.std.proofs.Common.{Bool, List, None, Option, Some, arith, drop, ap, drop_of_length-le, false, get_or, length, map, sym, take, true, ℕ, ◌+◌, ◌++◌, ◌<◌, ◌∙◌, ◌≡◌, ◌≤◌}
 use Rattle.std.proofs.lemmas.Bool.Decides.{nat_tests}
-use Rattle.std.proofs.lemmas.List.{drop_more, length-map, take-map, take_all}
+use Rattle.std.proofs.lemmas.List.{drop_more, length-map, map-append, take-map, take_all}
 use Rattle.std.proofs.lemmas.Option.{slice_get-map}
 use Rattle.std.specs.List.{slice_get}
 use Rattle.std.specs.Option.{option_map}
@@ -41,3 +41,7 @@ lent_before view items count = sym (take-map view count items)
 pub lent_whole : {A B : Type 0} (view : A → B) (items : List A) (count : ℕ) → length items ≤ count
     → map view items ≡ take count (map view items)
 lent_whole view items count most = sym (take-map view count items ∙ ap (map view) (take_all count items most))
+
+pub lent_more : {A B : Type 0} (view : A → B) (items more : List A)
+    → map view (items ++ more) ≡ map view items ++ map view more
+lent_more view items more = map-append view items more

@@ -1,4 +1,4 @@
--- Which word of a question is wrong, and what is missing there.
+-- Which word of a question is wrong, and what is missing there. Cited by private functions alone.
 use Rattle.std.specs.Prelude.{ℕ, ◌+◌, ◌-◌, ◌&&◌, ◌||◌, ◌==◌, nat_lt, not, Bool, false, List, [], ◌∷◌, Option, Some, None, codes, drop, length, slice_get, unwrap_or, if◌then◌else◌}
 use Rattle.std.specs.List.{list_any}
 use Rattle.std.specs.Option.{is_some, option_map}

@@ -1,4 +1,4 @@
--- Which word of a question does not fit.
+-- Which word of a question does not fit. Cited by private functions alone.
 use Rattle.kob_mistakes.specs.declared.rows.Fit.{Fit}
 use Rattle.kob_mistakes.specs.declared.rows.Fit.TheVariants as fit
 use Rattle.kob_script.specs.Words.{Word, named_host, named_principal}

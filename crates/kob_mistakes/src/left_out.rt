@@ -5,8 +5,8 @@ ghost use Rattle.kob_mistakes.specs.LeftOut.{is_before_partition, lacks_askers_h
 ghost use Rattle.kob_mistakes.specs.LeftOut.{lacks_partition, lacks_payload, lacks_workers_host};
 ghost use Rattle.kob_mistakes.specs.LeftOut.{left_out, left_out_text, place_of_left_out};
 
+use crate::forms::is_command;
 use crate::record::word_is;
-use crate::usage::is_command;
 use crate::words::word_at;
 
 /// What is left out of a line.

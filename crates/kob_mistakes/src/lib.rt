@@ -2,12 +2,14 @@
 //! expected there, and the nearest word that exists.
 #![tactic(auto)]
 
+mod forms;
 mod hint;
 mod kinds;
 mod left_out;
 mod listed;
 mod mistake;
 mod misused;
+mod names;
 mod option;
 mod place;
 mod question;
@@ -19,7 +21,6 @@ mod record;
 mod rows;
 mod spelling;
 mod told;
-mod usage;
 mod words;
 mod worker;
 
@@ -33,3 +34,4 @@ pub use quoted::quoted_name;
 pub use record::doubtful_state;
 pub use spelling::nearest;
 pub use told::{push_doubtful, push_misspelt, push_quoted, push_unquoted};
+pub use words::{lines_of, word_at};

@@ -1,8 +1,8 @@
 //! Where a line of a list of bindings is wrong.
 
+use crate::forms::{is_command, is_step};
 use crate::hint::hint_on_bytes;
 use crate::option::option_place;
-use crate::usage::{is_command, is_step};
 use crate::worker::declared_by;
 use bstr::ByteSlice;
 use kob_script::{FaultKind, LineError, words_of};

@@ -5,7 +5,7 @@ ghost use Rattle.kob_scene_text.specs.Misuses.{misuse_at};
 ghost use Rattle.kob_script.specs.Script.{line_words};
 ghost use Rattle.kob_script.specs.Words.{raw_words, words_of};
 ghost use Rattle.kob_mistakes.specs.Places.{begins_with_nothing, count_of, half_place, is_half};
-ghost use Rattle.kob_mistakes.specs.Places.{is_long_record, place_by, place_in, place_named, place_of};
+ghost use Rattle.kob_mistakes.specs.Places.{is_long_record, place_by, place_named, place_of};
 ghost use Rattle.kob_scene_text.specs.Places.{same_kind};
 ghost use Rattle.kob_mistakes.specs.Forms.{form_by};
 ghost use Rattle.kob_mistakes.specs.Lines.{line_of, line_where, lines_before};
@@ -13,12 +13,13 @@ ghost use Rattle.kob_mistakes.specs.Mistakes.{form_at, hint_at, hint_named, near
 ghost use Rattle.kob_mistakes.specs.Names.{name_declared, name_on, nearest_at, text_of, words_at};
 ghost use Rattle.kob_mistakes.specs.Names.{worker_names, workers_at};
 
+use crate::forms::{LAW_FORM, form_of, is_keyword};
 use crate::hint::hint_on;
 use crate::left_out::{LeftOut, left_out};
+use crate::names::push_names;
 use crate::place::word_place;
 use crate::record::{before_ending, hint_on_record, word_is};
 use crate::spelling::{nearest, unless_same};
-use crate::usage::{LAW_FORM, form_of, is_keyword, push_names};
 use crate::words::{as_text, escape_place, line_at, lines_before, lines_of, raw_words, word_at};
 use crate::worker::{WorkerKind, declared_by, kind_named, stepping_at};
 use kob_names::Text;
@@ -153,23 +154,9 @@ fn place_of(
     ensures { IfOk result (λ place.
         place ≡ place_of (map (λ line. line.now) before.now) line.now kind) }
 {
-    match escape_place(alloc, raw)? {
-        Some(place) => Ok(place),
-        None => place_in(alloc, before, line, raw, kind),
+    if let Some(place) = escape_place(alloc, raw)? {
+        return Ok(place);
     }
-}
-
-fn place_in(
-    alloc: Global,
-    before: &[&[u8]],
-    line: &[u8],
-    raw: &[&[u8]],
-    kind: SceneFaultKind,
-) -> Result<usize, AllocError>
-    requires { map (λ word. word.now) raw.now ≡ raw_words line.now }
-    ensures { IfOk result (λ place.
-        place ≡ place_in (map (λ line. line.now) before.now) line.now kind) }
-{
     if line.starts_with(b"\xef\xbb\xbf") {
         return Ok(0);
     }

@@ -1,7 +1,7 @@
 //! The form of a question, by its words.
 
+use crate::forms::request_form;
 use crate::kinds::{Kind, kind_named};
-use crate::usage::request_form;
 use crate::words::word_at;
 use kob_words::operation_named;
 

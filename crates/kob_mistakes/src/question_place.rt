@@ -10,9 +10,9 @@ ghost use Rattle.kob_mistakes.specs.Questions.{missing_hint, missing_of_row, mis
 ghost use Rattle.kob_mistakes.specs.Questions.{place_behind, place_by_name, place_of_kind};
 ghost use Rattle.kob_mistakes.specs.Questions.{produced_row, right_row, row_of};
 
+use crate::forms::is_command;
 use crate::kinds::{Kind, kind_named};
 use crate::rows::{Fit, misfit};
-use crate::usage::is_command;
 use kob_names::sum_of;
 use kob_script::{FaultKind, Word, fault_place};
 use kob_words::operation_named;

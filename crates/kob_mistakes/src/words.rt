@@ -17,7 +17,7 @@ pub(crate) fn is_blank(byte: u8) -> bool
 }
 
 /// The lines of a text.
-pub(crate) fn lines_of(alloc: Global, text: &[u8]) -> Result<Vec<&[u8]>, AllocError>
+pub fn lines_of(alloc: Global, text: &[u8]) -> Result<Vec<&[u8]>, AllocError>
     ensures { IfOk result (λ lines. map (λ line. line.now) lines.items ≡ lines_in text.now) }
 {
     text.lines().collect(alloc)
@@ -34,7 +34,7 @@ pub(crate) fn raw_words(alloc: Global, line: &[u8]) -> Result<Vec<&[u8]>, AllocE
 
 /// The word at a place, an empty one behind the last.
 #[tactic(auto, using(crate::proofs::Walking::lent_at), unfolding(crate::specs::Lines::word_at))]
-pub(crate) fn word_at<'a>(words: &[&'a [u8]], place: usize) -> &'a [u8]
+pub fn word_at<'a>(words: &[&'a [u8]], place: usize) -> &'a [u8]
     ensures { result.now ≡ word_at (map (λ word. word.now) words.now) place }
 {
     match words.get(place) {

@@ -1,6 +1,6 @@
 -- The names so far are those before and those of the forms that were passed.
 use Rattle.std.proofs.Common.{map, take, ◌++◌, ◌≡◌}
-use Rattle.kob_mistakes.proofs.usage.push_names_of.Given as goal
+use Rattle.kob_mistakes.proofs.names.push_names_of.Given as goal
 
 abbrev pub invariant-loop-form : goal.invariant-loop-form
 invariant-loop-form l =

@@ -1,7 +1,7 @@
 -- The form of the word among those that are left is that among all.
 use Rattle.std.proofs.Common.{drop, map, ◌≡◌}
 use Rattle.kob_mistakes.specs.Forms.{form_in}
-use Rattle.kob_mistakes.proofs.usage.form_in.Given as goal
+use Rattle.kob_mistakes.proofs.forms.form_in.Given as goal
 
 abbrev pub invariant-loop-form : goal.invariant-loop-form
 invariant-loop-form l =
