@@ -56,7 +56,6 @@ fn push_change(out: &mut Vec<u8>, change: &Change) -> Result<(), AllocError>
     out.extend_from_slice(outcome_text(change.outcome).as_bytes())
 }
 
-#[tactic(auto, using(kob_words::proofs::Appending::appending))]
 fn push_each(out: &mut Vec<u8>, found: &[Change]) -> Result<(), AllocError>
     ensures { OnOk result (out.new.items ≡ out.old.items ++ flat_map change_line found.now) }
 {
@@ -90,7 +89,6 @@ fn push_super<'a>(
 }
 
 /// The super users that are not among the others.
-#[tactic(auto, using(kob_words::proofs::Appending::appending))]
 fn push_supers<'a>(
     out: &mut Vec<u8>,
     what: &'a str,

@@ -117,7 +117,6 @@ fn push_holding(out: &mut Vec<u8>, host: &Option<Host>, one: &Holding) -> Result
     push_line(out, host, one)
 }
 
-#[tactic(auto, using(kob_words::proofs::Appending::appending))]
 fn push_each(out: &mut Vec<u8>, host: &Option<Host>, found: &[Holding]) -> Result<(), AllocError>
     ensures { OnOk result
         (out.new.items ≡ out.old.items ++ flat_map (holding_text host.now) found.now) }

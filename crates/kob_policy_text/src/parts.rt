@@ -67,7 +67,6 @@ fn push_part(out: &mut Vec<u8>, part: Part<'_>) -> Result<(), AllocError>
 }
 
 /// Prints the parts of a line, one behind the other.
-#[tactic(auto, using(kob_words::proofs::Appending::appending))]
 pub fn push_parts(out: &mut Vec<u8>, parts: &[Part<'_>]) -> Result<(), AllocError>
     ensures { OnOk result (out.new.items ≡ out.old.items ++ flat_map part_text parts.now) }
 {

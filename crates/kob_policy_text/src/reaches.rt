@@ -51,7 +51,6 @@ fn push_reach(out: &mut Vec<u8>, one: &Reach) -> Result<(), AllocError>
     }
 }
 
-#[tactic(auto, using(kob_words::proofs::Appending::appending))]
 fn push_each(out: &mut Vec<u8>, found: &[Reach]) -> Result<(), AllocError>
     ensures { OnOk result (out.new.items ≡ out.old.items ++ flat_map reach_text found.now) }
 {
