@@ -117,7 +117,6 @@ fn everyone_text(before: bool, after: bool) -> &'static str
 /// Prints what changes: super users, `everyone`, and for each class of questions what becomes of
 /// the answer. Nothing is printed exactly if no answer at all changes, super users apart. The error
 /// is out of memory; `out` has then grown by a part of them.
-#[tactic(auto, using(kob_words::proofs::Appending::appending))]
 pub fn print_changes(
     alloc: Global,
     out: &mut Vec<u8>,

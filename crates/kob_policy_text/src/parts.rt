@@ -39,7 +39,6 @@ pub fn push_party(out: &mut Vec<u8>, all: &str, party: &Option<Text>) -> Result<
     }
 }
 
-#[tactic(auto, using(kob_words::proofs::Appending::appending))]
 fn push_names(out: &mut Vec<u8>, names: &Names) -> Result<(), AllocError>
     ensures { OnOk result (out.new.items ≡ out.old.items ++ names_text names.now) }
 {
