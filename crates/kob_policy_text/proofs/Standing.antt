@@ -1,5 +1,5 @@
 -- A binding that is equal to the one at a place is among all.
-use Rattle.std.proofs.Common.{List, None, Option, Some, false, refl, true, ℕ, ◌≡◌}
+use Rattle.std.proofs.Common.{List, None, Option, Some, refl, true, ℕ, ◌≡◌}
 use Rattle.std.proofs.lemmas.Map.Keys.{any_passes_from_place}
 use Rattle.std.specs.List.{slice_get}
 use Rattle.kob_names.specs.Binding.{Binding, same_binding}

@@ -15,7 +15,6 @@ use crate::rights::{
 };
 use std::alloc::AllocError;
 
-#[tactic(auto, using(kob_words::proofs::Appending::appending))]
 fn push_right_answer(out: &mut Vec<u8>, judge: &Judge, asked: &Asked<'_>) -> Result<(), AllocError>
     ensures { OnOk result (out.new.items ≡ out.old.items ++ right_answer judge.now asked.now) }
 {
@@ -46,7 +45,6 @@ fn push_act<'a>(
 }
 
 /// The answer, and the bindings that decide.
-#[tactic(auto, using(kob_words::proofs::Appending::appending))]
 pub fn push_access<'a>(
     out: &mut Vec<u8>,
     judge: &'a Judge,
@@ -85,7 +83,6 @@ fn outcome_of_expected(other: bool) -> &'static str
 }
 
 /// The answer, and whether it is as expected.
-#[tactic(auto, using(kob_words::proofs::Appending::appending))]
 pub fn push_expected<'a>(
     out: &mut Vec<u8>,
     judge: &'a Judge,

@@ -46,7 +46,6 @@ fn push_question<'a>(
     }
 }
 
-#[tactic(auto, using(kob_words::proofs::Appending::appending))]
 fn push_answer_line<'a>(
     alloc: Global,
     out: &mut Vec<u8>,
@@ -96,7 +95,6 @@ pub fn print_omissions(out: &mut Vec<u8>, policy: &Policy) -> Result<(), AllocEr
 }
 
 /// Prints what changes from one policy to another, and then the answers of the second.
-#[tactic(auto, using(kob_words::proofs::Appending::appending))]
 pub fn print_review(
     alloc: Global,
     out: &mut Vec<u8>,

@@ -56,7 +56,6 @@ fn push_change(out: &mut Vec<u8>, change: &Change) -> Result<(), AllocError>
     out.extend_from_slice(outcome_text(change.outcome).as_bytes())
 }
 
-#[tactic(auto, using(kob_words::proofs::Appending::appending))]
 fn push_each(out: &mut Vec<u8>, found: &[Change]) -> Result<(), AllocError>
     ensures { OnOk result (out.new.items ≡ out.old.items ++ flat_map change_line found.now) }
 {
@@ -90,7 +89,6 @@ fn push_super<'a>(
 }
 
 /// The super users that are not among the others.
-#[tactic(auto, using(kob_words::proofs::Appending::appending))]
 fn push_supers<'a>(
     out: &mut Vec<u8>,
     what: &'a str,
@@ -119,7 +117,6 @@ fn everyone_text(before: bool, after: bool) -> &'static str
 /// Prints what changes: super users, `everyone`, and for each class of questions what becomes of
 /// the answer. Nothing is printed exactly if no answer at all changes, super users apart. The error
 /// is out of memory; `out` has then grown by a part of them.
-#[tactic(auto, using(kob_words::proofs::Appending::appending))]
 pub fn print_changes(
     alloc: Global,
     out: &mut Vec<u8>,

@@ -14,7 +14,6 @@ use kob_policy_review::{Holding, is_super, names_all, rights};
 use kob_words::{operation_name, resource_name};
 use std::alloc::{AllocError, Global};
 
-#[tactic(auto, using(kob_words::proofs::Appending::appending))]
 fn push_behind_comma(out: &mut Vec<u8>, operation: Operation) -> Result<(), AllocError>
     ensures { OnOk result (out.new.items ≡ out.old.items ++ behind_comma operation) }
 {
@@ -34,7 +33,6 @@ fn push_others(out: &mut Vec<u8>, operations: &[Operation]) -> Result<(), AllocE
     Ok(())
 }
 
-#[tactic(auto, using(kob_words::proofs::Appending::appending))]
 fn push_joined(out: &mut Vec<u8>, operations: &[Operation]) -> Result<(), AllocError>
     ensures { OnOk result (out.new.items ≡ out.old.items ++ joined operations.now) }
 {
@@ -57,7 +55,6 @@ fn push_operations(out: &mut Vec<u8>, operations: &[Operation]) -> Result<(), Al
     }
 }
 
-#[tactic(auto, using(kob_words::proofs::Appending::appending))]
 fn push_from(out: &mut Vec<u8>, host: &Option<Host>, one: &Holding) -> Result<(), AllocError>
     ensures { OnOk result (out.new.items ≡ out.old.items ++ from_host host.now one.now) }
 {
@@ -117,7 +114,6 @@ fn push_holding(out: &mut Vec<u8>, host: &Option<Host>, one: &Holding) -> Result
     push_line(out, host, one)
 }
 
-#[tactic(auto, using(kob_words::proofs::Appending::appending))]
 fn push_each(out: &mut Vec<u8>, host: &Option<Host>, found: &[Holding]) -> Result<(), AllocError>
     ensures { OnOk result
         (out.new.items ≡ out.old.items ++ flat_map (holding_text host.now) found.now) }
@@ -139,7 +135,6 @@ fn open_text(everyone: bool) -> &'static str
 }
 
 /// What is granted to a principal that is no super user.
-#[tactic(auto, using(kob_words::proofs::Appending::appending))]
 fn push_held(
     alloc: Global,
     out: &mut Vec<u8>,

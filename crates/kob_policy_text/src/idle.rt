@@ -17,7 +17,6 @@ fn push_one(out: &mut Vec<u8>, judge: &Judge, serial: u64) -> Result<(), AllocEr
     push_line_by(out, judge, serial)
 }
 
-#[tactic(auto, using(kob_words::proofs::Appending::appending))]
 fn push_each(out: &mut Vec<u8>, judge: &Judge, serials: &[u64]) -> Result<(), AllocError>
     ensures { OnOk result (out.new.items
         ≡ out.old.items ++ flat_map (listed_line judge.now) serials.now) }

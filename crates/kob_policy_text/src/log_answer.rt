@@ -209,7 +209,6 @@ fn push_unjudged(out: &mut Vec<u8>, others: usize, skipped: usize) -> Result<(),
     push_count(out, "skipped-lines", skipped)
 }
 
-#[tactic(auto, using(kob_words::proofs::Appending::appending))]
 fn push_accesses(
     alloc: Global,
     out: &mut Vec<u8>,

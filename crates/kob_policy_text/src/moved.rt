@@ -104,7 +104,6 @@ fn push_lines(
 }
 
 /// Lines below a word, if there are any.
-#[tactic(auto, using(kob_words::proofs::Appending::appending))]
 fn push_headed(out: &mut Vec<u8>, what: &[u8], lines: &[u8]) -> Result<(), AllocError>
     ensures { OnOk result (out.new.items ≡ out.old.items ++ headed what.now lines.now) }
 {
@@ -137,7 +136,6 @@ fn push_alone(
 /// Prints the bindings that only the first policy has, below `removed`, and those that only the
 /// second one has, below `added`. Bindings are equal whatever their serials are. The error is out
 /// of memory; `out` has then grown by a part of the text.
-#[tactic(auto, using(kob_words::proofs::Appending::appending))]
 pub fn print_moved(
     alloc: Global,
     out: &mut Vec<u8>,

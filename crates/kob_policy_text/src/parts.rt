@@ -39,7 +39,6 @@ pub fn push_party(out: &mut Vec<u8>, all: &str, party: &Option<Text>) -> Result<
     }
 }
 
-#[tactic(auto, using(kob_words::proofs::Appending::appending))]
 fn push_names(out: &mut Vec<u8>, names: &Names) -> Result<(), AllocError>
     ensures { OnOk result (out.new.items ≡ out.old.items ++ names_text names.now) }
 {
@@ -67,7 +66,6 @@ fn push_part(out: &mut Vec<u8>, part: Part<'_>) -> Result<(), AllocError>
 }
 
 /// Prints the parts of a line, one behind the other.
-#[tactic(auto, using(kob_words::proofs::Appending::appending))]
 pub fn push_parts(out: &mut Vec<u8>, parts: &[Part<'_>]) -> Result<(), AllocError>
     ensures { OnOk result (out.new.items ≡ out.old.items ++ flat_map part_text parts.now) }
 {

@@ -16,7 +16,6 @@ use kob_names::{Binding, Verdict};
 use kob_words::{operation_name, push_bytes, push_number, resource_name};
 use std::alloc::AllocError;
 
-#[tactic(auto, using(kob_words::proofs::Appending::appending))]
 fn push_origin(out: &mut Vec<u8>, origin: &Origin) -> Result<(), AllocError>
     ensures { OnOk result (out.new.items ≡ out.old.items ++ origin_text origin.now) }
 {
@@ -33,7 +32,6 @@ pub fn yes_or_no(yes: bool) -> &'static str
 }
 
 /// Yes or no, and the verdict.
-#[tactic(auto, using(kob_words::proofs::Appending::appending))]
 pub fn push_answer(out: &mut Vec<u8>, verdict: Verdict) -> Result<(), AllocError>
     ensures { OnOk result (out.new.items ≡ out.old.items ++ answer_text verdict) }
 {
@@ -53,7 +51,6 @@ pub fn push_answer(out: &mut Vec<u8>, verdict: Verdict) -> Result<(), AllocError
 }
 
 /// From where a binding comes, behind a blank.
-#[tactic(auto, using(kob_words::proofs::Appending::appending))]
 pub fn push_origin_behind(out: &mut Vec<u8>, origin: Option<&Origin>) -> Result<(), AllocError>
     ensures { OnOk result
         (out.new.items ≡ out.old.items ++ origin_behind (option_copied origin.entry)) }
@@ -114,7 +111,6 @@ pub fn push_line_by(out: &mut Vec<u8>, judge: &Judge, serial: u64) -> Result<(),
 }
 
 /// An answer, and below it the binding that decides.
-#[tactic(auto, using(kob_words::proofs::Appending::appending))]
 pub fn push_may(out: &mut Vec<u8>, judge: &Judge, verdict: Verdict) -> Result<(), AllocError>
     ensures { OnOk result (out.new.items ≡ out.old.items ++ may_text judge.now verdict) }
 {
@@ -129,7 +125,6 @@ pub fn push_may(out: &mut Vec<u8>, judge: &Judge, verdict: Verdict) -> Result<()
 }
 
 /// An operation on a resource.
-#[tactic(auto, using(kob_words::proofs::Appending::appending))]
 pub fn push_right(out: &mut Vec<u8>, asked: &Asked<'_>) -> Result<(), AllocError>
     ensures { OnOk result (out.new.items ≡ out.old.items ++ right_text asked.now) }
 {

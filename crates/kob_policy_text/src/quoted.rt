@@ -70,7 +70,6 @@ pub fn push_name(out: &mut Vec<u8>, name: &str) -> Result<(), AllocError>
     out.extend_from_slice(b"\"")
 }
 
-#[tactic(auto, using(kob_words::proofs::Appending::appending))]
 fn push_grant(out: &mut Vec<u8>, binding: &Draft) -> Result<(), AllocError>
     ensures { OnOk result (out.new.items ≡ out.old.items ++ grant_text binding.now) }
 {
@@ -83,7 +82,6 @@ fn push_grant(out: &mut Vec<u8>, binding: &Draft) -> Result<(), AllocError>
     out.extend_from_slice(operation_name(binding.operation).as_bytes())
 }
 
-#[tactic(auto, using(kob_words::proofs::Appending::appending))]
 fn push_pattern(out: &mut Vec<u8>, binding: &Draft) -> Result<(), AllocError>
     ensures { OnOk result (out.new.items ≡ out.old.items ++ pattern_text binding.now) }
 {
@@ -95,7 +93,6 @@ fn push_pattern(out: &mut Vec<u8>, binding: &Draft) -> Result<(), AllocError>
 }
 
 /// A binding with its serial, without a line feed.
-#[tactic(auto, using(kob_words::proofs::Appending::appending))]
 pub fn push_binding(out: &mut Vec<u8>, serial: u64, binding: &Binding) -> Result<(), AllocError>
     ensures { OnOk result (out.new.items ≡ out.old.items ++ binding_text serial binding.now) }
 {

@@ -51,7 +51,6 @@ fn push_reach(out: &mut Vec<u8>, one: &Reach) -> Result<(), AllocError>
     }
 }
 
-#[tactic(auto, using(kob_words::proofs::Appending::appending))]
 fn push_each(out: &mut Vec<u8>, found: &[Reach]) -> Result<(), AllocError>
     ensures { OnOk result (out.new.items ≡ out.old.items ++ flat_map reach_text found.now) }
 {
@@ -63,7 +62,6 @@ fn push_each(out: &mut Vec<u8>, found: &[Reach]) -> Result<(), AllocError>
 
 /// Super users, and then each principal and host that may do this on all names, or on some, that
 /// begin with the name of the right.
-#[tactic(auto, using(kob_words::proofs::Appending::appending))]
 fn push_reached(
     alloc: Global,
     out: &mut Vec<u8>,

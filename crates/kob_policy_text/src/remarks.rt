@@ -34,7 +34,6 @@ fn push_nearest(out: &mut Vec<u8>, nearest: &Option<Text>) -> Result<(), AllocEr
 }
 
 /// That no pattern takes the name of a right, and the nearest name of a pattern on such resources.
-#[tactic(auto, using(kob_words::proofs::Appending::appending))]
 pub fn push_no_taker(
     alloc: Global,
     out: &mut Vec<u8>,

@@ -134,7 +134,6 @@ fn push_check<'a>(
     push_untaken(out, judge, verdict, asked)
 }
 
-#[tactic(auto, using(kob_words::proofs::Appending::appending))]
 fn push_clause<'a>(
     out: &mut Vec<u8>,
     judge: &'a Judge,
@@ -197,7 +196,6 @@ pub fn are_met(judge: &Judge, asker: &Asker, rights: &Rights<'_>) -> bool
     }
 }
 
-#[tactic(auto, using(kob_words::proofs::Appending::appending))]
 pub fn push_rights<'a>(
     out: &mut Vec<u8>,
     judge: &'a Judge,

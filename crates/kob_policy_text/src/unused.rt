@@ -48,7 +48,6 @@ fn push_unneeded(out: &mut Vec<u8>, judge: &Judge, one: &Unneeded) -> Result<(),
     }
 }
 
-#[tactic(auto, using(kob_words::proofs::Appending::appending))]
 fn push_each(out: &mut Vec<u8>, judge: &Judge, found: &[Unneeded]) -> Result<(), AllocError>
     ensures { OnOk result (out.new.items
         ≡ out.old.items ++ flat_map (unneeded_text judge.now) found.now) }

@@ -195,7 +195,6 @@ fn push_grants(out: &mut Vec<u8>, judge: &Judge, answers: &[Answer]) -> Result<(
 
 /// Super users, and then each principal and host to which the right is granted, or from which a
 /// deny takes it away.
-#[tactic(auto, using(kob_words::proofs::Appending::appending))]
 fn push_granted(
     alloc: Global,
     out: &mut Vec<u8>,
@@ -231,7 +230,6 @@ fn push_who_list(
 }
 
 /// The answer from one host, and what is remarked below it.
-#[tactic(auto, using(kob_words::proofs::Appending::appending))]
 fn push_from_one(
     alloc: Global,
     out: &mut Vec<u8>,
@@ -247,7 +245,6 @@ fn push_from_one(
 }
 
 /// Prints who may do this: from every host, or the answer from one host to each principal.
-#[tactic(auto, using(kob_words::proofs::Appending::appending))]
 pub fn push_who(
     alloc: Global,
     out: &mut Vec<u8>,
@@ -289,7 +286,6 @@ fn push_grants_of(
 }
 
 /// Prints who may read a topic, and then who may read as a group, each below the right.
-#[tactic(auto, using(kob_words::proofs::Appending::appending))]
 pub fn push_consumers(
     alloc: Global,
     out: &mut Vec<u8>,
@@ -317,7 +313,6 @@ pub fn is_seen(judge: &Judge, asker: &Asker, topic: &Text) -> bool
     })
 }
 
-#[tactic(auto, using(kob_words::proofs::Appending::appending))]
 fn push_topic(out: &mut Vec<u8>, topic: &Text) -> Result<(), AllocError>
     ensures { OnOk result (out.new.items ≡ out.old.items ++ topic_text topic.now) }
 {
