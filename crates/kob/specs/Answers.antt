@@ -1,5 +1,5 @@
 -- What is printed about lists, in each form.
-use Rattle.std.specs.Prelude.{ℕ, List, [], ◌∷◌, ◌++◌, codes, map, string_bytes}
+use Rattle.std.specs.Prelude.{ℕ, List, [], ◌∷◌, ◌++◌, codes}
 use Rattle.std.specs.Fmt.{decimal}
 use Rattle.std.specs.List.{flat_map}
 use Rattle.kob.specs.Ending.{ending_of_changes}
@@ -47,9 +47,7 @@ or_standard [] = codes "-" ∷ []
 or_standard (file ∷ files) = file ∷ files
 
 abbrev pub names_in : Options → List (List ℕ)
-names_in options = or_standard (map (λ file. string_bytes file) options.policy.items
-    ++ map (λ file. string_bytes file) options.before.items
-    ++ map (λ file. string_bytes file) options.after.items)
+names_in options = or_standard (options.policy ++ options.before ++ options.after)
 
 abbrev pub name_text : List ℕ → List ℕ
 name_text name = codes " " ++ name

@@ -57,6 +57,10 @@ abbrev pub ending_of_list : ReadError → Ending
 ending_of_list (list.Memory refused) = OutOfMemory
 ending_of_list (list.Line line) = Failed
 
+-- what was to be done was not done whole
+abbrev pub IsFailure : Ending → Type 0
+IsFailure ending = (ending ≡ Failed) ⊎ (ending ≡ OutOfMemory)
+
 -- a part of the questions of `policy`
 abbrev pub ending_of_part : Result Ending Stop → Ending
 ending_of_part (Ok ending) = ending

@@ -1,6 +1,7 @@
 -- What an export prints, and which service it is of.
 use Rattle.std.specs.Borrow.{Bor}
-use Rattle.std.specs.Prelude.{ℕ, Bool, true, false, List, [], ◌∷◌, Option, Some, None, Result, Ok, Err, bytes_eq, codes, position}
+use Rattle.std.specs.Prelude.{◌≡◌, ℕ, Bool, true, false, List, [], ◌∷◌, Option, Some, None, Result, Ok, Err, bytes_eq, codes, position}
+use Rattle.std.specs.Result.{is_ok}
 use Rattle.kob.specs.Connect.{connector_text, table_of}
 use Rattle.kob.specs.Export.{export_text}
 use Rattle.kob.specs.declared.exporting.Unexported.{Unexported}
@@ -10,6 +11,7 @@ use Rattle.kob.specs.declared.options.ExportForm.TheVariants.{Commands, Connect,
 use Rattle.kob.specs.declared.report.Report.{Report}
 use Rattle.kob.specs.declared.report.Report.TheVariants as report
 use Rattle.kob.specs.declared.report.FileReport.TheVariants as file
+use Rattle.kob_scene_text.specs.Scenes.{MayRead}
 use Rattle.kob_scene_text.specs.declared.scene.Scene.{Scene}
 use Rattle.kob_scene_text.specs.declared.scene.Sending.{Sending}
 use Rattle.kob_scene_text.specs.declared.scene.Sending.TheVariants.{Proved, RetriesNew, DeletesFirst, NotIdempotent, Separate, VisibleLate}
@@ -28,6 +30,17 @@ chosen (Some name) services = if_known (service_named services name)
 chosen None [] = Err why.NoService
 chosen None (service ∷ []) = Ok 0
 chosen None (service ∷ other ∷ others) = Err why.SeveralServices
+
+-- a scene has a connector if a service of it is chosen
+abbrev pub has_export : ExportForm → Option (List ℕ) → List Service → Bool
+has_export Commands named services = true
+has_export (Connect database) named services = is_ok (chosen named services)
+has_export (Table database) named services = true
+
+-- A text is a scene that has such an export.
+abbrev pub IsExportable : ExportForm → Option (List ℕ) → List ℕ → Type 0
+IsExportable form named text = (scene : Scene) × MayRead text (Ok scene)
+    × (has_export form named scene.services.items ≡ true)
 
 -- what an export prints
 abbrev pub export_by : ExportForm → Option (List ℕ) → Scene → List ℕ

@@ -1,5 +1,5 @@
 -- The line above what is printed of one of several files.
-use Rattle.std.specs.Prelude.{ℕ, List, [], ◌++◌, Option, Some, None, codes, slice_get}
+use Rattle.std.specs.Prelude.{ℕ, Bool, true, false, List, [], ◌++◌, codes}
 use Rattle.kob.specs.declared.play.Work.{Work}
 use Rattle.kob.specs.declared.play.Work.TheVariants.{Play, Export}
 use Rattle.kob_scene_play.specs.Json.{json_string}
@@ -14,9 +14,7 @@ heading_text (Play Plain is_watched) file = file_line file
 heading_text (Play Trace is_watched) file = file_line file
 heading_text (Export form service) file = file_line file
 
-abbrev pub or_empty : Option (List ℕ) → List ℕ
-or_empty None = []
-or_empty (Some word) = word
-
-abbrev pub word_at : List (List ℕ) → ℕ → List ℕ
-word_at words place = or_empty (slice_get words place)
+-- only answers may be other than is expected
+abbrev pub can_differ : Work → Bool
+can_differ (Play form is_watched) = true
+can_differ (Export form service) = false

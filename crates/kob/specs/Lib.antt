@@ -1,4 +1,5 @@
 pub mod Answers
+pub mod CommandLine
 pub mod Commands
 pub mod Connect
 pub mod Ending

@@ -1,7 +1,7 @@
 //! How the program ends.
 
 ghost use Rattle.std.specs.Prelude.{◌≡◌};
-ghost use Rattle.kob.specs.Ending.{ending_of_fault, ending_of_play, status_of, worse};
+ghost use Rattle.kob.specs.Ending.{ending_of_answers, ending_of_fault, ending_of_play, status_of, worse};
 
 use kob_scene_play::{Ended, PlayFault};
 
@@ -69,5 +69,16 @@ pub fn ending_of_play(played: Result<Ended, PlayFault>) -> Ending
         Ok(Ended::Fault(_)) => Ending::Failed,
         Ok(Ended::Stopped(fault)) => ending_of_fault(fault),
         Err(fault) => ending_of_fault(fault),
+    }
+}
+
+/// The end of answers, of which one may be otherwise than is expected.
+pub fn ending_of_answers(differs: bool) -> Ending
+    ensures { result ≡ ending_of_answers differs }
+{
+    if differs {
+        Ending::Differs
+    } else {
+        Ending::Whole
     }
 }

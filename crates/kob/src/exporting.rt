@@ -1,10 +1,12 @@
 //! The export of a scene: its final state, the connector of one of its services, or a table.
 
 ghost use Rattle.std.specs.Option.{option_map};
-ghost use Rattle.std.specs.Prelude.{◌≡◌, ◌++◌, OnOk};
+ghost use Rattle.std.specs.Prelude.{◌≡◌, ◌≢◌, ◌++◌, OnOk, true};
+ghost use Rattle.std.specs.Result.{is_ok};
 ghost use Rattle.kob.specs.Connect.{connector_text};
-ghost use Rattle.kob.specs.Exporting.{chosen, export_by, is_exported, refusal, service_named};
-ghost use Rattle.kob.specs.Exporting.{variant_words};
+ghost use Rattle.kob.specs.Ending.{IsFailure};
+ghost use Rattle.kob.specs.Exporting.{IsExportable, chosen, export_by, has_export, is_exported};
+ghost use Rattle.kob.specs.Exporting.{refusal, service_named, variant_words};
 
 use crate::connect::{Database, push_connector, table_of};
 use crate::ending::Ending;
@@ -37,7 +39,11 @@ pub fn export<R: AllocGlobal + Print + Eprint>(
     service: Option<&str>,
     name: &str,
     text: &[u8],
-) -> Ending {
+) -> Ending
+    ensures differs { result ≢ Ending.Differs }
+    ensures whole { result ≡ Ending.Whole
+        → IsExportable form (option_map (λ name. name.now) service.entry) text.now }
+{
     match read_scene(rt.alloc(), text) {
         Ok(scene) => export_read(rt, form, service, name, &scene),
         Err(SceneError::Fault(fault)) => export_fault(rt, name, text, fault),
@@ -51,7 +57,11 @@ fn export_read<R: AllocGlobal + Print + Eprint>(
     service: Option<&str>,
     name: &str,
     scene: &Scene,
-) -> Ending {
+) -> Ending
+    ensures differs { result ≢ Ending.Differs }
+    ensures whole { result ≡ Ending.Whole → has_export form
+        (option_map (λ name. name.now) service.entry) scene.now.services.items ≡ true }
+{
     let mut out = Vec::new(rt.alloc());
     match push_export(rt.alloc(), &mut out, form, service, scene) {
         Ok(()) => {
@@ -68,7 +78,9 @@ fn export_fault<R: AllocGlobal + Print + Eprint>(
     name: &str,
     text: &[u8],
     fault: SceneFault,
-) -> Ending {
+) -> Ending
+    ensures { IsFailure result }
+{
     let mut out = Vec::new(rt.alloc());
     match print_scene_fault(&mut out, fault) {
         Ok(()) => say_fault(rt, name, text, fault).worse(write(rt, name, &out)),
@@ -97,8 +109,10 @@ fn push_export(
     service: Option<&str>,
     scene: &Scene,
 ) -> Result<(), Unexported>
-    ensures { OnOk result (out.new.items ≡ out.old.items
+    ensures printed { OnOk result (out.new.items ≡ out.old.items
         ++ export_by form (option_map (λ name. name.now) service.entry) scene.now) }
+    ensures chosen { OnOk result (has_export form
+        (option_map (λ name. name.now) service.entry) scene.now.services.items ≡ true) }
 {
     match form {
         ExportForm::Commands => match export_scene(alloc, out, scene) {
@@ -120,9 +134,11 @@ fn push_chosen(
     named: Option<&str>,
     services: &[Service],
 ) -> Result<(), Unexported>
-    ensures { OnOk result (out.new.items ≡ out.old.items
+    ensures printed { OnOk result (out.new.items ≡ out.old.items
         ++ connector_text database (chosen (option_map (λ name. name.now) named.entry) services.now)
         services.now) }
+    ensures chosen { OnOk result (is_ok
+        (chosen (option_map (λ name. name.now) named.entry) services.now) ≡ true) }
 {
     let place = chosen(named, services)?;
     push_connector(out, database, services, place).map_err(Unexported::Memory)

@@ -6,7 +6,7 @@ ghost use Rattle.kob.specs.Ending.{ending_of_answers};
 ghost use Rattle.kob.specs.Answers.{log_in, log_words};
 ghost use Rattle.kob_policy_text.specs.LogAnswers.{differs};
 
-use crate::ending::Ending;
+use crate::ending::{Ending, ending_of_answers};
 use crate::input::{Kind, text_of};
 use crate::policy_options::{AnswerForm, Options};
 use crate::report;
@@ -112,9 +112,6 @@ fn push_log(
     ensures ending { IfOk result (λ ending. ending
         ≡ ending_of_answers (differs judge.now text.now)) }
 {
-    if print_in(alloc, form, out, judge, number, file, text)? {
-        Ok(Ending::Differs)
-    } else {
-        Ok(Ending::Whole)
-    }
+    let differs = print_in(alloc, form, out, judge, number, file, text)?;
+    Ok(ending_of_answers(differs))
 }

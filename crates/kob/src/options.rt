@@ -1,14 +1,19 @@
 //! The words of the command line, read by `clap`.
 
-ghost use Rattle.std.specs.Prelude.{◌≡◌, ◌++◌, ◌∷◌, [], IfOk, IsErr, OnOk, map, string_bytes};
+ghost use Rattle.std.specs.Prelude.{◌≡◌, ◌++◌, ◌∷◌, [], IfOk, IsErr, Ok, OnOk, codes, map, string_bytes, true};
 ghost use Rattle.std.specs.Option.{option_map};
-ghost use Rattle.clap.specs.Words.{AddsArg, first_value, found_of, matched_of};
-ghost use Rattle.kob.specs.Options.{database_named, export_form_by, form_by, values_of};
+ghost use Rattle.clap.specs.Words.{AddsArg, AddsSubcommand, app_of, first_of, new_app};
+ghost use Rattle.clap.specs.Words.{found_of, rows_of, rule_of, subcommand_rows_of};
+ghost use Rattle.kob.specs.CommandLine.{Databases, one_of_names, export_app, files_app, flag, help_app, others};
+ghost use Rattle.kob.specs.CommandLine.{IsTaskOf, asks_policy, kob_app, play_app, service};
+ghost use Rattle.kob.specs.Options.{database_named, export_form_by, export_form_in, files_in, form_by};
+ghost use Rattle.kob.specs.Options.{form_in, is_given, task_found, task_named, values_of};
 
 use crate::connect::Database;
 use crate::help::{HELP, HELP_EXPORT, HELP_PLAY, HELP_TOPIC};
 use crate::policy_options::command as policy_command;
 use clap::{Arg, ArgAction, ArgMatches, Command, Error};
+use kob_names::{Items, Text};
 use kob_scene_play::Form;
 use std::alloc::{AllocError, Global};
 
@@ -17,16 +22,16 @@ use std::alloc::{AllocError, Global};
 pub enum Task {
     /// Plays scenes and scripts, and writes the answers in a form that is asked for; without a file,
     /// standard input.
-    Play(Option<Form>, Vec<String>),
+    Play(Option<Form>, Items<Text>),
     /// Exports the final state of scenes, or the connector of the service with this name, in a form
     /// that is asked for.
-    Export(ExportForm, Option<String>, Vec<String>),
+    Export(ExportForm, Option<Text>, Items<Text>),
     /// Answers questions about lists of bindings, by the words after `policy`.
     Policy,
     /// Compares the rows of an outbox with the records of a topic, in two files.
-    Topic(Vec<String>),
+    Topic(Items<Text>),
     /// Prints a page of help, the general one without a subject.
-    Help(Option<String>),
+    Help(Option<Text>),
     Version,
 }
 
@@ -46,8 +51,11 @@ static DATABASES: [&str; 2] = ["postgresql", "mysql"];
 
 /// The task that the words name, the first of which is the program's name. The error is what is
 /// wrong with the words, or a page of help that they ask for.
-pub fn task_of(alloc: Global, words: &[String]) -> Result<Task, Error> {
-    if words.get(1).is_some_and(|word| word.as_str() == "policy") {
+pub fn task_of(alloc: Global, words: &[String]) -> Result<Task, Error>
+    ensures policy { asks_policy (map string_bytes words.now) ≡ true → result ≡ Ok Task.Policy }
+    ensures task { IfOk result (IsTaskOf (map string_bytes words.now)) }
+{
+    if asks_policy(words) {
         return Ok(Task::Policy);
     }
     match command(alloc)?.try_get_matches_from(words) {
@@ -56,11 +64,21 @@ pub fn task_of(alloc: Global, words: &[String]) -> Result<Task, Error> {
     }
 }
 
+/// Whether the words after `policy` are its own.
+fn asks_policy(words: &[String]) -> bool
+    ensures { result ≡ asks_policy (map string_bytes words.now) }
+{
+    match words.get(1) {
+        Some(word) => word.as_str() == "policy",
+        None => false,
+    }
+}
+
 /// All options, for `clap` and for the completions of shells.
-fn command<'a>(alloc: Global) -> Result<Command<'a>, AllocError> {
-    let made = Command::new(alloc, "kob")
-        .override_help(HELP)
-        .disable_help_subcommand(true);
+fn command<'a>(alloc: Global) -> Result<Command<'a>, AllocError>
+    ensures { IfOk result (λ made. (databases : Databases) × (app_of made ≡ kob_app databases)) }
+{
+    let made = named(alloc, "kob", HELP).disable_help_subcommand(true);
     let made = made.arg(flag(alloc, "version").short('V'))?;
     let made = with_subcommand(made, play_command(alloc))?;
     let made = with_subcommand(made, export_command(alloc))?;
@@ -69,11 +87,22 @@ fn command<'a>(alloc: Global) -> Result<Command<'a>, AllocError> {
     with_subcommand(made, help_command(alloc))
 }
 
+/// A command of this name, with its page of help.
+pub fn named<'a>(alloc: Global, name: &'a str, help: &'a str) -> Command<'a>
+    ensures { app_of result ≡ new_app name.entry.now }
+{
+    Command::new(alloc, name).override_help(help)
+}
+
 /// A subcommand more, if it could be made.
 fn with_subcommand<'a>(
     made: Command<'a>,
     subcommand: Result<Command<'a>, AllocError>,
-) -> Result<Command<'a>, AllocError> {
+) -> Result<Command<'a>, AllocError>
+    ensures added { IfOk result (λ grown.
+        IfOk subcommand.entry (λ given. AddsSubcommand made.entry given grown)) }
+    ensures refused { IsErr subcommand.entry → IsErr result }
+{
     match subcommand {
         Ok(subcommand) => made.subcommand(subcommand),
         Err(refused) => {
@@ -100,80 +129,121 @@ pub fn with_arg<'a>(
     }
 }
 
-fn play_command<'a>(alloc: Global) -> Result<Command<'a>, AllocError> {
+fn play_command<'a>(alloc: Global) -> Result<Command<'a>, AllocError>
+    ensures { IfOk result (λ made. app_of made ≡ play_app) }
+{
     let made = files_command(alloc, "play", HELP_PLAY)?.arg(flag(alloc, "trace"))?;
     with_arg(made, flag(alloc, "json").conflicts_with("trace"))
 }
 
-fn export_command<'a>(alloc: Global) -> Result<Command<'a>, AllocError> {
-    let made = files_command(alloc, "export", HELP_EXPORT)?.arg(database(alloc, "connect"))?;
-    let made = with_arg(made, database(alloc, "table").conflicts_with("connect"))?;
+fn export_command<'a>(alloc: Global) -> Result<Command<'a>, AllocError>
+    ensures { IfOk result (λ made.
+        (databases : Databases) × (app_of made ≡ export_app databases)) }
+{
+    let names = DATABASES.as_slice();
+    let made = files_command(alloc, "export", HELP_EXPORT)?.arg(one_of_names(
+        alloc, names, "connect",
+    ))?;
+    let made = with_arg(
+        made,
+        one_of_names(alloc, names, "table").conflicts_with("connect"),
+    )?;
     with_arg(made, service(alloc).requires_arg("connect"))
 }
 
 /// An option that takes the name of a service.
-fn service<'a>(alloc: Global) -> Arg<'a> {
+fn service<'a>(alloc: Global) -> Arg<'a>
+    ensures { rule_of result ≡ service }
+{
     Arg::new(alloc, "service")
         .long("service")
         .value_name("NAME")
         .action(ArgAction::Set)
 }
 
-fn help_command<'a>(alloc: Global) -> Result<Command<'a>, AllocError> {
+fn help_command<'a>(alloc: Global) -> Result<Command<'a>, AllocError>
+    ensures { IfOk result (λ made. app_of made ≡ help_app) }
+{
     let subject = Arg::new(alloc, "SUBJECT").action(ArgAction::Set);
-    Command::new(alloc, "help").override_help(HELP).arg(subject)
+    named(alloc, "help", HELP).arg(subject)
 }
 
-fn flag<'a>(alloc: Global, name: &'a str) -> Arg<'a> {
+pub fn flag<'a>(alloc: Global, name: &'a str) -> Arg<'a>
+    ensures { rule_of result ≡ flag name.entry.now }
+{
     Arg::new(alloc, name).long(name).action(ArgAction::SetTrue)
 }
 
-/// An option that takes the name of a database.
-fn database<'a>(alloc: Global, name: &'a str) -> Arg<'a> {
+/// An option that takes one of these names.
+fn one_of_names<'a>(alloc: Global, names: &'a [&'a str], name: &'a str) -> Arg<'a>
+    ensures { rule_of result ≡ one_of_names names.entry name.entry.now }
+{
     Arg::new(alloc, name)
         .long(name)
         .action(ArgAction::Set)
-        .value_parser(DATABASES.as_slice())
+        .value_parser(names)
 }
 
 /// A command that takes files.
-fn files_command<'a>(
-    alloc: Global,
-    name: &'a str,
-    help: &'a str,
-) -> Result<Command<'a>, AllocError> {
-    let made = Command::new(alloc, name).override_help(help);
-    made.arg(
-        Arg::new(alloc, "FILE")
-            .num_args(0..)
-            .action(ArgAction::Append),
-    )
+fn files_command<'a>(alloc: Global, name: &'a str, help: &'a str) -> Result<Command<'a>, AllocError>
+    ensures { IfOk result (λ made. app_of made ≡ files_app name.entry.now) }
+{
+    named(alloc, name, help).arg(others(alloc, "FILE"))
 }
 
-fn task_in(alloc: Global, matches: &ArgMatches<'_>) -> Result<Task, AllocError> {
+/// The words that belong to no option.
+pub fn others<'a>(alloc: Global, name: &'a str) -> Arg<'a>
+    ensures { rule_of result ≡ others name.entry.now }
+{
+    Arg::new(alloc, name)
+        .num_args(0..)
+        .action(ArgAction::Append)
+}
+
+fn task_in(alloc: Global, matches: &ArgMatches<'_>) -> Result<Task, AllocError>
+    ensures { IfOk result (λ task. task ≡ task_found (subcommand_rows_of matches.now)
+        (is_given (rows_of (found_of matches.now)) (codes "version"))) }
+{
     match matches.subcommand() {
-        Some(("play", used)) => Ok(Task::Play(form_in(used), values_of(alloc, used, "FILE")?)),
-        Some(("export", used)) => {
-            let files = values_of(alloc, used, "FILE")?;
-            match value_of(alloc, used, "service") {
-                Ok(service) => Ok(Task::Export(export_form_in(used), service, files)),
-                Err(refused) => {
-                    drop(files);
-                    Err(refused)
-                }
-            }
-        }
-        Some(("policy", _)) => Ok(Task::Policy),
-        Some(("topic", used)) => Ok(Task::Topic(values_of(alloc, used, "FILE")?)),
-        Some((_, used)) => Ok(Task::Help(value_of(alloc, used, "SUBJECT")?)),
-        None if matches.get_flag("version") => Ok(Task::Version),
+        Some((name, used)) => task_named(alloc, name, used),
+        None if is_given(matches, "version") => Ok(Task::Version),
         None => Ok(Task::Help(None)),
     }
 }
 
+/// The task of a subcommand of this name.
+fn task_named(alloc: Global, name: &str, used: &ArgMatches<'_>) -> Result<Task, AllocError>
+    ensures { IfOk result (λ task. task ≡ task_named name.now (rows_of (found_of used.now))) }
+{
+    match name {
+        "play" => Ok(Task::Play(form_in(used), values_of(alloc, used, "FILE")?)),
+        "export" => export_task(alloc, used),
+        "policy" => Ok(Task::Policy),
+        "topic" => Ok(Task::Topic(values_of(alloc, used, "FILE")?)),
+        _ => Ok(Task::Help(value_of(alloc, used, "SUBJECT")?)),
+    }
+}
+
+fn export_task(alloc: Global, used: &ArgMatches<'_>) -> Result<Task, AllocError>
+    ensures { IfOk result (λ task. task ≡ Task.Export (export_form_in (rows_of (found_of used.now)))
+        (first_of (codes "service") (rows_of (found_of used.now)))
+        (files_in (rows_of (found_of used.now)))) }
+{
+    let files = values_of(alloc, used, "FILE")?;
+    match value_of(alloc, used, "service") {
+        Ok(service) => Ok(Task::Export(export_form_in(used), service, files)),
+        Err(refused) => {
+            drop(files);
+            Err(refused)
+        }
+    }
+}
+
 /// The form of the answers that is asked for.
-fn form_in(matches: &ArgMatches<'_>) -> Option<Form> {
-    form_by(matches.get_flag("json"), matches.get_flag("trace"))
+fn form_in(matches: &ArgMatches<'_>) -> Option<Form>
+    ensures { result ≡ form_in (rows_of (found_of matches.now)) }
+{
+    form_by(is_given(matches, "json"), is_given(matches, "trace"))
 }
 
 /// The form by the options that are given, of which not both can be.
@@ -188,7 +258,9 @@ fn form_by(is_json: bool, is_traced: bool) -> Option<Form>
 }
 
 /// What an export is to print.
-fn export_form_in(matches: &ArgMatches<'_>) -> ExportForm {
+fn export_form_in(matches: &ArgMatches<'_>) -> ExportForm
+    ensures { result ≡ export_form_in (rows_of (found_of matches.now)) }
+{
     export_form_by(matches.get_str("connect"), matches.get_str("table"))
 }
 
@@ -215,17 +287,22 @@ fn database_named(name: &str) -> Database
     }
 }
 
-/// The value of an argument, if it is given.
-fn value_of(
-    alloc: Global,
-    matches: &ArgMatches<'_>,
-    name: &str,
-) -> Result<Option<String>, AllocError>
-    ensures { IfOk result (λ value. option_map string_bytes value
-        ≡ first_value (found_of matches.now) name.now) }
+/// Whether a flag is given, for which `clap` then has `true`.
+pub fn is_given(matches: &ArgMatches<'_>, name: &str) -> bool
+    ensures { result ≡ is_given (rows_of (found_of matches.now)) name.now }
 {
     match matches.get_str(name) {
-        Some(text) => Ok(Some(String::from_str(alloc, text)?)),
+        Some(text) => text == "true",
+        None => false,
+    }
+}
+
+/// The value of an argument, if it is given.
+fn value_of(alloc: Global, matches: &ArgMatches<'_>, name: &str) -> Result<Option<Text>, AllocError>
+    ensures { IfOk result (λ value. value ≡ first_of name.now (rows_of (found_of matches.now))) }
+{
+    match matches.get_str(name) {
+        Some(text) => Ok(Some(Text::copied(alloc, text)?)),
         None => Ok(None),
     }
 }
@@ -235,19 +312,17 @@ pub fn values_of(
     alloc: Global,
     matches: &ArgMatches<'_>,
     name: &str,
-) -> Result<Vec<String>, AllocError>
-    ensures { IfOk result (λ values. map string_bytes values.items
-        ≡ values_of (matched_of (found_of matches.now) name.now)) }
+) -> Result<Items<Text>, AllocError>
+    ensures { IfOk result (λ values. values ≡ values_of (rows_of (found_of matches.now)) name.now) }
 {
     match matches.get_strs(name) {
         Some(texts) => copies_of(alloc, texts),
-        None => Ok(Vec::new(alloc)),
+        None => Ok(Items::from_vec(Vec::new(alloc))),
     }
 }
 
-fn copies_of(alloc: Global, texts: &[&str]) -> Result<Vec<String>, AllocError>
-    ensures { IfOk result (λ made. map string_bytes made.items
-        ≡ map (λ text. text.now) texts.now) }
+fn copies_of(alloc: Global, texts: &[&str]) -> Result<Items<Text>, AllocError>
+    ensures { IfOk result (λ made. made ≡ map (λ text. text.now) texts.now) }
 {
     let mut made = Vec::new(alloc);
     for text in texts {
@@ -256,14 +331,13 @@ fn copies_of(alloc: Global, texts: &[&str]) -> Result<Vec<String>, AllocError>
             return Err(refused);
         }
     }
-    Ok(made)
+    Ok(Items::from_vec(made))
 }
 
-fn push_copy(alloc: Global, made: &mut Vec<String>, text: &str) -> Result<(), AllocError>
-    ensures { OnOk result (map string_bytes made.new.items
-        ≡ map string_bytes made.old.items ++ text.now ∷ []) }
+fn push_copy(alloc: Global, made: &mut Vec<Text>, text: &str) -> Result<(), AllocError>
+    ensures { OnOk result (made.new.items ≡ made.old.items ++ text.now ∷ []) }
 {
-    let copy = String::from_str(alloc, text)?;
+    let copy = Text::copied(alloc, text)?;
     made.push(copy)?;
     Ok(())
 }

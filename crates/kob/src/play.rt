@@ -1,8 +1,8 @@
 //! Texts that are played or exported.
 
-ghost use Rattle.std.specs.Prelude.{◌≡◌, ◌++◌, OnOk, map};
+ghost use Rattle.std.specs.Prelude.{◌≡◌, ◌≢◌, ◌++◌, OnOk, false};
 ghost use Rattle.kob.specs.Ending.{ending_of_play};
-ghost use Rattle.kob.specs.Headings.{file_line, heading_text, word_at};
+ghost use Rattle.kob.specs.Headings.{can_differ, file_line, heading_text};
 ghost use Rattle.kob.specs.Remarks.{doubts_remark, quotes_remark, remarks_text};
 ghost use Rattle.kob_mistakes.specs.Quoted.{quoted_name};
 ghost use Rattle.kob_mistakes.specs.Records.{doubtful_state};
@@ -16,7 +16,9 @@ use crate::report::{self, FileReport, Report, tell, tell_file, tell_lines, write
 use crate::watched::Watched;
 use kob_mistakes::{
     Mistake, doubtful_state, mistake_in, push_doubtful, push_misused, push_quoted, quoted_name,
+    word_at,
 };
+use kob_names::Text;
 use kob_scene_play::{Ended, Form, PlayFault, play_text, push_json_string};
 use kob_scene_text::SceneFault;
 use std::alloc::{AllocError, Global};
@@ -32,11 +34,14 @@ pub enum Work<'a> {
 }
 
 /// Does the work on each file, or on standard input if none is named. Returns the worst end.
+#[tactic(auto, using(crate::proofs::Ends::not_worse))]
 pub fn do_files<R: AllocGlobal + Clock + Files + Input + Print + Eprint>(
     rt: &R,
     work: Work<'_>,
-    files: &[String],
-) -> Ending {
+    files: &[Text],
+) -> Ending
+    ensures { can_differ work.entry ≡ false → result ≢ Ending.Differs }
+{
     if files.is_empty() {
         return do_file(rt, work, "-");
     }
@@ -53,7 +58,9 @@ fn do_headed<R: AllocGlobal + Clock + Files + Input + Print + Eprint>(
     work: Work<'_>,
     file: &str,
     headed: bool,
-) -> Ending {
+) -> Ending
+    ensures { can_differ work.entry ≡ false → result ≢ Ending.Differs }
+{
     if headed {
         let mut out = Vec::new(rt.alloc());
         let heading = match push_heading(&mut out, work, file) {
@@ -106,7 +113,9 @@ fn do_file<R: AllocGlobal + Clock + Files + Input + Print + Eprint>(
     rt: &R,
     work: Work<'_>,
     file: &str,
-) -> Ending {
+) -> Ending
+    ensures { can_differ work.entry ≡ false → result ≢ Ending.Differs }
+{
     let text = match text_of(rt, Kind::Scene, file) {
         Ok(text) => text,
         Err(fault) => return report::unread(rt, file, &fault),
@@ -223,14 +232,4 @@ fn push_fault<R: AllocGlobal + Eprint>(
         }
     }
     push_mistake(out, mistake)
-}
-
-/// The word at a place; empty if there is none.
-fn word_at<'w>(words: &[&'w [u8]], place: usize) -> &'w [u8]
-    ensures { result.now ≡ word_at (map (λ word. word.now) words.now) place }
-{
-    match words.get(place) {
-        Some(word) => word,
-        None => b"",
-    }
 }

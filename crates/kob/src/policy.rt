@@ -87,7 +87,7 @@ fn answer_part<R: AllocGlobal + Clock + Files + Input + Eprint>(
     out: &mut Vec<u8>,
     options: &Options,
 ) -> Result<Ending, Stop> {
-    if options.form == AnswerForm::Csv && !options.logs.is_empty() {
+    if options.form == AnswerForm::Csv && options.logs.len() > 0 {
         return Err(Stop::Ended(tell(rt, Report::NoTable("log"))));
     }
     let mut questions = Questions::new(rt.alloc());
@@ -108,7 +108,7 @@ fn answer_asked<R: AllocGlobal + Clock + Files + Input + Eprint>(
     if options.form == AnswerForm::Csv {
         unless_one_table(rt, options, questions)?;
     }
-    if options.before.is_empty() {
+    if options.before.len() == 0 {
         answer_by_one(rt, stages, out, options, questions, asked)
     } else {
         review(rt, stages, out, options, questions, asked)
@@ -122,7 +122,7 @@ fn unless_one_table<R: AllocGlobal + Eprint>(
     questions: &Questions,
 ) -> Result<(), Stop> {
     let asked = questions.asked();
-    match tables_asked(asked, !options.before.is_empty()) {
+    match tables_asked(asked, options.before.len() > 0) {
         Tables::One => Ok(()),
         Tables::Not => {
             let text = asked
@@ -186,10 +186,10 @@ fn push_questions<R: AllocGlobal + Files + Input + Eprint>(
     }
     for word in options.words.as_slice() {
         let mut text = Vec::new(rt.alloc());
-        text.extend_from_slice(word.as_bytes())?;
+        text.extend_from_slice(word.as_str().as_bytes())?;
         push_asked(rt, options.form, out, questions, asked, word.as_str(), text)?;
     }
-    if options.before.is_empty() && options.logs.is_empty() && questions.asked().is_empty() {
+    if options.before.len() == 0 && options.logs.len() == 0 && questions.asked().is_empty() {
         let read = read_questions(rt.alloc(), questions, b"summary");
         let source = questions_in("summary", b"summary");
         unless_fault(rt, options.form, out, &source, read)?;
@@ -309,7 +309,7 @@ fn compare<R: AllocGlobal + Files + Input + Eprint>(
     if !options.commands {
         let ending = push_changes(rt.alloc(), options.form, out, before, after)?;
         Ok(ending.worse(answer_about(rt, out, options, questions, asked, after)?))
-    } else if options.logs.is_empty() {
+    } else if options.logs.len() == 0 {
         lead(rt, out, questions, before, after)
     } else {
         Ok(tell(rt, Report::BesideCommands))

@@ -1,6 +1,6 @@
 //! What is printed about lists that are in force, in the form that is asked for.
 
-ghost use Rattle.std.specs.Prelude.{◌≡◌, ◌++◌, ◌∷◌, [], IfOk, OnOk, codes, map, string_bytes};
+ghost use Rattle.std.specs.Prelude.{◌≡◌, ◌++◌, ◌∷◌, [], IfOk, OnOk, codes};
 ghost use Rattle.std.specs.List.{flat_map};
 ghost use Rattle.kob.specs.Answers.{answers_in, changes_in, ending_in, fault_in, heading_in};
 ghost use Rattle.kob.specs.Answers.{name_text, names_in, names_text};
@@ -15,7 +15,7 @@ ghost use Rattle.kob_policy_text.specs.Review.{changes_text};
 ghost use Rattle.kob_script.specs.Printed.{fault_text, kind_text};
 
 use crate::commands::push_commands;
-use crate::ending::Ending;
+use crate::ending::{Ending, ending_of_answers};
 use crate::policy_options::{AnswerForm, Options};
 use crate::report::{Report, tell, tell_lines};
 use kob_names::{Items, Text};
@@ -50,18 +50,17 @@ fn names_in(alloc: Global, options: &Options) -> Result<Vec<Text>, AllocError>
     ensures { IfOk result (λ names. names.items ≡ names_in options.now) }
 {
     let mut names = Vec::new(alloc);
-    push_copies(alloc, &mut names, &options.policy)?;
-    push_copies(alloc, &mut names, &options.before)?;
-    push_copies(alloc, &mut names, &options.after)?;
+    push_copies(alloc, &mut names, options.policy.as_slice())?;
+    push_copies(alloc, &mut names, options.before.as_slice())?;
+    push_copies(alloc, &mut names, options.after.as_slice())?;
     if names.is_empty() {
         names.push(Text::copied(alloc, "-")?)?;
     }
     Ok(names)
 }
 
-fn push_copies(alloc: Global, names: &mut Vec<Text>, files: &[String]) -> Result<(), AllocError>
-    ensures { OnOk result (names.new.items
-        ≡ names.old.items ++ map (λ file. string_bytes file) files.now) }
+fn push_copies(alloc: Global, names: &mut Vec<Text>, files: &[Text]) -> Result<(), AllocError>
+    ensures { OnOk result (names.new.items ≡ names.old.items ++ files.now) }
 {
     for file in files {
         names.push(Text::copied(alloc, file.as_str())?)?;
@@ -194,11 +193,7 @@ pub(crate) fn push_answers(
         ≡ ending_of_answers (any_fails judge.now questions.now.asked)) }
 {
     print_in(alloc, form, out, judge, questions)?;
-    if any_fails(judge, questions.asked()) {
-        Ok(Ending::Differs)
-    } else {
-        Ok(Ending::Whole)
-    }
+    Ok(ending_of_answers(any_fails(judge, questions.asked())))
 }
 
 fn print_in(

@@ -1,6 +1,6 @@
 //! The lists that questions are about, read and in force.
 
-ghost use Rattle.std.specs.Prelude.{◌≡◌, [], IfOk, false, map, string_bytes};
+ghost use Rattle.std.specs.Prelude.{◌≡◌, [], IfOk, false};
 ghost use Rattle.kob.specs.Lists.{files_of};
 
 use crate::ending::Ending;
@@ -103,8 +103,8 @@ pub(crate) struct Listed {
 }
 
 /// The files of a list, besides those of `--policy`.
-fn files_of(options: &Options, side: Side) -> &[String]
-    ensures { map (λ file. string_bytes file) result.now ≡ files_of options.now side }
+fn files_of(options: &Options, side: Side) -> &[Text]
+    ensures { result.now ≡ files_of options.now side }
 {
     match side {
         Side::Only => &[],
@@ -152,7 +152,7 @@ fn read_lists<R: AllocGlobal + Clock + Files + Input + Eprint>(
     out: &mut Vec<u8>,
     policy: &mut Policy,
     options: &Options,
-    others: &[String],
+    others: &[Text],
 ) -> Result<(), Stop> {
     for file in options.policy.as_slice() {
         read_list(rt, stages, options.form, out, policy, file.as_str())?;
@@ -160,7 +160,7 @@ fn read_lists<R: AllocGlobal + Clock + Files + Input + Eprint>(
     for file in others {
         read_list(rt, stages, options.form, out, policy, file.as_str())?;
     }
-    if options.policy.is_empty() && options.before.is_empty() {
+    if options.policy.len() == 0 && options.before.len() == 0 {
         read_list(rt, stages, options.form, out, policy, "-")?;
     }
     read_releases(rt, options, out, policy)
@@ -241,7 +241,7 @@ fn read_releases<R: AllocGlobal + Eprint>(
     policy: &mut Policy,
 ) -> Result<(), Stop> {
     for release in options.kafka.as_slice() {
-        let text = format!(in rt.alloc(); "kafka {release}")?;
+        let text = format!(in rt.alloc(); "kafka {}", release.as_str())?;
         read_text(rt, options.form, out, policy, "--kafka", text.as_bytes())?;
     }
     Ok(())

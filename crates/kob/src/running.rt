@@ -1,8 +1,10 @@
 //! What the command line asks for, done.
 
-ghost use Rattle.std.specs.Prelude.{◌≡◌, ◌≢◌, ◌↔◌};
+ghost use Rattle.std.specs.Prelude.{◌≡◌, ◌≢◌, ◌↔◌, [], None, map, option_map, string_bytes, unwrap_or};
 ghost use Rattle.clap.specs.Words.{kind_of};
+ghost use Rattle.kob.specs.CommandLine.{CanDiffer};
 ghost use Rattle.kob.specs.Input.{default_form};
+ghost use Rattle.kob.specs.Pages.{page_on};
 
 use crate::ending::Ending;
 use crate::help::help_on;
@@ -14,6 +16,7 @@ use crate::topic::compare;
 use crate::version::VERSION;
 use clap::Error;
 use clap::error::ErrorKind;
+use kob_names::Text;
 use kob_scene_play::Form;
 use std::alloc::AllocError;
 use std::io::{self, Write};
@@ -49,21 +52,23 @@ fn run_words<R: AllocGlobal + Clock + Files + Input + Print + Eprint>(
     rt: &R,
     words: &[String],
     terminals: Terminals,
-) -> Ending {
+) -> Ending
+    ensures { result ≡ Ending.Differs → CanDiffer (map string_bytes words.now) }
+{
     match task_of(rt.alloc(), words) {
         Ok(Task::Play(form, files)) => {
             let work = Work::Play {
                 form: form.unwrap_or(default_form(terminals.output)),
                 is_watched: terminals.error,
             };
-            do_files(rt, work, &files)
+            do_files(rt, work, files.as_slice())
         }
         Ok(Task::Export(form, service, files)) => {
             let service = service.as_ref().map(|service| service.as_str());
-            do_files(rt, Work::Export(form, service), &files)
+            do_files(rt, Work::Export(form, service), files.as_slice())
         }
         Ok(Task::Policy) => answer(rt, words.get(2..).unwrap_or(&[]), terminals.error),
-        Ok(Task::Topic(files)) => compare(rt, &files),
+        Ok(Task::Topic(files)) => compare(rt, files.as_slice()),
         Ok(Task::Help(subject)) => help(rt, subject.as_ref()),
         Ok(Task::Version) => show(rt, VERSION),
         Err(refused) => say(rt, &refused),
@@ -82,7 +87,11 @@ fn default_form(is_terminal: bool) -> Form
 }
 
 /// Prints a page of help.
-fn help<R: Print + Eprint>(rt: &R, subject: Option<&String>) -> Ending {
+fn help<R: Print + Eprint>(rt: &R, subject: Option<&Text>) -> Ending
+    ensures unknown { page_on (unwrap_or (option_map (λ name. name.now) subject.entry) []) ≡ None
+        → result ≡ Ending.Failed }
+    ensures differs { result ≢ Ending.Differs }
+{
     let subject = subject.map_or("", |subject| subject.as_str());
     match help_on(subject) {
         Some(text) => show(rt, text),
@@ -90,7 +99,9 @@ fn help<R: Print + Eprint>(rt: &R, subject: Option<&String>) -> Ending {
     }
 }
 
-fn show<R: Print + Eprint>(rt: &R, text: &str) -> Ending {
+fn show<R: Print + Eprint>(rt: &R, text: &str) -> Ending
+    ensures { result ≢ Ending.Differs }
+{
     match io::writer(rt).write_all(text.as_bytes()) {
         Ok(()) => Ending::Whole,
         Err(error) => report::refused(rt, "standard output", &error),

@@ -7,6 +7,7 @@ ghost use Rattle.kob_topic_check.specs.Findings.{counts_text, findings_text};
 use crate::ending::Ending;
 use crate::input::{Kind, text_of};
 use crate::report::{self, FileReport, Report, tell, tell_file};
+use kob_names::Text;
 use kob_topic_check::{
     ReadError, Record, Row, print_counts, print_findings, read_records, read_rows,
 };
@@ -16,7 +17,7 @@ use std::rt::Files;
 
 /// Compares the rows of an outbox with the records of a topic, a file each: prints how many there
 /// are, and a line for each event that is missing, doubled, unknown, out of order or apart.
-pub fn compare<R: AllocGlobal + Files + Input + Print + Eprint>(rt: &R, files: &[String]) -> Ending
+pub fn compare<R: AllocGlobal + Files + Input + Print + Eprint>(rt: &R, files: &[Text]) -> Ending
     ensures { length files.now ≢ 2 → result ≡ Ending.Failed }
 {
     let [rows, records] = files else {

@@ -3,10 +3,10 @@
 ghost use Rattle.std.specs.Prelude.{◌≡◌, IfOk, filter, find, length, map};
 ghost use Rattle.std.specs.Option.{option_copied};
 ghost use Rattle.kob.specs.Unmet.{has_question, is_unmet, line_among, question_line};
-ghost use Rattle.kob_script.specs.Script.{lines_in};
 
 use crate::report::{FileReport, tell_file};
 use bstr::ByteSlice;
+use kob_mistakes::lines_of;
 use kob_names::Text;
 use kob_policy_text::{Judge, Query, Question, is_allowed};
 use std::alloc::{AllocError, Global};
@@ -97,12 +97,6 @@ fn question_line(alloc: Global, text: &[u8], question: &[u8]) -> Result<u64, All
 {
     let lines = lines_of(alloc, text)?;
     Ok(line_among(&lines, question))
-}
-
-fn lines_of(alloc: Global, text: &[u8]) -> Result<Vec<&[u8]>, AllocError>
-    ensures { IfOk result (λ lines. map (λ line. line.now) lines.items ≡ lines_in text.now) }
-{
-    text.lines().collect(alloc)
 }
 
 #[tactic(auto, using(kob_mistakes::proofs::Walking::goes_on, kob_mistakes::proofs::Walking::stops, kob_mistakes::proofs::Walking::ends))]

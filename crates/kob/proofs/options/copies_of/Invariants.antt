@@ -1,6 +1,5 @@
-use Rattle.std.proofs.Common.{◌≡◌, map, string_bytes, take}
+use Rattle.std.proofs.Common.{◌≡◌, map, take}
 use Rattle.kob.proofs.options.copies_of.Given as goal
 
 abbrev pub invariant-loop-text : goal.invariant-loop-text
-invariant-loop-text l =
-    map string_bytes l.made.items ≡ map (λ text. text.now) (take l.text-index l.texts)
+invariant-loop-text l = l.made.items ≡ map (λ text. text.now) (take l.text-index l.texts)
