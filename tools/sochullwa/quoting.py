@@ -161,8 +161,8 @@ def tried(name: str) -> str:
         rows.append((folder.name, counts))
         whole += counts
     kinds = sorted(whole, key=lambda it: (it == "untried", it))
-    lines = [(crate, [counts[it] or "-" for it in kinds]) for crate, counts in [*rows, ("all", whole)]]
-    return "".join(row_of(crate, cells) for crate, cells in [("", kinds), *lines])
+    lines = (row_of(crate, [counts[it] or "-" for it in kinds]) for crate, counts in [*rows, ("all", whole)])
+    return row_of("", kinds) + "".join(lines)
 
 
 def uncited(name: str) -> str:
