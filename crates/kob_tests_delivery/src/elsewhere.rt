@@ -1,5 +1,5 @@
-//! A service and a consumer over lines of one's own. The other side keeps an entry of each request,
-//! and the entries are judged at the end.
+//! Calls, a service and a consumer over lines of one's own, to a broker in another thread. It keeps
+//! an entry of each request, and the entries are judged at the end.
 
 ghost use Rattle.std.specs.Prelude.{◌≡◌, [], IfSome};
 
@@ -9,14 +9,14 @@ use crate::remote::{Local, Remote};
 use crossbeam_channel::{Sender, bounded};
 use kob_broker::Broker;
 use kob_embedding::{
-    ConsumerEnd, DeliveryFault, JudgeFault, RunningConsumer, RunningService, ServiceEnd,
-    judged_in_turn,
+    ConsumerEnd, DeliveryFault, JudgeFault, Part, RunningConsumer, RunningService, ServiceEnd,
+    is_served, judged_in_turn,
 };
 use kob_inbox::{Inbox, Subscription};
-use kob_lines::Connection;
+use kob_lines::{Connection, IntoCalls};
 use kob_names::PlainValue;
 use kob_rights::{Event, Reply, Request};
-use kob_router::Line;
+use kob_router::{Call, Line};
 use kob_shared::{Entry, Journal};
 use std::alloc::Global;
 use std::sync::Wait;
@@ -27,6 +27,15 @@ use std::thread::{Threads, join};
 struct Elsewhere {
     broker: Broker,
     entries: Vec<Entry>,
+}
+
+/// A broker without entries.
+fn other_side(alloc: Global) -> Option<Elsewhere> {
+    let broker = broker(alloc, Vec::new(alloc))?;
+    Some(Elsewhere {
+        broker,
+        entries: Vec::new(alloc),
+    })
 }
 
 /// Serves a worker's event and keeps an entry of it. Returns a copy of the reply.
@@ -104,24 +113,25 @@ fn ends<R: Wait>(rt: &R, alloc: Global) -> Option<(Remote<'_, R>, Local)> {
     Some((remote, Local { requests, replies }))
 }
 
-/// Whether an event is recorded and sent.
-fn sends<L: Line>(alloc: Global, service: &mut RunningService<L>) -> bool
+/// Whether the event with this id is recorded and sent by one tick, after which none is needed.
+pub(crate) fn sends<L: Line>(alloc: Global, service: &mut RunningService<L>, id: u128) -> bool
     ensures { service.new.earlier ≡ service.old.earlier }
 {
-    let Ok((change, event)) = order(alloc, 7, "paid") else {
+    let Ok((change, event)) = order(alloc, id, "paid") else {
         return false;
     };
     let recorded = service.record(&change, &event);
     drop(change);
     drop(event);
-    recorded.is_ok() && service.send_all(alloc, 10).is_ok()
+    let is_sent = service.send_all(alloc, 1).is_ok();
+    recorded.is_ok() && is_sent && service.send_all(alloc, 0).is_ok()
 }
 
 /// What a service leaves that sends an event over a line of one's own, as worker 1.
 fn sent_over<R: Wait>(alloc: Global, remote: Remote<'_, R>) -> Option<ServiceEnd> {
     let line = Connection::new(alloc, remote);
     let mut service = service(alloc, line)?;
-    let sent = sends(alloc, &mut service);
+    let sent = sends(alloc, &mut service, 7);
     let end = service.close(1);
     if sent {
         return Some(end);
@@ -130,8 +140,8 @@ fn sent_over<R: Wait>(alloc: Global, remote: Remote<'_, R>) -> Option<ServiceEnd
     None
 }
 
-/// A consumer with an empty inbox.
-fn consumer<L: Line + Drop>(alloc: Global, line: L) -> Option<RunningConsumer<L>>
+/// A consumer with an empty inbox, which fetches one record at a time.
+pub(crate) fn consumer<L: Line + Drop>(alloc: Global, line: L) -> Option<RunningConsumer<L>>
     requires { L.calls line ≡ [] }
     ensures { IfSome result (λ consumer. consumer.earlier ≡ []) }
 {
@@ -139,7 +149,7 @@ fn consumer<L: Line + Drop>(alloc: Global, line: L) -> Option<RunningConsumer<L>
         drop(line);
         return None;
     };
-    let Ok(subscription) = Subscription::of(alloc, "g", ORDERS, 1, 10) else {
+    let Ok(subscription) = Subscription::of(alloc, "g", ORDERS, 1, 1) else {
         drop(inbox);
         drop(line);
         return None;
@@ -206,42 +216,88 @@ fn judged(
 
 /// Whether all entries show that the event reached the inbox. Without the last one, which is the
 /// consumer's, a call that has a reply has no entry.
-fn are_judged(
-    alloc: Global,
-    entries: &[Entry],
-    sent: Option<&ServiceEnd>,
-    taken: Option<&ConsumerEnd>,
-) -> Option<bool> {
-    let all = judged(alloc, entries, sent?, taken?)?;
-    let (_, before) = entries.split_last()?;
-    let lacking = judged(alloc, before, sent?, taken?)?;
-    let refused = matches!(
-        lacking,
-        Err(JudgeFault::Delivery(DeliveryFault::Consumer(_)))
-    );
-    Some(all.is_ok() && refused)
+fn are_judged(alloc: Global, entries: &[Entry], sent: &ServiceEnd, taken: &ConsumerEnd) -> bool {
+    let Some((_, before)) = entries.split_last() else {
+        return false;
+    };
+    let all = judged(alloc, entries, sent, taken);
+    let lacking = judged(alloc, before, sent, taken);
+    matches!(all, Some(Ok(())))
+        && matches!(
+            lacking,
+            Some(Err(JudgeFault::Delivery(DeliveryFault::Consumer(_))))
+        )
 }
 
 fn holds<R: Threads + Wait + Sync>(rt: &R, alloc: Global) -> Option<bool> {
-    let broker = broker(alloc, Vec::new(alloc))?;
-    let mut elsewhere = Elsewhere {
-        broker,
-        entries: Vec::new(alloc),
-    };
+    let mut elsewhere = other_side(alloc)?;
     if let Some(event) = event_of(alloc, CREATE_ORDERS) {
         drop(answered(alloc, &mut elsewhere, 0, event));
     }
     let sent = sent(rt, alloc, &mut elsewhere);
     let taken = taken(rt, alloc, &mut elsewhere);
-    let held = are_judged(alloc, &elsewhere.entries, sent.as_ref(), taken.as_ref());
+    let held = match (&sent, &taken) {
+        (Some(sent), Some(taken)) => are_judged(alloc, &elsewhere.entries, sent, taken),
+        _ => false,
+    };
     drop(elsewhere);
     drop(sent);
     drop(taken);
-    held
+    Some(held)
 }
 
-// A broker of any kind may be on the other side: only its entries are looked at.
+/// The calls of a line that asks for a producer id and then for the groups.
+fn calls_over<R: Wait>(alloc: Global, remote: Remote<'_, R>) -> Vec<Call> {
+    let mut line = Connection::new(alloc, remote);
+    drop(line.send(alloc, Request::InitProducerId));
+    drop(line.send(alloc, Request::ListGroups));
+    line.into_calls()
+}
+
+/// The calls of worker 7, which the other side serves.
+fn calls_of<R: Threads + Wait + Sync>(
+    rt: &R,
+    alloc: Global,
+    elsewhere: &mut Elsewhere,
+) -> Option<Vec<Call>> {
+    let (remote, local) = ends(rt, alloc)?;
+    let (_, calls) = join(
+        rt,
+        || serve_all(rt, alloc, elsewhere, 7, &local),
+        || calls_over(alloc, remote),
+    );
+    drop(local);
+    Some(calls)
+}
+
+/// Whether both calls were heard, and are the entries of worker 7.
+fn are_heard(alloc: Global, entries: &[Entry], calls: Vec<Call>) -> Option<bool> {
+    let heard = calls.iter().filter(|call| call.heard.is_some()).count();
+    let part = Part { worker: 7, calls };
+    let made = Journal::from_entries(alloc, entries);
+    let served = match &made {
+        Ok(journal) => is_served(alloc, journal, &part).ok(),
+        Err(_) => None,
+    };
+    drop(made);
+    drop(part);
+    Some(served? && heard == 2)
+}
+
+fn calls_another_thread<R: Threads + Wait + Sync>(rt: &R, alloc: Global) -> Option<bool> {
+    let mut elsewhere = other_side(alloc)?;
+    let heard = match calls_of(rt, alloc, &mut elsewhere) {
+        Some(calls) => are_heard(alloc, &elsewhere.entries, calls),
+        None => None,
+    };
+    drop(elsewhere);
+    heard
+}
+
+// A broker of any kind may be on the other side: only its entries are looked at. Each reply comes over
+// a channel, and is noted as one that was received.
 #[test]
-fn entries_from_elsewhere_are_judged(rt: HostRuntime) {
+fn lines_go_to_another_thread(rt: HostRuntime) {
+    assert!(rt; calls_another_thread(&rt, rt.alloc()) == Some(true));
     assert!(rt; holds(&rt, rt.alloc()) == Some(true));
 }

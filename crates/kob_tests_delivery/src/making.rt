@@ -10,7 +10,7 @@ use kob_outbox::{Change, Outbox, OutboxEvent, RecordFault};
 use kob_rights::{Body, Event, Reply, Request};
 use kob_router::{Route, RouteFault, RouteSettings};
 use kob_script::read_script;
-use kob_shared::{Recorded, Script, SharedBroker};
+use kob_shared::{Entry, Journal, Recorded, Script, SharedBroker};
 use std::alloc::{AllocError, Global};
 use uuid::Uuid;
 
@@ -19,6 +19,9 @@ pub(crate) const ORDERS: &str = "outbox.event.orders";
 
 /// It is created, with one partition.
 pub(crate) const CREATE_ORDERS: &str = "User:root h create-topic outbox.event.orders 1";
+
+/// A record is written to it.
+pub(crate) const WRITE_ORDERS: &str = "User:root h produce outbox.event.orders 0 - v";
 
 /// The topic `t` with one partition is created.
 pub(crate) const CREATE: &str = "User:root h create-topic t 1";
@@ -132,6 +135,47 @@ pub(crate) fn recorded(alloc: Global, limit: usize) -> Option<Recorded>
 {
     let broker = broker(alloc, Vec::new(alloc))?;
     Recorded::open(alloc, broker, limit).ok()
+}
+
+/// Serves a worker's event.
+pub(crate) fn serve(
+    alloc: Global,
+    recorded: &mut Recorded,
+    worker: usize,
+    event: Event,
+) -> Option<()> {
+    let receipt = recorded.serve_as(alloc, worker, &event).ok();
+    drop(event);
+    drop(receipt?);
+    Some(())
+}
+
+/// Serves the events of a script's lines, each with its worker.
+pub(crate) fn serve_all(
+    alloc: Global,
+    recorded: &mut Recorded,
+    lines: &[(usize, &str)],
+) -> Option<()> {
+    for (worker, line) in lines {
+        let event = event_of(alloc, line)?;
+        serve(alloc, recorded, *worker, event)?;
+    }
+    Some(())
+}
+
+/// Copies of a journal's entries from a place on.
+pub(crate) fn copies(
+    alloc: Global,
+    journal: &Journal,
+    from: usize,
+    to: usize,
+) -> Option<Vec<Entry>> {
+    let mut entries = Vec::new(alloc);
+    for place in from..to {
+        let entry = journal.get(place)?.copy(alloc).ok()?;
+        entries.push(entry).ok()?;
+    }
+    Some(entries)
 }
 
 /// Such a broker and journal under a lock.

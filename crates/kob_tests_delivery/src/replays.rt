@@ -2,36 +2,19 @@
 
 ghost use Rattle.std.specs.Prelude.{◌≤◌};
 
-use crate::making::{CREATE, WRITE, event_of, recorded};
-use kob_shared::{Entry, Receipt, Recorded, ReplayFault};
+use crate::making::{CREATE, WRITE, copies, recorded, serve_all};
+use kob_shared::{Entry, ReplayFault};
 use std::alloc::Global;
-
-/// The entry that the broker makes of a script's line for a worker.
-fn entry(alloc: Global, recorded: &mut Recorded, worker: usize, line: &str) -> Option<Entry> {
-    let event = event_of(alloc, line)?;
-    match recorded.serve_as(alloc, worker, &event) {
-        Ok(Receipt { place: _, reply }) => Some(Entry {
-            worker,
-            event,
-            reply,
-        }),
-        Err(_) => {
-            drop(event);
-            None
-        }
-    }
-}
 
 /// Worker 3 creates a topic, and worker 5 writes to it.
 fn entries(alloc: Global) -> Option<Vec<Entry>> {
     let mut elsewhere = recorded(alloc, 2)?;
-    let created = entry(alloc, &mut elsewhere, 3, CREATE);
-    let written = entry(alloc, &mut elsewhere, 5, WRITE);
+    let entries = match serve_all(alloc, &mut elsewhere, &[(3, CREATE), (5, WRITE)]) {
+        Some(()) => copies(alloc, elsewhere.journal(), 0, 2),
+        None => None,
+    };
     drop(elsewhere);
-    let mut entries = Vec::new(alloc);
-    entries.push(created?).ok()?;
-    entries.push(written?).ok()?;
-    Some(entries)
+    entries
 }
 
 /// The number of entries and the worker of the second one, after a new broker with a journal of this

@@ -5,7 +5,7 @@ ghost use Rattle.kob_delivery.specs.View.{IsReserved};
 ghost use Rattle.kob_names.specs.declared.kinds.Operation.TheVariants.{Write};
 ghost use Rattle.kob_names.specs.declared.kinds.ResourceKind.TheVariants.{Topic};
 
-use crate::making::{event_of, recorded};
+use crate::making::{copies, recorded, serve_all};
 use crate::revoked::write_allowed;
 use kob_broker::Settings;
 use kob_delivery::{
@@ -13,9 +13,9 @@ use kob_delivery::{
     first_unreserved, is_reserved, only_committer_by_rules, only_committer_in_turn,
     only_producer_by_rules, only_producer_in_turn, opener_in_turn,
 };
-use kob_names::{Items, Operation, PlainValue, Principal, ResourceKind, Text};
+use kob_names::{Items, Operation, Principal, ResourceKind, Text};
 use kob_script::read_script;
-use kob_shared::{Entry, Journal, Recorded};
+use kob_shared::{Journal, Recorded};
 use std::alloc::Global;
 
 /// The entries, each with its worker. No binding is in force from entry 4 on, and from entry 5 on
@@ -37,14 +37,42 @@ const ENTRIES: [(usize, &str); 8] = [
     (0, "User:root h commit g t 0 1"),
 ];
 
-fn serve_all(alloc: Global, recorded: &mut Recorded) -> Option<()> {
-    for (worker, line) in ENTRIES {
-        let event = event_of(alloc, line)?;
-        let receipt = recorded.serve_as(alloc, worker, &event).ok();
-        drop(event);
-        drop(receipt?);
+/// The principals of the tests. `User:nobody` acts in no entry.
+#[derive(Drop)]
+struct Actors {
+    service: Principal,
+    other: Principal,
+    nobody: Principal,
+}
+
+impl Actors {
+    fn parsed(alloc: Global) -> Option<Actors> {
+        Some(Actors {
+            service: Principal::parse(alloc, "User:svc").ok()?,
+            other: Principal::parse(alloc, "User:other").ok()?,
+            nobody: Principal::parse(alloc, "User:nobody").ok()?,
+        })
     }
-    Some(())
+}
+
+/// The topics `t`, `tx`, to which no super user writes, and `x`, and the group `g`.
+#[derive(Drop)]
+struct Names {
+    topic: Text,
+    unused: Text,
+    apart: Text,
+    group: Text,
+}
+
+impl Names {
+    fn copied(alloc: Global) -> Option<Names> {
+        Some(Names {
+            topic: Text::copied(alloc, "t").ok()?,
+            unused: Text::copied(alloc, "tx").ok()?,
+            apart: Text::copied(alloc, "x").ok()?,
+            group: Text::copied(alloc, "g").ok()?,
+        })
+    }
 }
 
 /// Settings with `everyone` on, and one opening binding: `User:svc` may write to the topic `t`.
@@ -56,7 +84,7 @@ fn open_settings(alloc: Global) -> Option<Settings> {
     Some(settings)
 }
 
-/// The first place at which another than `User:svc` may write to the topic `t`.
+/// The first place at which another than the principal may write to the topic.
 fn unreserved(
     alloc: Global,
     settings: &Settings,
@@ -64,59 +92,47 @@ fn unreserved(
     service: &Principal,
     topic: &Text,
 ) -> Option<usize> {
-    let found = first_unreserved(
-        alloc,
-        settings,
-        journal,
-        service,
-        Operation::Write,
-        ResourceKind::Topic,
-        topic,
-    );
-    found.ok()?
+    let (write, kind) = (Operation::Write, ResourceKind::Topic);
+    first_unreserved(alloc, settings, journal, service, write, kind, topic).ok()?
 }
 
-/// Where the journal breaks each premise: `User:other` may write from entry 5 on. If a name without
-/// bindings is everyone's, all may from entry 4 on.
-fn premises_hold(alloc: Global, journal: &Journal, settings: &Settings) -> Option<bool> {
-    let service = Principal::parse(alloc, "User:svc").ok()?;
-    let topic = Text::copied(alloc, "t").ok()?;
-    let closed = unreserved(alloc, settings, journal, &service, &topic);
+/// Where the journal breaks each premise: `User:other` may write from entry 5 on.
+fn premises_hold(alloc: Global, recorded: &Recorded, service: &Principal, topic: &Text) -> bool {
+    let (journal, settings) = (recorded.journal(), recorded.opening());
+    let closed = unreserved(alloc, settings, journal, service, topic);
+    let other = first_other_actor(journal, 1, service);
+    let of_root = first_super_producer(journal, &settings.supers, topic);
+    (closed, other, of_root) == (Some(5), Some(5), Some(6))
+}
+
+/// If a name without bindings is everyone's, all may write from entry 4 on.
+fn opens_to_all(
+    alloc: Global,
+    recorded: &Recorded,
+    service: &Principal,
+    topic: &Text,
+) -> Option<bool> {
     let open = open_settings(alloc)?;
-    let opened = unreserved(alloc, &open, journal, &service, &topic);
-    let at_first = is_reserved(
-        alloc,
-        &open,
-        &service,
-        Operation::Write,
-        ResourceKind::Topic,
-        &topic,
-    );
+    let (write, kind) = (Operation::Write, ResourceKind::Topic);
+    let at_first = is_reserved(alloc, &open, service, write, kind, topic);
+    let opened = unreserved(alloc, &open, recorded.journal(), service, topic);
     drop(open);
-    let other = first_other_actor(journal, 1, &service);
-    let of_root = first_super_producer(journal, &settings.supers, &topic);
-    let found = (closed, opened, other, of_root) == (Some(5), Some(4), Some(5), Some(6));
-    Some(found && at_first.ok()?)
+    Some(at_first == Ok(true) && opened == Some(4))
 }
 
 /// The rules for principals that no entry acts as: on a topic to which no super user writes, and on
 /// one on which a super user commits.
-fn rules_hold(alloc: Global, journal: &Journal, settings: &Settings) -> Option<bool> {
-    let topic = Text::copied(alloc, "tx").ok()?;
-    let other = Principal::parse(alloc, "User:other").ok()?;
-    let owned = only_producer_by_rules(alloc, settings, journal, 9, &other, &topic);
-    let nobody = Principal::parse(alloc, "User:nobody").ok()?;
-    let left = only_producer_by_rules(alloc, settings, journal, 9, &nobody, &topic);
-    let group = Text::copied(alloc, "g").ok()?;
-    let t = Text::copied(alloc, "t").ok()?;
-    let commits = only_committer_by_rules(alloc, settings, journal, 9, &nobody, &group, &t);
-    let free = only_committer_by_rules(alloc, settings, journal, 9, &nobody, &group, &topic);
-    Some(
-        owned.is_ok()
-            && free.is_ok()
-            && matches!(left, Err(RuleFault::NotReserved(5)))
-            && matches!(commits, Err(RuleFault::SuperUser(7))),
-    )
+fn rules_hold(alloc: Global, recorded: &Recorded, actors: &Actors, names: &Names) -> bool {
+    let (journal, settings) = (recorded.journal(), recorded.opening());
+    let (nobody, unused, group) = (&actors.nobody, &names.unused, &names.group);
+    let owned = only_producer_by_rules(alloc, settings, journal, 9, &actors.other, unused);
+    let left = only_producer_by_rules(alloc, settings, journal, 9, nobody, unused);
+    let commits = only_committer_by_rules(alloc, settings, journal, 9, nobody, group, &names.topic);
+    let free = only_committer_by_rules(alloc, settings, journal, 9, nobody, group, unused);
+    owned.is_ok()
+        && free.is_ok()
+        && matches!(left, Err(RuleFault::NotReserved(5)))
+        && matches!(commits, Err(RuleFault::SuperUser(7)))
 }
 
 /// Whether the topic is reserved for the principal, by what is in force at first and by what the
@@ -142,97 +158,106 @@ fn stays_reserved(
 }
 
 /// The topic `x` stays reserved, and the topic `t` does not.
-fn reservations_last(alloc: Global, journal: &Journal, settings: &Settings) -> Option<bool> {
-    let service = Principal::parse(alloc, "User:svc").ok()?;
-    let apart = Text::copied(alloc, "x").ok()?;
-    let stays = stays_reserved(alloc, settings, journal, &service, &apart);
-    let topic = Text::copied(alloc, "t").ok()?;
-    let opened = stays_reserved(alloc, settings, journal, &service, &topic);
-    Some((stays, opened) == (Some(true), Some(false)))
+fn reservations_last(
+    alloc: Global,
+    recorded: &Recorded,
+    service: &Principal,
+    names: &Names,
+) -> bool {
+    let (journal, settings) = (recorded.journal(), recorded.opening());
+    let stays = stays_reserved(alloc, settings, journal, service, &names.apart);
+    let opened = stays_reserved(alloc, settings, journal, service, &names.topic);
+    (stays, opened) == (Some(true), Some(false))
+}
+
+/// Entry 4 opens the topic `t`; if a name without bindings is everyone's, entry 3 does. None opens
+/// the topic `x`.
+fn openers_in_turn(journals: &[&Journal], service: &Principal, names: &Names) -> bool {
+    let (write, kind) = (Operation::Write, ResourceKind::Topic);
+    let closed = opener_in_turn(journals, service, write, kind, &names.topic, false);
+    let open = opener_in_turn(journals, service, write, kind, &names.topic, true);
+    let none = opener_in_turn(journals, service, write, kind, &names.apart, false);
+    (closed, open, none) == (Ok(Some(4)), Ok(Some(3)), Ok(None))
+}
+
+/// What breaks the rules of journals in turn.
+fn are_refused_in_turn(
+    alloc: Global,
+    journals: &[&Journal],
+    settings: &Settings,
+    actors: &Actors,
+    names: &Names,
+) -> bool {
+    let (nobody, service, unused) = (&actors.nobody, &actors.service, &names.unused);
+    let left = only_producer_in_turn(alloc, settings, journals, 9, nobody, unused);
+    let other = only_producer_in_turn(alloc, settings, journals, 1, service, unused);
+    let (group, topic) = (&names.group, &names.topic);
+    let commits = only_committer_in_turn(alloc, settings, journals, 9, nobody, group, topic);
+    matches!(left, Err(RuleFault::NotReserved(5)))
+        && matches!(other, Err(RuleFault::OtherActor(5)))
+        && matches!(commits, Err(RuleFault::SuperUser(7)))
+}
+
+/// They hold of the principal that may write, and of a topic on which nobody commits.
+fn hold_in_turn(
+    alloc: Global,
+    journals: &[&Journal],
+    settings: &Settings,
+    other: &Principal,
+    names: &Names,
+) -> bool {
+    let (topic, group) = (&names.unused, &names.group);
+    let owned = only_producer_in_turn(alloc, settings, journals, 9, other, topic);
+    let free = only_committer_in_turn(alloc, settings, journals, 9, other, group, topic);
+    owned.is_ok() && free.is_ok()
 }
 
 /// A journal of copies of entries of another.
 fn part(alloc: Global, journal: &Journal, from: usize, to: usize) -> Option<Journal> {
-    let mut entries = Vec::new(alloc);
-    for place in from..to {
-        let entry: Entry = journal.get(place)?.copy(alloc).ok()?;
-        entries.push(entry).ok()?;
-    }
+    let entries = copies(alloc, journal, from, to)?;
     let made = Journal::from_entries(alloc, &entries).ok();
     drop(entries);
     made
 }
 
-/// Entry 4 opens the topic `t`; if a name without bindings is everyone's, entry 3 does. None opens
-/// the topic `x`.
-fn openers_in_turn(alloc: Global, journals: &[&Journal]) -> Option<bool> {
-    let service = Principal::parse(alloc, "User:svc").ok()?;
-    let (write, kind) = (Operation::Write, ResourceKind::Topic);
-    let topic = Text::copied(alloc, "t").ok()?;
-    let apart = Text::copied(alloc, "x").ok()?;
-    let closed = opener_in_turn(journals, &service, write, kind, &topic, false);
-    let open = opener_in_turn(journals, &service, write, kind, &topic, true);
-    let none = opener_in_turn(journals, &service, write, kind, &apart, false);
-    Some((closed, open, none) == (Ok(Some(4)), Ok(Some(3)), Ok(None)))
-}
-
-/// What breaks the rules of journals in turn.
-fn are_refused_in_turn(alloc: Global, journals: &[&Journal], settings: &Settings) -> Option<bool> {
-    let nobody = Principal::parse(alloc, "User:nobody").ok()?;
-    let topic = Text::copied(alloc, "tx").ok()?;
-    let left = only_producer_in_turn(alloc, settings, journals, 9, &nobody, &topic);
-    let service = Principal::parse(alloc, "User:svc").ok()?;
-    let other = only_producer_in_turn(alloc, settings, journals, 1, &service, &topic);
-    let group = Text::copied(alloc, "g").ok()?;
-    let t = Text::copied(alloc, "t").ok()?;
-    let commits = only_committer_in_turn(alloc, settings, journals, 9, &nobody, &group, &t);
-    Some(
-        matches!(left, Err(RuleFault::NotReserved(5)))
-            && matches!(other, Err(RuleFault::OtherActor(5)))
-            && matches!(commits, Err(RuleFault::SuperUser(7))),
-    )
-}
-
-/// They hold of the principal that may write, and of a topic on which nobody commits.
-fn hold_in_turn(alloc: Global, journals: &[&Journal], settings: &Settings) -> Option<bool> {
-    let topic = Text::copied(alloc, "tx").ok()?;
-    let other = Principal::parse(alloc, "User:other").ok()?;
-    let group = Text::copied(alloc, "g").ok()?;
-    let owned = only_producer_in_turn(alloc, settings, journals, 9, &other, &topic);
-    let free = only_committer_in_turn(alloc, settings, journals, 9, &other, &group, &topic);
-    Some(owned.is_ok() && free.is_ok())
-}
-
-fn decided_in_turn(alloc: Global, journals: &[&Journal], settings: &Settings) -> Option<bool> {
-    let opened = openers_in_turn(alloc, journals)?;
-    let refused = are_refused_in_turn(alloc, journals, settings)?;
-    let held = hold_in_turn(alloc, journals, settings)?;
-    Some(opened && refused && held)
-}
-
 /// The journal in two parts, of which the first ends before entry 4.
-fn in_turn(alloc: Global, journal: &Journal, settings: &Settings) -> Option<bool> {
-    let head = part(alloc, journal, 0, 4)?;
-    let Some(tail) = part(alloc, journal, 4, 8) else {
+fn in_turn(alloc: Global, recorded: &Recorded, actors: &Actors, names: &Names) -> Option<bool> {
+    let head = part(alloc, recorded.journal(), 0, 4)?;
+    let Some(tail) = part(alloc, recorded.journal(), 4, 8) else {
         drop(head);
         return None;
     };
-    let held = decided_in_turn(alloc, &[&head, &tail], settings);
+    let (journals, settings) = ([&head, &tail], recorded.opening());
+    let held = openers_in_turn(&journals, &actors.service, names)
+        && are_refused_in_turn(alloc, &journals, settings, actors, names)
+        && hold_in_turn(alloc, &journals, settings, &actors.other, names);
     drop(head);
     drop(tail);
-    held
+    Some(held)
+}
+
+fn all_hold(alloc: Global, recorded: &Recorded, actors: &Actors, names: &Names) -> Option<bool> {
+    let (service, topic) = (&actors.service, &names.topic);
+    let opens = opens_to_all(alloc, recorded, service, topic)?;
+    let in_turn = in_turn(alloc, recorded, actors, names)?;
+    Some(
+        opens
+            && in_turn
+            && premises_hold(alloc, recorded, service, topic)
+            && rules_hold(alloc, recorded, actors, names)
+            && reservations_last(alloc, recorded, service, names),
+    )
 }
 
 fn holds(alloc: Global) -> Option<bool> {
+    let actors = Actors::parsed(alloc)?;
+    let names = Names::copied(alloc)?;
     let mut recorded = recorded(alloc, 8)?;
-    let served = serve_all(alloc, &mut recorded);
-    let premises = premises_hold(alloc, recorded.journal(), recorded.opening());
-    let rules = rules_hold(alloc, recorded.journal(), recorded.opening());
-    let last = reservations_last(alloc, recorded.journal(), recorded.opening());
-    let in_turn = in_turn(alloc, recorded.journal(), recorded.opening());
+    let served = serve_all(alloc, &mut recorded, &ENTRIES);
+    let held = all_hold(alloc, &recorded, &actors, &names);
     drop(recorded);
     served?;
-    Some(premises? && rules? && last? && in_turn?)
+    held
 }
 
 #[test]

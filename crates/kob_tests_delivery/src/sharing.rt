@@ -1,7 +1,8 @@
 //! Whether topics are shared as the law for several services asks.
 
 use crate::making::{
-    CREATE, CREATE_ORDERS, ORDERS, WRITE, default_route, event_of, outbox, recorded,
+    CREATE, CREATE_ORDERS, ORDERS, WRITE, WRITE_ORDERS, default_route, event_of, outbox, recorded,
+    serve, serve_all,
 };
 use kob_delivery::first_unshared;
 use kob_names::{Batch, Items, PlainValue, Record, Text};
@@ -15,26 +16,10 @@ use std::alloc::Global;
 const SHARED: [(usize, &str); 5] = [
     (0, CREATE_ORDERS),
     (0, CREATE),
-    (1, "User:root h produce outbox.event.orders 0 - v"),
+    (1, WRITE_ORDERS),
     (3, WRITE),
     (2, "User:root h commit g t 0 1"),
 ];
-
-/// Serves a worker's event.
-fn serve(alloc: Global, recorded: &mut Recorded, worker: usize, event: Event) -> Option<()> {
-    let receipt = recorded.serve_as(alloc, worker, &event).ok();
-    drop(event);
-    drop(receipt?);
-    Some(())
-}
-
-fn serve_all(alloc: Global, recorded: &mut Recorded) -> Option<()> {
-    for (worker, line) in SHARED {
-        let event = event_of(alloc, line)?;
-        serve(alloc, recorded, worker, event)?;
-    }
-    Some(())
-}
 
 /// The partitions of both topics.
 fn assignment(alloc: Global) -> Option<Vec<Place>> {
@@ -92,13 +77,12 @@ fn are_shared(
     rows: &[Row],
     assignment: &[Place],
 ) -> Option<bool> {
-    serve_all(alloc, recorded)?;
+    serve_all(alloc, recorded, &SHARED)?;
     let at_first = unshared(alloc, recorded, target, rows, assignment);
     let event = repeated(alloc, target, rows.first()?)?;
     serve(alloc, recorded, 3, event)?;
     let then = unshared(alloc, recorded, target, rows, assignment);
-    let event = event_of(alloc, "User:root h produce outbox.event.orders 0 - v")?;
-    serve(alloc, recorded, 3, event)?;
+    serve_all(alloc, recorded, &[(3, WRITE_ORDERS)])?;
     let at_last = unshared(alloc, recorded, target, rows, assignment);
     Some((at_first, then, at_last) == (Some(None), Some(Some(1)), Some(Some(0))))
 }

@@ -2,8 +2,8 @@
 //! `.ci/refuse` runs them with every allocation refused from `spare` on.
 
 use crate::gates::Holding;
-use crate::left::{RECORDED, call_laws, each_begins, is_marked};
-use crate::making::{CREATE, METADATA, asker, event_of, recorded, request_of, shared, spare};
+use crate::left::{call_laws, each_begins, is_marked};
+use crate::making::{CREATE, METADATA, asker, recorded, request_of, serve_all, shared, spare};
 use crate::pipelines::run;
 use crate::plans::{FIRST_EVENTS, plan_of_two};
 use crate::sessions::session;
@@ -45,19 +45,10 @@ fn goes_round(recorded: Recorded, (principal, host): (Principal, Host)) -> bool 
     read && seen == 0 && has_one
 }
 
-/// Serves one event for worker 1.
-fn serve_one(alloc: Global, recorded: &mut Recorded) -> Option<()> {
-    let event = event_of(alloc, CREATE)?;
-    let served = recorded.serve_as(alloc, 1, &event).ok();
-    drop(event);
-    drop(served?);
-    Some(())
-}
-
 fn shares(alloc: Global) -> Option<bool> {
     let asker = asker(alloc, "User:root")?;
     let mut recorded = recorded(alloc, 1)?;
-    let served = serve_one(alloc, &mut recorded);
+    let served = serve_all(alloc, &mut recorded, &[(1, CREATE)]);
     spare(alloc);
     let shared = goes_round(recorded, asker);
     Some(shared && served.is_some())

@@ -2,7 +2,8 @@
 
 ghost use Rattle.std.specs.Prelude.{◌≡◌, [], IfSome};
 
-use crate::making::{CREATE_ORDERS, ORDERS, asker, order, recorded};
+use crate::elsewhere::{consumer, sends};
+use crate::making::{CREATE_ORDERS, WRITE_ORDERS, asker, recorded};
 use crate::relays::{line, service};
 use crate::sessions::place_of;
 use kob_delivery::{Breach, Premise};
@@ -10,15 +11,11 @@ use kob_embedding::{
     ConsumerEnd, DeliveryFault, Part, RunningConsumer, RunningService, ServiceEnd,
     is_served_in_turn, reaches_in_turn,
 };
-use kob_inbox::{Inbox, Subscription};
 use kob_lines::IntoCalls;
 use kob_router::Line;
 use kob_shared::{PastJournal, RotatingBroker, Session};
 use std::alloc::Global;
 use std::sync::Wait;
-
-/// A record is written to the topic of orders.
-const WRITE_ORDERS: &str = "User:root h produce outbox.event.orders 0 - v";
 
 /// A session of a worker for the super user.
 fn session<'a>(alloc: Global, shared: &'a RotatingBroker, worker: usize) -> Option<Session<'a>> {
@@ -51,20 +48,6 @@ fn hands_out<R: Wait>(
         Ok(journal) => past.push(journal).is_ok(),
         Err(_) => false,
     }
-}
-
-/// Whether the event with this id is recorded and sent by one tick, after which none is needed.
-fn sends<L: Line>(alloc: Global, service: &mut RunningService<L>, id: u128) -> bool
-    ensures { service.new.earlier ≡ service.old.earlier }
-{
-    let Ok((change, event)) = order(alloc, id, "paid") else {
-        return false;
-    };
-    let recorded = service.record(&change, &event);
-    drop(change);
-    drop(event);
-    let is_sent = service.send_all(alloc, 1).is_ok();
-    recorded.is_ok() && is_sent && service.send_all(alloc, 0).is_ok()
 }
 
 /// What a service leaves that sends two events, each over a line of its own. Between the two the
@@ -107,23 +90,6 @@ fn serve<R: Wait>(
     let service = service(alloc, line(rt, alloc, session(alloc, shared, 1))?)?;
     let next = line(rt, alloc, session(alloc, shared, 1));
     sent_over(rt, alloc, shared, past, service, next)
-}
-
-/// A consumer with an empty inbox, which fetches one record at a time.
-fn consumer<L: Line + Drop>(alloc: Global, line: L) -> Option<RunningConsumer<L>>
-    requires { L.calls line ≡ [] }
-    ensures { IfSome result (λ consumer. consumer.earlier ≡ []) }
-{
-    let Ok(inbox) = Inbox::open_in_memory(alloc) else {
-        drop(line);
-        return None;
-    };
-    let Ok(subscription) = Subscription::of(alloc, "g", ORDERS, 1, 1) else {
-        drop(inbox);
-        drop(line);
-        return None;
-    };
-    Some(RunningConsumer::new(alloc, inbox, subscription, line))
 }
 
 /// What a consumer leaves that takes two events in, each over a line of its own. Between the two
@@ -220,8 +186,8 @@ fn is_reached(alloc: Global, past: &[PastJournal], sent: &ServiceEnd, taken: &Co
 }
 
 /// Whether the calls of a service and of a consumer that change their lines are served in turn, and
-/// whether the events reach the inbox. The journal is handed out at the places 0, 3, 6 and 8.
-fn told_over<R: Wait>(rt: &R, alloc: Global, shared: &RotatingBroker) -> Option<(bool, bool)> {
+/// the events reach the inbox. The journal is handed out at the places 0, 3, 6 and 8.
+fn holds_over<R: Wait>(rt: &R, alloc: Global, shared: &RotatingBroker) -> bool {
     let mut past = Vec::new(alloc);
     let created = administer(rt, alloc, shared, CREATE_ORDERS);
     let sent = serve(rt, alloc, shared, &mut past);
@@ -229,40 +195,30 @@ fn told_over<R: Wait>(rt: &R, alloc: Global, shared: &RotatingBroker) -> Option<
     let third = hands_out(rt, alloc, shared, 6, &mut past);
     let written = administer(rt, alloc, shared, WRITE_ORDERS);
     let fourth = hands_out(rt, alloc, shared, 8, &mut past);
-    let told = match (&sent, &taken) {
+    let holds = match (&sent, &taken) {
         (Some(sent), Some(taken)) => {
-            let served = are_served(alloc, &past, sent.part(), taken.part());
-            Some((served, is_reached(alloc, &past, sent, taken)))
+            are_served(alloc, &past, sent.part(), taken.part())
+                && is_reached(alloc, &past, sent, taken)
         }
-        _ => None,
+        _ => false,
     };
     drop(sent);
     drop(taken);
     drop(past);
-    let are_placed = (created, written) == (Some(0), Some(8));
-    if are_placed && third && fourth {
-        told
-    } else {
-        None
-    }
+    holds && third && fourth && (created, written) == (Some(0), Some(8))
 }
 
 /// The same, over a broker whose journals have at most three entries each.
-fn told<R: Wait>(rt: &R, alloc: Global) -> Option<(bool, bool)> {
+fn holds<R: Wait>(rt: &R, alloc: Global) -> Option<bool> {
     let (first, continued) = recorded(alloc, 3)?.next(alloc);
     drop(first);
     let shared = RotatingBroker::open(continued);
-    let told = told_over(rt, alloc, &shared);
+    let holds = holds_over(rt, alloc, &shared);
     drop(shared);
-    told
-}
-
-#[test]
-fn calls_over_changed_lines_are_served_in_turn(rt: HostRuntime) {
-    assert!(rt; matches!(told(&rt, rt.alloc()), Some((true, _))));
+    Some(holds)
 }
 
 #[test]
 fn events_over_changed_lines_reach_the_inbox_in_turn(rt: HostRuntime) {
-    assert!(rt; matches!(told(&rt, rt.alloc()), Some((_, true))));
+    assert!(rt; holds(&rt, rt.alloc()) == Some(true));
 }
