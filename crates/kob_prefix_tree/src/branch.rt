@@ -189,9 +189,8 @@ impl Branch {
         if count != self.tail.as_slice().len() {
             return false;
         }
-        let tail = replace(&mut self.tail, Tail::new());
         let found = self.take_out(kind, serials);
-        self.put_behind(tail);
+        self.settle();
         found
     }
 

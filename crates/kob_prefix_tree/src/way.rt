@@ -121,24 +121,12 @@ impl Branch {
 
     /// Removes the bytes of the branch if it has no serials or children.
     #[tactic(auto, using(crate::proofs::WayLemmas::kept_some))]
-    fn settle(&mut self)
+    pub(crate) fn settle(&mut self)
         ensures { contents self.new ≡ kept_behind self.old.tail (end_of self.old) }
     {
         if self.ends_bare() {
             self.tail = Tail::new();
         }
-    }
-
-    /// Adds these bytes before those of the branch here, unless it has no bytes, serials or
-    /// children.
-    pub(crate) fn put_behind(&mut self, tail: Tail)
-        requires { self.old.tail ≡ [] }
-        ensures { contents self.new ≡ kept_behind tail (contents self.old) }
-    {
-        if self.is_bare() {
-            return;
-        }
-        self.tail = tail;
     }
 
     /// Goes on to the node that begins with the byte, if there is one and the branch has no more
