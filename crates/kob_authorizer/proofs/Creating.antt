@@ -1,6 +1,6 @@
 -- New bindings that have their places for serials.
-use Rattle.kob_authorizer.proofs.Words.{AreRising, Binding, IfSome, IsRising, List, Option, Some, [], arith, bindings_of, enumerate_from, length, length-enumerate_from, length-map, map_push, nat_tests, serial_of, ℕ, ◌++◌, ◌+◌, ◌<◌, ◌∷◌, ◌≡◌, ◌≤◌, Added, Creates, None, OnlyAdds, add_one, ap, append-nil, append_assoc, cond, create_fault, created, creation, false, fold, is_known, is_some, length-append, limit_fault, new_bindings, refl, same_binding_decides, serials_in, sym, true, with_binding, with_new, All, AllPairs-filter, AreDistinct, BindingFilter, all_pairs_push, bindings_left, is_equal, not, takes, ◌∙◌, ◌≢◌, AreInForce, Contains, Contains-append_left, Contains-push}
-use Rattle.kob_authorizer.proofs.Entries.{rising_enumerate_from, enumerate_from_push, rising_append, enumerate_from_append, place_among, serial_in_force, serial_of_append, serial_of_append_none, serial_of_append_some, all_of, first_serial_found, none_is, first_is}
+use Rattle.kob_authorizer.proofs.Words.{AreRising, Binding, IfSome, IsRising, List, Option, Some, [], arith, bindings_of, enumerate_from, length, length-enumerate_from, length-map, map_push, nat_tests, serial_of, ℕ, ◌++◌, ◌+◌, ◌<◌, ◌∷◌, ◌≡◌, ◌≤◌, Added, Creates, None, OnlyAdds, add_one, ap, append-nil, append_assoc, cond, create_fault, created, creation, false, fold, fold-append, is_known, is_some, length-append, limit_fault, new_bindings, refl, same_binding, same_binding_decides, option_or, min-le_left, serials_in, sym, true, with_binding, with_new, All, AllPairs-filter, AreDistinct, BindingFilter, all_pairs_push, bindings_left, is_equal, not, takes, ◌∙◌, ◌≢◌, AreInForce, Contains, Contains-append_left, Contains-push}
+use Rattle.kob_authorizer.proofs.Entries.{rising_enumerate_from, enumerate_from_push, rising_append, enumerate_from_append, place_among, serial_in_force, serial_of_append, serial_of_append_none, serial_of_append_some, moved_some, all_of, first_serial_found, none_is, first_is}
 use Rattle.kob_authorizer.specs.Creation.{addition}
 
 -- each entry has its place for a serial
@@ -33,6 +33,13 @@ place_below entries binding place places found =
 pub places_below : (entries : List (ℕ × Binding)) (binding : Binding) (found : Option ℕ) → HavePlaces entries
     → found ≡ serial_of entries binding → IfSome found (λ place. place < length (bindings_of entries))
 places_below entries binding x2 places is = grind (arith, nat_tests, place_below)
+
+-- the place among bindings and one more behind them
+pub place_with_last : (bindings : List Binding) (last b : Binding)
+    → serial_of (enumerate_from 0 (bindings ++ last ∷ [])) b
+    ≡ option_or (serial_of (enumerate_from 0 bindings) b)
+    (cond (same_binding last b) (Some (length bindings)) None)
+place_with_last bindings last b = grind (arith, nat_tests, enumerate_from_push, serial_of_append)
 
 -- one more is put last
 pub places_push : (entries : List (ℕ × Binding)) (place : ℕ) (binding : Binding) → HavePlaces entries
@@ -100,6 +107,35 @@ grown_push n entries fresh b = grind (arith, nat_tests, append_assoc, enumerate_
 abbrev state : List (ℕ × Binding) → ℕ → List ℕ → Added
 state entries next serials = record { entries = entries; next = next; serials = serials }
 
+-- a binding that is not there is put last, and has its place
+pub put_last : (fresh : List Binding) (b : Binding) → None ≡ serial_of (enumerate_from 0 fresh) b
+    → (fresh ++ b ∷ [] ≡ with_new [] fresh b)
+    × (Some (length fresh) ≡ serial_of (enumerate_from 0 (fresh ++ b ∷ [])) b)
+put_last fresh b none =
+    let unknown = place_among 0 fresh b in let decides = (same_binding_decides b b).1 refl in
+    grind (arith, nat_tests, place_with_last fresh b b)
+
+-- one that is there stays
+pub put_known : (fresh : List Binding) (b : Binding) (place : ℕ) → Some place ≡ serial_of (enumerate_from 0 fresh) b
+    → fresh ≡ with_new [] fresh b
+put_known fresh b place found = let known = place_among 0 fresh b in grind (arith, nat_tests)
+
+pub ruleset putting = (put_last, put_known, length-append)
+
+-- one that is in force is not put
+pub known_in_force : (entries : List (ℕ × Binding)) (fresh : List Binding) (b : Binding) (serial : ℕ)
+    → Some serial ≡ serial_of entries b → fresh ≡ with_new entries fresh b
+known_in_force entries fresh b serial found = let known = serial_in_force entries b in grind (arith, nat_tests)
+
+-- one that is not is put where it is not among the fresh ones
+pub new_where_unknown : (entries : List (ℕ × Binding)) (fresh : List Binding) (b : Binding)
+    → None ≡ serial_of entries b → with_new [] fresh b ≡ with_new entries fresh b
+new_where_unknown entries fresh b none = let unknown = serial_in_force entries b in grind (arith, nat_tests)
+
+-- what the serial of a binding is found by
+pub ruleset finding =
+    (known_in_force, new_where_unknown, serial_of_append_some, serial_of_append_none, moved_some, min-le_left)
+
 -- a binding is put among the fresh ones where it is not known yet, and gets its serial there
 one_step : (n : ℕ) (entries : List (ℕ × Binding)) (fresh : List Binding) (serials : List ℕ) (b : Binding)
     (o : Option ℕ) → o ≡ serial_of (grown n entries fresh) b
@@ -122,6 +158,22 @@ in_turn_from n entries (b ∷ bs) fresh serials =
     let (serial, (step, given)) = one_step n entries fresh serials b (serial_of (grown n entries fresh) b) refl in
     let now = with_new entries fresh b in let rest = in_turn_from n entries bs now (serials ++ serial ∷ []) in
     let stays = serial_stays n entries now bs b serial given in grind (arith, nat_tests, one_more)
+
+-- one more binding has one more serial
+pub serials_push : (n : ℕ) (entries : List (ℕ × Binding)) (done : List Binding) (b : Binding) (serial : ℕ)
+    → Some serial ≡ serial_of (grown n entries (with_new entries (new_bindings entries done) b)) b
+    → serials_in (grown n entries (new_bindings entries done)) done ++ serial ∷ []
+    ≡ serials_in (grown n entries (with_new entries (new_bindings entries done) b)) (done ++ b ∷ [])
+serials_push n entries done b serial is =
+    let fresh = new_bindings entries done in let given = serials_in (grown n entries fresh) done in
+    let step = one_step n entries fresh given b (serial_of (grown n entries fresh) b) refl in
+    let before = in_turn_from n entries done [] [] in let after = in_turn_from n entries (done ++ b ∷ []) [] [] in
+    grind (arith, nat_tests, fold-append)
+
+-- with one more binding there are as many new ones, or more
+pub new_count : (entries : List (ℕ × Binding)) (fresh : List Binding) (b : Binding)
+    → length fresh ≤ length (with_new entries fresh b)
+new_count entries fresh b = grind (arith, nat_tests, length-append)
 
 -- adding one after another gives what adding at once gives
 pub in_turn_at_once : (entries : List (ℕ × Binding)) (next : ℕ) (bindings : List Binding)

@@ -1,5 +1,5 @@
 -- What is so of the elements of a list, and of entries with rising serials.
-use Rattle.kob_authorizer.proofs.Words.{All, All-contains, All-contains_itself, All-filter, All-from_recursion, All-map, All-weaker, AllByRecursion, Any-from_list_any, Bool, Contains, Contains-append_left, Contains-append_right, Contains-push, List, [], arith, cond, false, filter, filter_passes, inl, inr, list_any, list_any-from_Any, map, nat_tests, recursion_from_All, refl, true, ◌∷◌, ◌≡◌, ◌⊎◌, AreRising, Binding, BindingFilter, IsRising, bindings_left, enumerate_from, length, length-append, not, takes, ℕ, ◌++◌, ◌+◌, ◌≤◌, None, Some, find, first_serial, option_map, ◌≢◌, ap, find-append, is_among, is_in_force, is_some, option_or, serial_of, ◌∙◌, common_steps, Err, IsBinarySearchResult, IsNonDecreasingBy, IsSearchInRange, MatchResult, Ok, Option, Result, entry_at, eq-eqb, eqb-true, get_or, nat_cmp, ne_eqb, ordering_index, passes_at, ranked, suc, sym, zero, ◌<◌, ◌==◌}
+use Rattle.kob_authorizer.proofs.Words.{All, All-contains, All-contains_itself, All-filter, All-from_recursion, All-map, All-weaker, AllByRecursion, Any-from_list_any, Bool, Contains, Contains-append_left, Contains-append_right, Contains-push, List, [], arith, cond, false, filter, filter_passes, inl, inr, list_any, list_any-from_Any, map, nat_tests, recursion_from_All, refl, true, ◌∷◌, ◌≡◌, ◌⊎◌, AreRising, Binding, BindingFilter, IsRising, bindings_left, enumerate_from, length, length-append, not, takes, ℕ, ◌++◌, ◌+◌, ◌≤◌, None, Some, find, first_serial, option_map, ◌≢◌, ap, find-append, is_among, is_in_force, is_some, option_or, serial_of, ◌∙◌, Err, IsBinarySearchResult, IsNonDecreasingBy, IsSearchInRange, MatchResult, Ok, Option, Result, entry_at, eq-eqb, eqb-true, get_or, nat_cmp, ne_eqb, ordering_index, passes_at, ranked, suc, sym, zero, ◌<◌, ◌==◌}
 
 module _ {A : Type 0} where
   -- what holds of all holds of each that is there, and the other way round
@@ -204,12 +204,6 @@ pub moved_some : (next place : ℕ) (bindings : List Binding) (b : Binding)
     → Some place ≡ serial_of (enumerate_from 0 bindings) b
     → Some (next + place) ≡ serial_of (enumerate_from next bindings) b
 moved_some next place bindings b found = ap (option_map (λ place. next + place)) found ∙ moved next bindings b
-
-pub moved_none : (next : ℕ) (bindings : List Binding) (b : Binding) → None ≡ serial_of (enumerate_from 0 bindings) b
-    → None ≡ serial_of (enumerate_from next bindings) b
-moved_none next bindings b found = ap (option_map (λ place. next + place)) found ∙ moved next bindings b
-
-pub ruleset in_either = (common_steps, serial_of_append_some, serial_of_append_none)
 
 -- What a binary search among rising serials finds.
 

@@ -1,5 +1,5 @@
 -- A key is made text by text.
-use Rattle.kob_authorizer.proofs.Words.{List, [], append_assoc, arith, nat_tests, ℕ, ◌++◌, ◌∷◌, ◌≡◌, Binding, Bool, Held, IsIndex, IsRising, PatternKind, Place, PrefixMap, added, addition, and-false, and-true, ap, append-nil, bytes_eq-Decides, cond, eq-eqb, false, filter, filter-append, held, held_added_other, held_added_same, held_empty, is_place, list_any, map, map-append, ne_eqb, refl, same_kind, same_text, serials_at, serials_of, taken_of_second, true, with_addition, with_serial, without_addition, ◌&&◌, ◌+◌, ◌==◌, ◌∙◌, ◌≢◌, ◌≤◌, none_sought, without_in_turn, without_serials, removed_all, held_removed_all_same, held_removed_all_other, ArePatternsOf, BindingFilter, Index, Indexes, Patterns, ResourceKind, bindings_left, bindings_taken, empty_index, entries_on, fold, key_place, leaf_of, no_patterns, not, pattern_place, patterns_of, same_resource, subst, sym, takes, tree_of, with_entry, with_leaf, with_tree, Removal, and_parts, begins_with, is_first_there, removal_of, removals_of, resource_decides, serials_beside, with_removal, without_removal}
+use Rattle.kob_authorizer.proofs.Words.{List, [], append_assoc, arith, nat_tests, ℕ, ◌++◌, ◌∷◌, ◌≡◌, Binding, Bool, Held, IsIndex, IsRising, PatternKind, Place, PrefixMap, added, addition, and-false, and-true, ap, append-nil, bytes_eq-Decides, cond, eq-eqb, false, filter, filter-append, held, held_added_other, held_added_same, held_empty, is_place, list_any, map, map-append, ne_eqb, refl, same_kind, same_text, serials_at, serials_of, taken_of_second, true, with_addition, with_serial, without_addition, ◌&&◌, ◌+◌, ◌==◌, ◌∙◌, ◌≢◌, ◌≤◌, none_sought, without_in_turn, without_serials, removed_all, held_removed_all_same, held_removed_all_other, ArePatternsOf, BindingFilter, Index, Indexes, Patterns, ResourceKind, bindings_left, bindings_taken, empty_index, entries_on, fold, key_place, kind_in_tree, leaf_of, no_patterns, not, pattern_place, patterns_of, same_resource, subst, sym, takes, tree_of, with_entry, with_leaf, with_tree, Removal, and_parts, begins_with, is_first_there, removal_of, removals_of, resource_decides, serials_beside, with_removal, without_removal}
 use Rattle.kob_authorizer.proofs.Entries.{rising_below, rising_filter}
 use Rattle.std.specs.FinMap as finite
 
@@ -379,3 +379,17 @@ pub indexes_deleted : (wanted : BindingFilter) (low high : ℕ) (entries : List 
     }) (bindings_left wanted entries)
 indexes_deleted wanted low high entries index rising is =
     grind (arith, nat_tests, place_after, keys_removed wanted low high entries index.keys [] rising is.keys)
+
+-- the only serial at the place of a pattern
+only_there : (resource : ResourceKind) (kind : PatternKind) (name : List ℕ) (serial : ℕ)
+    → serials_of kind (held (tree_of (with_tree no_patterns resource
+    (added (tree_of no_patterns resource) name kind serial)) resource) name) ≡ serial ∷ []
+only_there resource kind name serial = grind (arith, nat_tests, held_added_same, held_empty)
+
+-- one entry alone is all that is removed from its place
+pub removals_of_one : (entry : ℕ × Binding) → removals_of (entry ∷ [])
+    ≡ record { resource = entry.1.resource; pattern = entry.1.pattern; serials = entry.0 ∷ [] } ∷ []
+removals_of_one entry =
+    let one : serials_beside (patterns_of (entry ∷ [])) entry ≡ entry.0 ∷ [] =
+    only_there entry.1.resource (kind_in_tree entry.1.pattern.kind) entry.1.pattern.name entry.0 in
+    grind (arith, nat_tests, eq-eqb)

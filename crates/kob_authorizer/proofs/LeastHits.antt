@@ -105,3 +105,7 @@ module _ (entries : List (ℕ × Binding)) (question : Question) where
   one_by_one xs = hits_from [] xs
 
 pub ruleset one_hit = (common_steps, passes_alone, passes_none, passes_some)
+
+-- none passes where the last of the tests does not
+pub none_reached : (a b c d : Bool) → a && (b && (c && (d && false))) ≡ false
+none_reached a b c d = grind (arith, nat_tests)

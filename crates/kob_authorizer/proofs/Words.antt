@@ -8,7 +8,7 @@ pub use Rattle.kob_authorizer.specs.declared.hits.Hits.{Hits}
 pub use Rattle.kob_authorizer.specs.declared.index.Index.{Index}
 pub use Rattle.kob_authorizer.specs.declared.patterns.Patterns.{Patterns}
 pub use Rattle.kob_names.proofs.SameBindings.{permission_decides, resource_decides, same_binding_decides}
-pub use Rattle.kob_names.specs.Binding.{covers, matches, matches_by, reaches, is_granted, Binding}
+pub use Rattle.kob_names.specs.Binding.{same_binding, covers, matches, matches_by, reaches, is_granted, Binding}
 pub use Rattle.kob_names.specs.Filter.{takes}
 pub use Rattle.kob_names.specs.Same.{same_resource, same_text}
 pub use Rattle.kob_names.specs.declared.filter.BindingFilter.{BindingFilter}
@@ -32,14 +32,14 @@ pub use Rattle.std.proofs.lemmas.Fn.{filter_same}
 pub use Rattle.std.proofs.lemmas.Grind.{common_steps}
 pub use Rattle.std.proofs.lemmas.Iterator.Adapters.{option_map_id}
 pub use Rattle.std.proofs.lemmas.Iterator.Consumers.{YieldsList-from_chain, YieldsList-from_filter, YieldsList-from_first, fold_from_yields_List, min_from_yields_List}
-pub use Rattle.std.proofs.lemmas.List.{length-map, map-append, map_push}
+pub use Rattle.std.proofs.lemmas.List.{take_more, length-map, map-append, map_push}
 pub use Rattle.std.proofs.lemmas.List.Elements.{All-contains, All-contains_itself, All-filter, All-from_recursion, All-head, All-map, All-nil, All-tail, All-weaker, Contains-append_cases, Contains-append_left, Contains-append_right, Contains-push, filter-append, filter_passes, recursion_from_All}
 pub use Rattle.std.proofs.lemmas.List.Folds.{Any-from_list_any, find-append, list_any-from_Any}
 pub use Rattle.std.proofs.lemmas.List.FromFn.{length-enumerate_from}
 pub use Rattle.std.proofs.lemmas.List.Kept.{AllPairs-filter}
 pub use Rattle.std.proofs.lemmas.List.Quantifiers.{all_pairs_push}
 pub use Rattle.std.proofs.lemmas.List.Sorted.{answers_always}
-pub use Rattle.std.proofs.lemmas.List.Sums.{fold-append}
+pub use Rattle.std.proofs.lemmas.List.Sums.{fold_push, fold-append}
 pub use Rattle.std.proofs.lemmas.Map.Views.{Contains-from_any, list_any-from_Contains}
 pub use Rattle.std.proofs.lemmas.Slice.Eq.{bytes_eq-Decides, starts_is}
 pub use Rattle.std.specs.Bool.{Decides, then_some}

@@ -129,6 +129,11 @@ abbrev pub with_new : List (ℕ × Binding) → List Binding → Binding → Lis
 with_new entries fresh binding =
     if is_known entries fresh binding then fresh else (fresh ++ binding ∷ [])
 
+-- bindings, with one more put last, if there is one
+abbrev pub with_last : List Binding → Option Binding → List Binding
+with_last bindings None = bindings
+with_last bindings (Some last) = bindings ++ last ∷ []
+
 -- the bindings to which none in force is equal, each once, in order
 abbrev pub new_bindings : List (ℕ × Binding) → List Binding → List Binding
 new_bindings entries bindings = fold (with_new entries) [] bindings

@@ -6,7 +6,7 @@ ghost use Rattle.kob_authorizer.specs.Decide.{IsRising};
 ghost use Rattle.kob_authorizer.specs.Creation.{Creates, binding_limit, serial_limit, create_fault};
 ghost use Rattle.kob_authorizer.specs.Index.{Indexes, leaf_of, AreRising};
 
-use crate::at_once::{new_bindings, serials_in};
+use crate::at_once::new_bindings;
 use crate::fault::CreateFault;
 use crate::index::{Index, Leaf};
 use crate::limits::limit_fault;
@@ -61,12 +61,11 @@ impl PreparedCreate {
         ensures fault { IfErr result (λ fault. fault ≢ CreateFault.Memory alloc_error
             → create_fault entries.now next bindings.now ≡ Some fault) }
     {
-        let new = new_bindings(alloc, entries, &index.keys, bindings)?;
+        let (new, serials) = new_bindings(alloc, entries, &index.keys, next, bindings)?;
         if let Some(fault) = limit_fault(entries.len(), next, new.len()) {
             drop(new);
             return Err(fault);
         }
-        let serials = serials_in(alloc, entries, &index.keys, next, &new, bindings)?;
         let fresh = new.numbered(alloc, next)?;
         let leaves = index.prepare_all(alloc, fresh.as_slice())?;
         Ok(PreparedCreate {

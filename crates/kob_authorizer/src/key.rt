@@ -5,7 +5,7 @@ ghost use Rattle.kob_prefix_tree.specs.Contents.{part_of};
 ghost use Rattle.kob_prefix_tree.specs.Held.{held};
 ghost use Rattle.kob_authorizer.specs.Index.{binding_key, kind_byte, kind_in_tree, keys_on};
 
-use kob_names::{Binding, PatternKind, ResourceKind};
+use kob_names::{Binding, PatternKind, ResourceKind, sum_of};
 use kob_prefix_tree::{Part, PrefixTree};
 use std::alloc::{AllocError, Global};
 
@@ -25,7 +25,8 @@ pub fn binding_key(alloc: Global, binding: &Binding) -> Result<Vec<u8>, AllocErr
     let principal = binding.principal.as_str().as_bytes();
     let host = binding.host.as_str().as_bytes();
     let name = binding.pattern.name.as_str().as_bytes();
-    let mut key = Vec::new(alloc);
+    let texts = sum_of(sum_of(principal.len(), host.len())?, name.len())?;
+    let mut key = Vec::with_capacity(alloc, sum_of(texts, 3)?)?;
     key.push(kind_byte(binding.resource))?;
     key.extend_from_slice(principal)?;
     key.push(SEPARATOR)?;

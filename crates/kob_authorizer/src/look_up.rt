@@ -3,7 +3,7 @@
 //! They are on the kind of resource in question.
 
 ghost use Rattle.std.specs.Prelude.{◌≡◌, ◌<◌, ◌∷◌, [], ◌&&◌, ◌==◌, ℕ, None, Some, false, get_or, length};
-ghost use Rattle.std.specs.Option.{MatchOption, option_copied};
+ghost use Rattle.std.specs.Option.{IfSome, MatchOption, option_copied};
 ghost use Rattle.kob_names.specs.Binding.{Binding};
 ghost use Rattle.kob_authorizer.specs.Decide.{question_view, first_serial, hits, is_unmatched};
 ghost use Rattle.kob_authorizer.specs.Decide.{unless_open, verdict_of};
@@ -125,8 +125,36 @@ pub fn entry_of(entries: &[(u64, Binding)], serial: u64) -> Option<&(u64, Bindin
     }
 }
 
-/// The place of the entry with this serial, by binary search.
+/// The place of the entry with this serial.
 pub fn place_of(entries: &[(u64, Binding)], serial: u64) -> Option<usize>
+    requires { AreRising entries.now }
+    ensures { MatchOption result (None ≡ entry_at entries.now serial)
+        (λ place. (place < length entries.now) × ((d : ℕ × Binding)
+        → Some (get_or entries.now place d) ≡ entry_at entries.now serial)) }
+{
+    match place_in_row(entries, serial) {
+        Some(place) => Some(place),
+        None => searched_place(entries, serial),
+    }
+}
+
+/// The place of the entry with this serial, if every serial from the first entry's to this one is
+/// in force.
+fn place_in_row(entries: &[(u64, Binding)], serial: u64) -> Option<usize>
+    requires { AreRising entries.now }
+    ensures { IfSome result (λ place. (place < length entries.now) × ((d : ℕ × Binding)
+        → Some (get_or entries.now place d) ≡ entry_at entries.now serial)) }
+{
+    let first = entries.first()?;
+    let place = serial.checked_sub(first.0)? as usize;
+    if place < entries.len() && entries[place].0 == serial {
+        return Some(place);
+    }
+    None
+}
+
+/// The place of the entry with this serial, by binary search.
+fn searched_place(entries: &[(u64, Binding)], serial: u64) -> Option<usize>
     requires { AreRising entries.now }
     ensures { MatchOption result (None ≡ entry_at entries.now serial)
         (λ place. (place < length entries.now) × ((d : ℕ × Binding)

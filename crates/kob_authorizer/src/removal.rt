@@ -2,7 +2,7 @@
 //! place at once. From that of the keys it removes one serial at a time, since few bindings have
 //! the same key.
 
-ghost use Rattle.std.specs.Prelude.{◌≡◌, IfOk, OnOk, [], map};
+ghost use Rattle.std.specs.Prelude.{◌≡◌, ◌∷◌, IfOk, OnOk, [], map};
 ghost use Rattle.std.specs.List.{fold};
 ghost use Rattle.kob_authorizer.specs.Index.{addition, key_place};
 ghost use Rattle.kob_authorizer.specs.Index.{is_first_there, removal_of, removals_of, with_removal};
@@ -67,14 +67,36 @@ impl Removal {
 
 /// All that is removed from the trees of the patterns with these entries, each place once.
 ///
-/// Their patterns are put into trees of their own, which have the serials of each place together.
+/// Their patterns are put into trees of their own, which have the serials of each place together,
+/// unless there is one entry alone.
 pub fn removals_of(alloc: Global, taken: &[(u64, Binding)]) -> Result<Vec<Removal>, AllocError>
     ensures { IfOk result (λ made. made.items ≡ removals_of taken.now) }
 {
+    if let [entry] = taken {
+        return removals_of_one(alloc, entry);
+    }
     let patterns = Patterns::of(alloc, taken)?;
     let removals = removals_among(alloc, &patterns, taken);
     drop(patterns);
     removals
+}
+
+/// What is removed from the trees of the patterns with one entry.
+#[tactic(auto, using(crate::proofs::IndexSteps::removals_of_one))]
+fn removals_of_one(alloc: Global, entry: &(u64, Binding)) -> Result<Vec<Removal>, AllocError>
+    ensures { IfOk result (λ made. made.items ≡ removals_of (entry.now ∷ [])) }
+{
+    let binding = entry.1.parts();
+    let mut serials = Vec::with_capacity(alloc, 1)?;
+    serials.push(entry.0)?;
+    let pattern = binding.pattern.copy(alloc)?;
+    let mut removals = Vec::with_capacity(alloc, 1)?;
+    removals.push(Removal {
+        resource: binding.resource,
+        pattern,
+        serials,
+    })?;
+    Ok(removals)
 }
 
 /// All entries at the places of these among the patterns, each place once.

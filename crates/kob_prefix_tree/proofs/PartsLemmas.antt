@@ -1,10 +1,21 @@
 -- How many bytes a tail and a key have in common at their beginning, and what stands behind them.
-use Rattle.kob_prefix_tree.proofs.Words.{Branch, ChangedAt, Contents, EndsAt, Held, IsNeat, LeadsNowhere, List, Parts, PatternKind, [], arith, contents, drop, end_of, false, has_serials, held_in, kept_behind, led_by, length, length-drop, nat_tests, nothing, refl, subst, sym, take, take-append-drop, take_all, without_serials, ℕ, ◌++◌, ◌+◌, ◌<◌, ◌∷◌, ◌≡◌, ◌≢◌}
+use Rattle.kob_prefix_tree.proofs.Words.{Branch, ChangedAt, Contents, EndsAt, Held, IsNeat, LeadsNowhere, List, Parts, PatternKind, [], arith, contents, drop, end_of, false, has_serials, held_in, kept_behind, led_by, length, length-drop, nat_tests, nothing, refl, subst, sym, take, take-append-drop, take_all, without_serials, suc, zero, ℕ, ◌++◌, ◌+◌, ◌<◌, ◌∷◌, ◌≡◌, ◌≢◌, ◌≤◌}
 use Rattle.kob_prefix_tree.proofs.WayLemmas.{changed_here, held_inside, neat_inside, through, none_found, none_taken}
 
 pub one_more : {x : ℕ} {tail key xs ys rest : List ℕ} (n : ℕ) → tail ≡ x ∷ xs → key ≡ x ∷ ys → Parts xs ys n rest
     → Parts tail key (n + 1) rest
 one_more {x} {tail} {key} {xs} {ys} {rest} n tail_is key_is parts = grind arith
+
+-- the same behind some bytes that both have
+pub parts_behind : (n : ℕ) (xs ys others rest : List ℕ) (m : ℕ) → n ≤ length xs → ys ≡ take n xs ++ others
+    → Parts (drop n xs) others m rest → Parts xs ys (n + m) rest
+parts_behind zero xs ys others rest m le is parts = let none : m ≡ 0 + m = omega arith in
+    subst (λ k. Parts xs ys k rest) none (subst (λ key. Parts xs key m rest) (sym is) parts)
+parts_behind (suc n) [] ys others rest m le is parts = absurd (omega (arith, le))
+parts_behind (suc n) (x ∷ xs) ys others rest m le is parts =
+    let more : n + m + 1 ≡ suc n + m = omega arith in
+    subst (λ k. Parts (x ∷ xs) ys k rest) more
+    (one_more (n + m) refl is (parts_behind n xs (take n xs ++ others) others rest m (omega (arith, le)) refl parts))
 
 -- a place where a tail and a key part
 module _ (was now : Branch) (key rest : List ℕ) (count : ℕ) (tail_is : now.tail ≡ was.tail)

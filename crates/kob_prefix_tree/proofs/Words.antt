@@ -8,7 +8,7 @@ pub use Rattle.kob_prefix_tree.specs.Contents.{contents, end_of, seen, trie_of, 
 pub use Rattle.kob_prefix_tree.specs.Held.{Held, has_serials, is_nothing, nothing, serials_of, with_serial, without_serials, has_in_turn, without_in_turn, IsLongestInUse, common_length, prefixes, serials_along, PrefixMap, added, held, removed_all}
 pub use Rattle.kob_prefix_tree.specs.Nodes.{Leads, if_none, last_of, leading_to, linked_row, size, tree_of, with_others}
 pub use Rattle.kob_prefix_tree.specs.Owned.{NodeOf, Pointer, low, node_of, nodes_lent, nodes_own, pointer_codes, way}
-pub use Rattle.kob_prefix_tree.specs.Path.{ArePacked, Parts, key_of}
+pub use Rattle.kob_prefix_tree.specs.Path.{Parts, key_of}
 pub use Rattle.kob_prefix_tree.specs.declared.branch.Branch.{Branch}
 pub use Rattle.kob_prefix_tree.specs.declared.cells.Serial.{Serial}
 pub use Rattle.kob_prefix_tree.specs.declared.kind.PatternKind.{PatternKind}

@@ -35,6 +35,16 @@ contents b = led_by b.tail (end_of b)
 abbrev pub node_contents : Node Item (Link Item) (Link Item) → Contents
 node_contents n = led_by n.item.tail ((n.item.literal, n.item.prefixed), trie_of n.child.nodes)
 
+-- the first byte of the first of some nodes, and what stands behind it
+abbrev pub first_byte : Tree Item → ℕ
+first_byte leaf = 0
+first_byte (node item heap c below n after) = item.byte
+
+abbrev pub first_contents : Tree Item → Contents
+first_contents leaf = bare
+first_contents (node item heap c below n after) =
+    led_by item.tail ((item.literal, item.prefixed), trie_of below)
+
 -- of a place that is read
 abbrev pub seen : Place → Contents
 seen p = led_by p.tail.now ((p.literal.now, p.prefixed.now), trie_of p.below.now.nodes)

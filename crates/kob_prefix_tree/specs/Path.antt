@@ -1,21 +1,12 @@
 -- Nodes that are made ahead, in order beside one another.
-use Rattle.std.specs.Prelude.{◌≡◌, ◌≢◌, ◌≤◌, ℕ, ◌+◌, ◌*◌, ◌-◌, List, [], ◌∷◌, ◌++◌, drop, length, take}
-use Rattle.kob_prefix_tree.specs.Tree.{Tree, leaf, node, count}
+use Rattle.std.specs.Prelude.{◌≡◌, ◌≢◌, ◌≤◌, ℕ, List, [], ◌∷◌, ◌++◌, drop, length, take}
+use Rattle.kob_prefix_tree.specs.Tree.{Tree, leaf, node}
 use Rattle.kob_prefix_tree.specs.declared.siblings.Item.{Item}
 
 -- the key that their bytes spell
 abbrev pub key_of : Tree Item → List ℕ
 key_of leaf = []
 key_of (node item heap c below n after) = item.byte ∷ (item.tail ++ key_of after)
-
--- how many more bytes the first of them could have
-abbrev pub room_of_first : Tree Item → ℕ
-room_of_first leaf = 0
-room_of_first (node item heap c below n after) = 22 - length item.tail
-
--- each but the first has 23 bytes
-abbrev pub ArePacked : Tree Item → Type 0
-ArePacked t = 23 * count t ≡ length (key_of t) + room_of_first t
 
 -- so many bytes of the tail begin the key, which goes on with the rest, unlike the tail if it can
 pub record Parts (tail key : List ℕ) (count : ℕ) (rest : List ℕ) : Type 0 where

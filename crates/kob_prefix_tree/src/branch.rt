@@ -59,6 +59,14 @@ impl Branch {
         if !self.tail.is_empty() {
             return false;
         }
+        self.ends_bare()
+    }
+
+    /// Whether there are no serials and no children, whatever the branch's own bytes are.
+    #[tactic(auto, using(crate::proofs::WayLemmas::nothing_behind))]
+    pub(crate) fn ends_bare(&self) -> bool
+        ensures { IsTrue result ↔ (end_of self.now ≡ bare) }
+    {
         self.literal.is_empty() && self.prefixed.is_empty() && self.below.is_null()
     }
 
@@ -181,9 +189,8 @@ impl Branch {
         if count != self.tail.as_slice().len() {
             return false;
         }
-        let tail = replace(&mut self.tail, Tail::new());
         let found = self.take_out(kind, serials);
-        self.put_behind(tail);
+        self.settle();
         found
     }
 

@@ -1,8 +1,8 @@
 //! The nodes of a key, allocated ahead: linked as siblings, each with some of its bytes.
-ghost use Rattle.std.specs.Prelude.{◌≡◌, ◌≤◌, [], ◌∷◌, ◌+◌, ◌*◌, drop, length};
+ghost use Rattle.std.specs.Prelude.{◌≡◌, ◌≤◌, [], ◌∷◌, ◌++◌, ◌+◌, ◌*◌, drop, length, take};
 ghost use Rattle.std.specs.Prelude.{IfOk, MatchOption, OnOk};
 ghost use Rattle.kob_prefix_tree.specs.Nodes.{Leads};
-ghost use Rattle.kob_prefix_tree.specs.Path.{ArePacked, key_of, Parts};
+ghost use Rattle.kob_prefix_tree.specs.Path.{key_of, Parts};
 ghost use Rattle.kob_prefix_tree.specs.Tree.{count};
 
 use crate::link::Link;
@@ -46,8 +46,8 @@ impl Link<Item> {
         emptied.give_up();
     }
 
-    /// Removes the common prefix of the key and a tail, and returns its length. It recurses once
-    /// per byte, and so at most 22 times.
+    /// Removes the common prefix of the key and a tail, and returns its length. It recurses at most
+    /// once per byte, and so at most 22 times.
     #[cycle(drop_common)]
     pub(crate) fn drop_common(&mut self, tail: &[u8]) -> usize
         ensures { Parts tail.now (key_of self.old.nodes) result (key_of self.new.nodes) }
@@ -61,28 +61,38 @@ impl Link<Item> {
         if *first != byte {
             return 0;
         }
-        self.drop_byte();
-        self.drop_common(others) + 1
+        let count = self.drop_shared(others);
+        count + self.drop_common(&others[count..]) + 1
     }
 
-    /// Adds one byte in front: to the first node if it has room, otherwise in one more node.
-    fn push_byte(&mut self, alloc: Global, byte: u8) -> Result<(), AllocError>
-        requires { ArePacked self.old.nodes }
-        ensures key { IfOk result (λ _. key_of self.new.nodes ≡ byte ∷ key_of self.old.nodes) }
-        ensures packed { OnOk result (ArePacked self.new.nodes) }
+    /// Removes the first byte, and from the others of its node the common prefix with some bytes,
+    /// and returns the length of that.
+    fn drop_shared(&mut self, bytes: &[u8]) -> usize
+        ensures within { result ≤ length bytes.now }
+        ensures key { drop 1 (key_of self.old.nodes)
+            ≡ take result bytes.now ++ key_of self.new.nodes }
     {
-        if !self.is_null() {
-            let node = self.get_mut();
-            if !node.item.tail.is_full() {
-                let second = replace(&mut node.item.byte, byte);
-                node.item.tail.push_front(second);
-                return Ok(());
-            }
+        if self.is_null() {
+            return 0;
         }
+        let count = self.get_mut().item.tail.drop_common(bytes);
+        self.drop_byte();
+        count
+    }
+
+    /// Adds a node with these bytes in front, if there are any.
+    fn push_node(&mut self, alloc: Global, bytes: &[u8]) -> Result<(), AllocError>
+        requires { length bytes.now ≤ 23 }
+        ensures key { IfOk result (λ _. key_of self.new.nodes ≡ bytes.now ++ key_of self.old.nodes) }
+        ensures count { OnOk result (count self.new.nodes ≤ 1 + count self.old.nodes) }
+    {
+        let Some((byte, others)) = bytes.split_first() else {
+            return Ok(());
+        };
         let room = Link::block(alloc)?;
         let item = Item {
-            byte,
-            tail: Tail::new(),
+            byte: *byte,
+            tail: Tail::of(others),
             literal: Serials::new(),
             prefixed: Serials::new(),
         };
@@ -99,23 +109,24 @@ impl Link<Item> {
     }
 }
 
-/// The length of the common prefix of a tail and a key, and the rest of the key. It recurses once
-/// per byte, and so at most 22 times.
-#[cycle(parted)]
+/// The length of the common prefix of a tail and a key, and the rest of the key.
 pub(crate) fn parted<'a>(tail: &[u8], key: &'a [u8]) -> (usize, &'a [u8])
     ensures { Parts tail.now key.now result.0 result.1.now }
 {
-    let Some((first, others)) = tail.split_first() else {
-        return (0, key);
-    };
-    let Some((byte, behind)) = key.split_first() else {
-        return (0, key);
-    };
-    if first != byte {
-        return (0, key);
+    let count = common_length(tail, key);
+    (count, &key[count..])
+}
+
+/// The length of the common prefix of a tail and a key.
+pub(crate) fn common_length(tail: &[u8], key: &[u8]) -> usize
+    ensures within { result ≤ length key.now }
+    ensures parts { Parts tail.now key.now result (drop result key.now) }
+{
+    let mut count = 0;
+    while count < tail.len() && count < key.len() && tail[count] == key[count] {
+        count += 1;
     }
-    let (count, rest) = parted(others, behind);
-    (count + 1, rest)
+    count
 }
 
 /// Nodes for a key, one for every 23 bytes. If one cannot be allocated, the others are freed.
@@ -125,8 +136,9 @@ pub(crate) fn path_of(alloc: Global, key: &[u8]) -> Result<Link<Item>, AllocErro
 {
     let mut path = Link::null();
     let mut rest = key;
-    while let Some((byte, before)) = rest.split_last() {
-        path.push_byte(alloc, *byte)?;
+    while !rest.is_empty() {
+        let (before, last) = rest.split_at(rest.len().saturating_sub(23));
+        path.push_node(alloc, last)?;
         rest = before;
     }
     Ok(path)
@@ -137,6 +149,6 @@ pub(crate) fn spare_node(alloc: Global) -> Result<Link<Item>, AllocError>
     ensures { IfOk result (λ spare. Leads spare.nodes) }
 {
     let mut spare = Link::null();
-    spare.push_byte(alloc, 0)?;
+    spare.push_node(alloc, &[0])?;
     Ok(spare)
 }

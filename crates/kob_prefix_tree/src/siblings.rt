@@ -3,6 +3,8 @@
 ghost use Rattle.std.specs.Prelude.{◌≡◌, Some, None, MatchOption};
 ghost use Rattle.kob_prefix_tree.specs.Tree.{sibling, value_at, without, siblings};
 ghost use Rattle.kob_prefix_tree.specs.Contents.{contents, node_contents, trie_of};
+ghost use Rattle.kob_prefix_tree.specs.Contents.{first_byte, first_contents};
+ghost use Rattle.kob_prefix_tree.specs.Nodes.{Leads};
 
 use crate::branch::Branch;
 use crate::link::Link;
@@ -77,17 +79,31 @@ impl Link<Item> {
         emptied.give_up();
     }
 
-    /// Removes the node that begins with this byte, with all nodes below, and returns it with its
-    /// block. The next sibling takes its place. It recurses once per sibling, and so at most 256
-    /// times.
+    /// Links the first node of another list in front. The nodes after it are freed.
+    pub(crate) fn put_node(&mut self, other: Link<Item>)
+        requires { Leads other.nodes }
+        ensures { trie_of self.new.nodes ≡ sibling (first_byte other.nodes)
+            (first_contents other.nodes).0 (first_contents other.nodes).1 (trie_of self.old.nodes) }
+    {
+        let mut other = other;
+        let next = replace(self, Link::null());
+        other.get_mut().next = next;
+        let emptied = replace(self, other);
+        emptied.give_up();
+    }
+
+    /// Removes the node that begins with this byte, with all nodes below, and returns it as a list
+    /// of its own. The next sibling takes its place. It recurses once per sibling, and so at most
+    /// 256 times.
     #[cycle(take_out)]
-    pub(crate) fn take_out(&mut self, byte: u8) -> Option<(Branch, Room, Global)>
+    pub(crate) fn take_out(&mut self, byte: u8) -> Option<Link<Item>>
         ensures { MatchOption result
             ((value_at byte (siblings (trie_of self.old.nodes)) ≡ None)
             × (trie_of self.new.nodes ≡ trie_of self.old.nodes))
-            (λ p. (value_at byte (siblings (trie_of self.old.nodes)) ≡ Some (contents p.0))
+            (λ l. Leads l.nodes × ((first_byte l.nodes ≡ byte)
+            × ((value_at byte (siblings (trie_of self.old.nodes)) ≡ Some (first_contents l.nodes))
             × (siblings (trie_of self.new.nodes)
-            ≡ without byte (siblings (trie_of self.old.nodes)))) }
+            ≡ without byte (siblings (trie_of self.old.nodes)))))) }
     {
         if self.is_null() {
             return None;
@@ -96,16 +112,7 @@ impl Link<Item> {
         if node.item.byte != byte {
             return node.next.take_out(byte);
         }
-        let alloc = node.alloc;
-        let (node, room) = replace(self, Link::null()).take(alloc);
-        let emptied = replace(self, node.next);
-        emptied.give_up();
-        let branch = Branch {
-            tail: node.item.tail,
-            literal: node.item.literal,
-            prefixed: node.item.prefixed,
-            below: node.child,
-        };
-        Some((branch, room, alloc))
+        let next = replace(&mut node.next, Link::null());
+        Some(replace(self, next))
     }
 }

@@ -1,6 +1,8 @@
 //! The bytes of a node after its first one.
-ghost use Rattle.std.specs.Prelude.{◌≡◌, ◌↔◌, [], ◌∷◌, ◌≤◌, length, drop, IsTrue, MatchOption};
+ghost use Rattle.std.specs.Prelude.{◌≡◌, ◌↔◌, [], ◌∷◌, ◌++◌, ◌≤◌, length, drop, take};
+ghost use Rattle.std.specs.Prelude.{IsTrue, MatchOption};
 
+use crate::path::common_length;
 use std::marker::Model;
 
 /// Up to 22 bytes, in order, at the end of the array: no other byte moves when one is removed or
@@ -36,13 +38,13 @@ impl Tail {
         requires { length bytes.now ≤ 22 }
         ensures { result ≡ bytes.now }
     {
-        let mut tail = Tail::new();
-        let mut rest = bytes;
-        while let Some((byte, before)) = rest.split_last() {
-            tail.push_front(*byte);
-            rest = before;
+        let start = 22 - bytes.len();
+        let mut array = [0; 22];
+        array[start..].copy_from_slice(bytes);
+        Tail {
+            bytes: array,
+            start: start as u8,
         }
-        tail
     }
 
     /// The bytes, for reading.
@@ -57,13 +59,6 @@ impl Tail {
         ensures { IsTrue result ↔ (self.now ≡ []) }
     {
         self.as_slice().is_empty()
-    }
-
-    pub(crate) fn is_full(&self) -> bool
-        ensures full { IsTrue result ↔ (length self.now ≡ 22) }
-        ensures limit { length self.now ≤ 22 }
-    {
-        self.start == 0
     }
 
     fn first(&self) -> Option<u8>
@@ -85,12 +80,13 @@ impl Tail {
         Some(first)
     }
 
-    /// Adds one byte in front.
-    pub(crate) fn push_front(&mut self, byte: u8)
-        requires { length self.old ≤ 21 }
-        ensures { self.new ≡ byte ∷ self.old }
+    /// Removes the common prefix with other bytes, and returns its length.
+    pub(crate) fn drop_common(&mut self, other: &[u8]) -> usize
+        ensures within { result ≤ length other.now }
+        ensures bytes { self.old ≡ take result other.now ++ self.new }
     {
-        self.start -= 1;
-        self.bytes[self.start as usize] = byte;
+        let count = common_length(other, self.as_slice());
+        self.start += count as u8;
+        count
     }
 }

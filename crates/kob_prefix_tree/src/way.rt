@@ -1,6 +1,6 @@
 //! The way from the root down to one place and up again, kept in the blocks of its own nodes. It
 //! needs no allocation and no stack, however long the key is.
-ghost use Rattle.std.specs.Prelude.{◌≡◌, [], ◌∷◌, ◌++◌, ◌+◌, ℕ, List, false, length, take};
+ghost use Rattle.std.specs.Prelude.{◌≡◌, ◌↔◌, [], ◌∷◌, ◌++◌, ◌+◌, ℕ, List, false, length, take};
 ghost use Rattle.std.specs.Prelude.{IsTrue, None, OnErr, OnOk};
 ghost use Rattle.kob_prefix_tree.specs.Nodes.{Leads};
 ghost use Rattle.kob_prefix_tree.specs.Held.{has_serials, with_serial, without_serials};
@@ -9,6 +9,7 @@ ghost use Rattle.kob_prefix_tree.specs.Tree.{count, held_in, IsNeat, siblings, v
 ghost use Rattle.kob_prefix_tree.specs.Contents.{contents, end_of, trie_of};
 ghost use Rattle.kob_prefix_tree.specs.Path.{key_of};
 ghost use Rattle.kob_prefix_tree.specs.Contents.{EndsAt, IsWay, kept_behind, unwound, with_child};
+ghost use Rattle.kob_prefix_tree.specs.Contents.{first_byte, first_contents};
 
 use crate::branch::Branch;
 use crate::kind::PatternKind;
@@ -55,6 +56,29 @@ impl Branch {
         emptied.give_up();
     }
 
+    /// Goes on from here to the branch that a node holds. The branch here becomes the way's last
+    /// node, in the block of that one: the two change places.
+    fn go_down(&mut self, above: &mut Link<Item>, found: Link<Item>)
+        requires { Leads found.nodes }
+        ensures here { contents self.new ≡ first_contents found.nodes }
+        ensures way { (c : Contents) → unwound above.new.nodes c
+            ≡ unwound above.old.nodes (kept_behind self.old.tail (
+              (self.old.literal, self.old.prefixed),
+              with_child (first_byte found.nodes) c (trie_of self.old.below.nodes),
+            )) }
+    {
+        let mut found = found;
+        let next = replace(above, Link::null());
+        let node = found.get_mut();
+        swap(&mut self.tail, &mut node.item.tail);
+        swap(&mut self.literal, &mut node.item.literal);
+        swap(&mut self.prefixed, &mut node.item.prefixed);
+        swap(&mut self.below, &mut node.child);
+        node.next = next;
+        let emptied = replace(above, found);
+        emptied.give_up();
+    }
+
     /// Goes back to the place that the way's last node keeps. The branch here is linked below it,
     /// or freed if it has no bytes, serials or children.
     fn go_back(&mut self, above: &mut Link<Item>)
@@ -63,60 +87,46 @@ impl Branch {
         ensures root { unwound above.new.nodes (contents self.new)
             ≡ unwound above.old.nodes (contents self.old) }
     {
-        let alloc = above.get().alloc;
-        let (node, room) = replace(above, Link::null()).take(alloc);
-        let Node {
-            item,
-            child,
-            next,
-            alloc: _,
-        } = node;
+        let bare = self.is_bare();
+        let mut last = replace(above, Link::null());
+        let node = last.get_mut();
+        swap(&mut self.tail, &mut node.item.tail);
+        swap(&mut self.literal, &mut node.item.literal);
+        swap(&mut self.prefixed, &mut node.item.prefixed);
+        swap(&mut self.below, &mut node.child);
+        let next = replace(&mut node.next, Link::null());
         let emptied = replace(above, next);
         emptied.give_up();
-        let Item {
-            byte,
-            tail,
-            literal,
-            prefixed,
-        } = item;
-        let mut place = Branch {
-            tail: Tail::new(),
-            literal,
-            prefixed,
-            below: child,
-        };
-        place.take_in(room, alloc, byte, replace(self, Branch::new()));
-        place.put_behind(tail);
-        *self = place;
+        self.take_in(last, bare);
+        self.settle();
     }
 
-    /// Adds these bytes before those of the branch here, unless it has no bytes, serials or
-    /// children.
-    pub(crate) fn put_behind(&mut self, tail: Tail)
-        requires { self.old.tail ≡ [] }
-        ensures { contents self.new ≡ kept_behind tail (contents self.old) }
-    {
-        if self.is_bare() {
-            return;
-        }
-        self.tail = tail;
-    }
-
-    /// Links a branch below, after the byte and in the block. The block is freed if the branch has
-    /// no bytes, serials or children.
-    fn take_in(&mut self, room: Room, alloc: Global, byte: u8, branch: Branch)
-        requires { self.old.tail ≡ [] }
-        ensures no_tail { self.new.tail ≡ [] }
-        ensures put { contents self.new ≡ (
+    /// Links a node below, or frees it if it has no bytes, serials or children.
+    fn take_in(&mut self, child: Link<Item>, is_bare: bool)
+        requires leads { Leads child.nodes }
+        requires bare { IsTrue is_bare ↔ (first_contents child.nodes ≡ bare) }
+        ensures tail { self.new.tail ≡ self.old.tail }
+        ensures put { end_of self.new ≡ (
           (self.old.literal, self.old.prefixed),
-          with_child byte (contents branch) (trie_of self.old.below.nodes),
+          with_child (first_byte child.nodes) (first_contents child.nodes)
+              (trie_of self.old.below.nodes),
         ) }
     {
-        if branch.is_bare() {
-            room.free();
+        if is_bare {
+            drop(child);
             return;
         }
-        self.below.put_front(room, alloc, byte, branch);
+        self.below.put_node(child);
+    }
+
+    /// Removes the bytes of the branch if it has no serials or children.
+    #[tactic(auto, using(crate::proofs::WayLemmas::kept_some))]
+    pub(crate) fn settle(&mut self)
+        ensures { contents self.new ≡ kept_behind self.old.tail (end_of self.old) }
+    {
+        if self.ends_bare() {
+            self.tail = Tail::new();
+        }
     }
 
     /// Goes on to the node that begins with the byte, if there is one and the branch has no more
@@ -134,10 +144,10 @@ impl Branch {
         if count != self.tail.as_slice().len() {
             return false;
         }
-        let Some((branch, room, alloc)) = self.below.take_out(byte) else {
+        let Some(found) = self.below.take_out(byte) else {
             return false;
         };
-        self.go_on(above, room, alloc, byte, branch);
+        self.go_down(above, found);
         true
     }
 

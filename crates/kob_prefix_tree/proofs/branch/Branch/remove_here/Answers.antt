@@ -1,4 +1,4 @@
-use Rattle.kob_prefix_tree.proofs.Words.{ap, arith, end_of, eqb-true, has_serials, led_by, length, nat_tests, sym, trie_of, without_serials, ◌∙◌}
+use Rattle.kob_prefix_tree.proofs.Words.{ap, arith, eqb-true, has_serials, length, nat_tests, sym, trie_of, without_serials, ◌∙◌}
 use Rattle.kob_prefix_tree.proofs.PartsLemmas.{none_here, held_at_end, changed_at_end}
 use Rattle.kob_prefix_tree.proofs.branch.Branch.remove_here.Goals as goal
 
@@ -18,13 +18,10 @@ returns c =
     let none = eqb-true (length c.args.key.now) 0 (sym c.if-not-is_empty.ensures) in
     let all = c.if-count-as_slice.false ∙ ap length c.as_slice.ensures.bytes in
     let taken = c.take_out-found.new.self in
-    let bare_tail = c.take_out-found.ensures.tail ∙ c.replace-tail.ensures.after ∙ c.new.ensures in
     record {
       found = c.take_out-found.ensures.found
           ∙ ap (has_serials kind serials) (sym (held_at_end c.args.count c.args.key.now b c.requires none all));
       taken = changed_at_end c.args.count c.args.key.now b c.requires (without_serials kind serials) none all
-          c.replace-tail.ensures.value
-          ((λ i. led_by (bare_tail i) (end_of taken))
-          ∙ (λ i. (c.take_out-found.ensures.taken i, trie_of (c.take_out-found.ensures.below i).nodes)))
-          c.put_behind.ensures;
+          c.take_out-found.ensures.tail
+          (λ i. (c.take_out-found.ensures.taken i, trie_of (c.take_out-found.ensures.below i).nodes)) c.settle.ensures;
     }

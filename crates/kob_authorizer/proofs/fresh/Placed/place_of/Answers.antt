@@ -1,6 +1,6 @@
 use Rattle.kob_authorizer.proofs.Words.{common_steps, arith}
 use Rattle.kob_authorizer.proofs.Creating.{places_below, places_rise}
-use Rattle.kob_authorizer.proofs.fresh.Fresh.place_of.Goals as goal
+use Rattle.kob_authorizer.proofs.fresh.Placed.place_of.Goals as goal
 
 pub serial_of-requires-clause-rising : goal.serial_of-requires-clause-rising
 serial_of-requires-clause-rising c = grind (arith, common_steps, places_rise)

@@ -1,6 +1,6 @@
 use Rattle.kob_authorizer.proofs.Words.{Binding, answers_always, arith, common_steps, rules, ℕ}
 use Rattle.kob_authorizer.proofs.Entries.{searched}
-use Rattle.kob_authorizer.proofs.look_up.place_of.Goals as goal
+use Rattle.kob_authorizer.proofs.look_up.searched_place.Goals as goal
 
 pub returns : goal.returns
 returns c =
