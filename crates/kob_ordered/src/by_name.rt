@@ -1,7 +1,7 @@
 //! The search for a name among the slots, whose places are listed in order of their names.
 
 ghost use Rattle.std.specs.Prelude.{◌≡◌, ◌+◌, ◌<◌, get_or, length, slice_get, IfErr, IfOk, IfSome, Some};
-ghost use Rattle.std.specs.Prelude.{is_ok, is_some};
+ghost use Rattle.std.specs.Prelude.{is_ok, is_some, None};
 ghost use Rattle.std.specs.List.{remove};
 ghost use Rattle.std.specs.VecDeque.{deque_capacity, deque_len};
 ghost use Rattle.std.specs.Map.{lookup};
@@ -42,6 +42,39 @@ pub(crate) fn place_of<V>(
         Ok(index) => Some(by_name[index]),
         Err(_) => None,
     }
+}
+
+/// The same, but the place that is `near` is looked at before a search.
+pub(crate) fn place_near<V>(
+    slots: &[Slot<V>],
+    by_name: &VecDeque<usize>,
+    name: &Text,
+    near: usize,
+) -> Option<usize>
+    requires { IsSound slots.now by_name.now.items }
+    ensures stands { IfSome result (λ place.
+        slice_get (names_in slots.now) place ≡ Some (Some name.now)) }
+    ensures known { is_some result ≡ is_some (lookup (same_text name.now) (entries_in slots.now)) }
+{
+    match order_at(slots, near, name) {
+        Ordering::Equal => Some(near),
+        _ => place_of(slots, by_name, name),
+    }
+}
+
+/// Where the place of a name that is not there would be in the sorted list of places. A name that
+/// comes after all others is not searched for.
+pub(crate) fn gap_for<V>(slots: &[Slot<V>], by_name: &VecDeque<usize>, name: &Text) -> usize
+    requires sound { IsSound slots.now by_name.now.items }
+    requires absent { lookup (same_text name.now) (entries_in slots.now) ≡ None }
+    ensures { IsGap (names_in slots.now) by_name.now.items name.now result }
+{
+    if let Some(last) = by_name.back() {
+        if let Ordering::Less = order_at(slots, *last, name) {
+            return by_name.len();
+        }
+    }
+    find(slots, by_name, name).unwrap_err()
 }
 
 /// Removes a place from the sorted list, by its index, and returns it.

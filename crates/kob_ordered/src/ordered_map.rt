@@ -8,7 +8,7 @@ ghost use Rattle.std.specs.List.{IsDistinct};
 ghost use Rattle.std.specs.Option.{option_copied_mut};
 ghost use Rattle.kob_names.specs.Same.{same_text};
 
-use crate::by_name::{find, place_of, take_at};
+use crate::by_name::{find, gap_for, place_near, place_of, take_at};
 use crate::iter::Iter;
 use crate::packing::pack;
 use crate::slot::Slot;
@@ -27,6 +27,8 @@ use std::mem;
 pub struct OrderedMap<V> {
     slots: Vec<Slot<V>>,
     by_name: VecDeque<usize>,
+    /// Where the entry stood that was lent last: the next one lent is often the same.
+    lent: usize,
 }
 
 impl<V> Model for OrderedMap<V> {
@@ -62,6 +64,7 @@ impl<V: Drop> OrderedMap<V> {
         OrderedMap {
             slots: Vec::new(alloc),
             by_name: VecDeque::new(alloc),
+            lent: 0,
         }
     }
 
@@ -97,7 +100,8 @@ impl<V: Drop> OrderedMap<V> {
         ensures value { option_copied_mut result ≡ lookup (same_text name.now) self.old.entries }
         ensures names { IsDistinct same_text (keys_of self.old.entries) }
     {
-        let place = place_of(self.slots.as_slice(), &self.by_name, name)?;
+        let place = place_near(self.slots.as_slice(), &self.by_name, name, self.lent)?;
+        self.lent = place;
         Some(self.slots[place].value_mut())
     }
 
@@ -138,6 +142,9 @@ impl<V: Drop> OrderedMap<V> {
             pack(*self.slots.allocator(), &mut self.slots, &mut self.by_name)?;
         }
         self.by_name.reserve(1)?;
+        if self.slots.len() == 0 {
+            return self.slots.reserve_exact(1);
+        }
         self.slots.reserve(1)
     }
 
@@ -148,10 +155,8 @@ impl<V: Drop> OrderedMap<V> {
         ensures entries { self.new.entries ≡ self.old.entries ++ (name, value) ∷ [] }
         ensures room { self.old.room ≤ self.new.room + 1 }
     {
-        let found = find(self.slots.as_slice(), &self.by_name, &name);
-        self.by_name
-            .insert(found.unwrap_err(), self.slots.len())
-            .unwrap();
+        let gap = gap_for(self.slots.as_slice(), &self.by_name, &name);
+        self.by_name.insert(gap, self.slots.len()).unwrap();
         self.slots.push(Slot::Entry(name, value)).unwrap();
     }
 
