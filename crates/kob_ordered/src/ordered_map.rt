@@ -8,9 +8,10 @@ ghost use Rattle.std.specs.List.{IsDistinct};
 ghost use Rattle.std.specs.Option.{option_copied_mut};
 ghost use Rattle.kob_names.specs.Same.{same_text};
 
-use crate::by_name::{find, gap_for, place_near, place_of, take_at};
+use crate::by_name::{find, gap_for, place_near, take_at};
+use crate::guesses::Guesses;
 use crate::iter::Iter;
-use crate::packing::pack;
+use crate::packing::{pack, reserve_slot};
 use crate::slot::Slot;
 use kob_names::Text;
 use std::alloc::{AllocError, Global};
@@ -18,17 +19,16 @@ use std::collections::VecDeque;
 use std::marker::Model;
 use std::mem;
 
-/// A map from names to values in order of insertion. Names are found by binary search in a list of
-/// places that is sorted by name. So no choice of names makes a look-up slow; an insertion and a
-/// removal shift the shorter side of that list. A removal leaves a hole among the entries, which
+/// A map from names to values in order of insertion. Names are found where their hashes guess them,
+/// and else by binary search in a list of places that is sorted by name. So no choice of names makes
+/// a look-up slow; an insertion and a removal shift the shorter side of that list. A removal leaves a hole among the entries, which
 /// iterations skip. `reserve` removes the holes once there are more of them than entries. Contracts
 /// see the entries in order, and the capacity reserved for more.
 #[derive(Drop)]
 pub struct OrderedMap<V> {
     slots: Vec<Slot<V>>,
     by_name: VecDeque<usize>,
-    /// Where the entry stood that was lent last: the next one lent is often the same.
-    lent: usize,
+    guesses: Guesses,
 }
 
 impl<V> Model for OrderedMap<V> {
@@ -64,7 +64,7 @@ impl<V: Drop> OrderedMap<V> {
         OrderedMap {
             slots: Vec::new(alloc),
             by_name: VecDeque::new(alloc),
-            lent: 0,
+            guesses: Guesses::new(alloc),
         }
     }
 
@@ -87,7 +87,8 @@ impl<V: Drop> OrderedMap<V> {
     pub fn get(&self, name: &Text) -> Option<&V>
         ensures { option_copied result ≡ lookup (same_text name.now) self.now.entries }
     {
-        let place = place_of(self.slots.as_slice(), &self.by_name, name)?;
+        let near = self.guesses.place_of(name);
+        let place = place_near(self.slots.as_slice(), &self.by_name, name, near)?;
         match &self.slots[place] {
             Slot::Entry(_, value) => Some(value),
             Slot::Hole => unreachable!(),
@@ -100,8 +101,8 @@ impl<V: Drop> OrderedMap<V> {
         ensures value { option_copied_mut result ≡ lookup (same_text name.now) self.old.entries }
         ensures names { IsDistinct same_text (keys_of self.old.entries) }
     {
-        let place = place_near(self.slots.as_slice(), &self.by_name, name, self.lent)?;
-        self.lent = place;
+        let near = self.guesses.place_of(name);
+        let place = place_near(self.slots.as_slice(), &self.by_name, name, near)?;
         Some(self.slots[place].value_mut())
     }
 
@@ -111,7 +112,8 @@ impl<V: Drop> OrderedMap<V> {
         ensures stands { IfSome result (λ place. StandsAt self.now place name.now) }
         ensures known { is_some result ≡ is_some (lookup (same_text name.now) self.now.entries) }
     {
-        place_of(self.slots.as_slice(), &self.by_name, name)
+        let near = self.guesses.place_of(name);
+        place_near(self.slots.as_slice(), &self.by_name, name, near)
     }
 
     /// The value of the entry at a place, for writing. Does not allocate.
@@ -128,7 +130,7 @@ impl<V: Drop> OrderedMap<V> {
     pub fn contains_key(&self, name: &Text) -> bool
         ensures { result ≡ is_some (lookup (same_text name.now) self.now.entries) }
     {
-        place_of(self.slots.as_slice(), &self.by_name, name).is_some()
+        self.place_of(name).is_some()
     }
 
     /// Reserves capacity for one more entry, and removes the holes if there are more of them than
@@ -140,12 +142,11 @@ impl<V: Drop> OrderedMap<V> {
     {
         if self.slots.len() - self.by_name.len() > self.by_name.len() {
             pack(*self.slots.allocator(), &mut self.slots, &mut self.by_name)?;
+            self.guesses.renew(self.slots.as_slice());
         }
+        self.guesses.reserve(self.slots.as_slice())?;
         self.by_name.reserve(1)?;
-        if self.slots.len() == 0 {
-            return self.slots.reserve_exact(1);
-        }
-        self.slots.reserve(1)
+        reserve_slot(&mut self.slots)
     }
 
     /// Appends an entry, whose name is not there, in reserved capacity. Does not allocate.
@@ -157,6 +158,7 @@ impl<V: Drop> OrderedMap<V> {
     {
         let gap = gap_for(self.slots.as_slice(), &self.by_name, &name);
         self.by_name.insert(gap, self.slots.len()).unwrap();
+        self.guesses.put(&name, self.slots.len());
         self.slots.push(Slot::Entry(name, value)).unwrap();
     }
 
