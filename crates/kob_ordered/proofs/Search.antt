@@ -30,7 +30,7 @@ module _ {V : Type 0} (slots : List (Slot V)) (by_name : List ℕ) (name : List 
   here i lt equal =
       let (n, nth) = nth_of i lt in grind (arith, compared_at i 0 n nth, equal 0, equal_from_order n name)
 
-  no_entry : (i : ℕ) → IsGap names by_name name i → is_some (lookup (same_text name) (entries_in slots)) ≡ false
+  pub no_entry : (i : ℕ) → IsGap names by_name name i → is_some (lookup (same_text name) (entries_in slots)) ≡ false
   no_entry i gap = by (is_some (lookup (same_text name) (entries_in slots))) refl
     where
       by : (b : Bool) → is_some (lookup (same_text name) (entries_in slots)) ≡ b → b ≡ false

@@ -1,7 +1,7 @@
 //! The search for a name among the slots, whose places are listed in order of their names.
 
 ghost use Rattle.std.specs.Prelude.{◌≡◌, ◌+◌, ◌<◌, get_or, length, slice_get, IfErr, IfOk, IfSome, Some};
-ghost use Rattle.std.specs.Prelude.{is_ok, is_some, None};
+ghost use Rattle.std.specs.Prelude.{is_ok, is_some};
 ghost use Rattle.std.specs.List.{remove};
 ghost use Rattle.std.specs.VecDeque.{deque_capacity, deque_len};
 ghost use Rattle.std.specs.Map.{lookup};
@@ -13,7 +13,8 @@ use kob_names::Text;
 use std::cmp::Ordering;
 use std::collections::VecDeque;
 
-/// Where the place of that name is in the sorted list of places, or where it would be.
+/// Where the place of that name is in the sorted list of places, or where it would be. A name that
+/// comes after all others is not searched for.
 pub(crate) fn find<V>(
     slots: &[Slot<V>],
     by_name: &VecDeque<usize>,
@@ -24,6 +25,11 @@ pub(crate) fn find<V>(
     ensures gap { IfErr result (IsGap (names_in slots.now) by_name.now.items name.now) }
     ensures known { is_ok result ≡ is_some (lookup (same_text name.now) (entries_in slots.now)) }
 {
+    if let Some(last) = by_name.back() {
+        if let Ordering::Less = order_at(slots, *last, name) {
+            return Err(by_name.len());
+        }
+    }
     by_name.binary_search_by(|place| order_at(slots, *place, name))
 }
 
@@ -60,21 +66,6 @@ pub(crate) fn place_near<V>(
         Ordering::Equal => Some(near),
         _ => place_of(slots, by_name, name),
     }
-}
-
-/// Where the place of a name that is not there would be in the sorted list of places. A name that
-/// comes after all others is not searched for.
-pub(crate) fn gap_for<V>(slots: &[Slot<V>], by_name: &VecDeque<usize>, name: &Text) -> usize
-    requires sound { IsSound slots.now by_name.now.items }
-    requires absent { lookup (same_text name.now) (entries_in slots.now) ≡ None }
-    ensures { IsGap (names_in slots.now) by_name.now.items name.now result }
-{
-    if let Some(last) = by_name.back() {
-        if let Ordering::Less = order_at(slots, *last, name) {
-            return by_name.len();
-        }
-    }
-    find(slots, by_name, name).unwrap_err()
 }
 
 /// Removes a place from the sorted list, by its index, and returns it.

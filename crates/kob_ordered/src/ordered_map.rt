@@ -8,7 +8,7 @@ ghost use Rattle.std.specs.List.{IsDistinct};
 ghost use Rattle.std.specs.Option.{option_copied_mut};
 ghost use Rattle.kob_names.specs.Same.{same_text};
 
-use crate::by_name::{find, gap_for, place_near, take_at};
+use crate::by_name::{find, place_near, take_at};
 use crate::guesses::Guesses;
 use crate::iter::Iter;
 use crate::packing::{pack, reserve_slot};
@@ -19,11 +19,12 @@ use std::collections::VecDeque;
 use std::marker::Model;
 use std::mem;
 
-/// A map from names to values in order of insertion. Names are found where their hashes guess them,
-/// and else by binary search in a list of places that is sorted by name. So no choice of names makes
-/// a look-up slow; an insertion and a removal shift the shorter side of that list. A removal leaves a hole among the entries, which
-/// iterations skip. `reserve` removes the holes once there are more of them than entries. Contracts
-/// see the entries in order, and the capacity reserved for more.
+/// A map from names to values in order of insertion. The entry of a name is looked for where its
+/// hash guesses it, and then by binary search in a list of places that is sorted by name. So no
+/// choice of names makes a look-up slow; an insertion and a removal shift the shorter side of that
+/// list. A removal leaves a hole among the entries, which iterations skip. `reserve` removes the
+/// holes once there are more of them than entries. Contracts see the entries in order, and the
+/// capacity reserved for more.
 #[derive(Drop)]
 pub struct OrderedMap<V> {
     slots: Vec<Slot<V>>,
@@ -156,8 +157,10 @@ impl<V: Drop> OrderedMap<V> {
         ensures entries { self.new.entries ≡ self.old.entries ++ (name, value) ∷ [] }
         ensures room { self.old.room ≤ self.new.room + 1 }
     {
-        let gap = gap_for(self.slots.as_slice(), &self.by_name, &name);
-        self.by_name.insert(gap, self.slots.len()).unwrap();
+        let found = find(self.slots.as_slice(), &self.by_name, &name);
+        self.by_name
+            .insert(found.unwrap_err(), self.slots.len())
+            .unwrap();
         self.guesses.put(&name, self.slots.len());
         self.slots.push(Slot::Entry(name, value)).unwrap();
     }
