@@ -85,6 +85,15 @@ module _ {V : Type 0} (slots : List (Slot V)) (by_name : List ℕ) (name : List 
       by (Some Hole) is = cc
       by (Some (Entry other value)) is = ap (λ n. Some (Some n)) (equal_from_order other name is)
 
+  -- the first of the names that are listed
+  pub first_is : (place : ℕ) → 0 < length by_name → place ≡ get_or by_name 0 place
+      → slice_get (names_in slots) place ≡ Some (Some name) → Nth (names_in slots) by_name name 0
+  first_is place some is stands = record {
+    place = place;
+    listed = slice_get-get_or by_name 0 place some ∙ ap Some (sym is);
+    stands = stands;
+  }
+
 -- the place that is taken out at an index that was found
 pub record Taken {V : Type 0} (slots : List (Slot V)) (by_name : List ℕ) (name : List ℕ) (i place : ℕ) : Type 0 where
   pub value : V

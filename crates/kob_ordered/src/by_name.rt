@@ -13,8 +13,8 @@ use kob_names::Text;
 use std::cmp::Ordering;
 use std::collections::VecDeque;
 
-/// Where the place of that name is in the sorted list of places, or where it would be. A name that
-/// comes after all others is not searched for.
+/// Where the place of that name is in the sorted list of places, or where it would be. The first
+/// name and one that comes after all others are not searched for.
 pub(crate) fn find<V>(
     slots: &[Slot<V>],
     by_name: &VecDeque<usize>,
@@ -28,6 +28,11 @@ pub(crate) fn find<V>(
     if let Some(last) = by_name.back() {
         if let Ordering::Less = order_at(slots, *last, name) {
             return Err(by_name.len());
+        }
+    }
+    if let Some(first) = by_name.front() {
+        if let Ordering::Equal = order_at(slots, *first, name) {
+            return Ok(0);
         }
     }
     by_name.binary_search_by(|place| order_at(slots, *place, name))
