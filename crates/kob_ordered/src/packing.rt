@@ -20,6 +20,10 @@ pub(crate) fn pack<V: Drop>(
     ensures entries { entries_in slots.new.items ≡ entries_in slots.old.items }
     ensures packed { OnOk result (length slots.new.items ≡ length by_name.new.items) }
 {
+    if by_name.len() == 0 {
+        slots.clear();
+        return Ok(());
+    }
     let ranks = ranks_of(alloc, slots.as_slice())?;
     renumber(by_name, ranks.as_slice());
     slots.retain(|slot| slot.is_entry());
