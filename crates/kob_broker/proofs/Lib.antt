@@ -6,4 +6,5 @@ pub mod Lifting
 pub mod Offsets
 pub mod Spending
 pub mod Steps
+pub mod SuperUsers
 mod Words

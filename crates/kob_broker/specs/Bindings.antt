@@ -1,5 +1,5 @@
 -- The creation of bindings.
-use Rattle.std.specs.Prelude.{◌≡◌, ◌==◌, ℕ, Bool, true, nat_lt, List, [], ◌∷◌, ◌++◌, Option, Some, None, length}
+use Rattle.std.specs.Prelude.{◌==◌, ℕ, Bool, true, nat_lt, List, [], ◌∷◌, ◌++◌, Option, Some, None, length}
 use Rattle.std.specs.List.{flat_map}
 use Rattle.kob_authorizer.specs.declared.fault.CreateFault.{CreateFault}
 use Rattle.kob_authorizer.specs.declared.fault.CreateFault.TheVariants as limits

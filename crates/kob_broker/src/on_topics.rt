@@ -81,10 +81,7 @@ impl Broker {
             (Makes (effect retained_meaning (state_of self.now) event.now
             (metadata_request None)) self.now) }
     {
-        let describer = TopicDescriber {
-            authorizer: &self.authorizer,
-            event,
-        };
+        let describer = TopicDescriber::new(&self.authorizer, event);
         let topics = self.catalog.describable(alloc, &describer)?;
         Ok(Prepared::done(Body::Topics(topics), Change::Unchanged))
     }

@@ -1,5 +1,5 @@
 -- What a map shows whose values are seen by a part of them: the same for groups and for topics.
-use Rattle.kob_groups.proofs.Words.{Bool, IsEquivalence, List, None, OnErr, Result, Some, [], ap, arith, cases_Bool, cond, filter, insert_entry, is_some, lookup, lookup-map_values, map, map_filter, nat_tests, not, refl, remove_entry, removed_others, set_value, set_value_mapped, set_value_same, some_mapped, unwrap_or, ◌++◌, ◌∙◌, ◌∷◌, ◌≡◌, AreFilled, Option, Ordered, equal_names, false, is_among, is_pair, length, length-append, lookup-set_value, lookup_without, nat_list_eq_equiv, nil_from_length, none_of, one_name, same_text, subst, sym, ℕ, ◌&&◌, ◌<◌, ◌||◌, commits_in, commits_of, groups_in, has_group, length-map, name_is, offsets_in, offsets_on, option_map, stands_there, true, without_group, common_steps}
+use Rattle.kob_groups.proofs.Words.{Bool, IsEquivalence, List, None, OnErr, Result, Some, [], ap, arith, cases_Bool, cond, filter, insert_entry, is_some, lookup, lookup-map_values, map, map_filter, nat_tests, not, refl, remove_entry, removed_others, set_value, set_value_mapped, set_value_same, some_mapped, unwrap_or, ◌++◌, ◌∙◌, ◌∷◌, ◌≡◌, AreFilled, Option, Ordered, equal_names, false, is_among, is_pair, length, length-append, lookup-set_value, lookup_without, nat_list_eq_equiv, nil_from_length, none_of, one_name, same_text, subst, sym, ℕ, ◌&&◌, ◌<◌, ◌||◌, commits_in, commits_of, groups_in, has_group, length-map, name_is, offsets_in, offsets_on, option_map, stands_there, true, without_group, common_steps, Groups, committed_at, has_commits, nat_eq, place_of}
 use Rattle.kob_groups.specs.declared.commits.Commits.{Commits as CommitsKept}
 
 module _ {K X : Type 0} (same : K → K → Bool) where
@@ -210,6 +210,18 @@ pub offsets_found : (topic : List ℕ) (commits : CommitsKept)
 offsets_found topic commits =
     ap (λ found. unwrap_or found []) (lookup-map_values offsets_in (same_text topic) commits.by_topic.entries)
 
+pub topic_found : (topic : List ℕ) (commits : CommitsKept)
+    → is_some (lookup (same_text topic) (commits_in commits))
+    ≡ is_some (lookup (same_text topic) commits.by_topic.entries)
+topic_found topic commits = seen_has offsets_in (same_text topic) commits.by_topic.entries
+
+-- where a group has no commits on the topic
+pub uncommitted : (group topic : List ℕ) (partition : ℕ) (groups : Groups)
+    → has_commits topic (commits_of group groups) ≡ false → committed_at (place_of group topic partition) groups ≡ None
+uncommitted group topic partition groups none =
+    ap (λ found. lookup (nat_eq partition) (unwrap_or found []))
+    (none_of (lookup (same_text topic) (commits_of group groups)) none)
+
 -- a value written that is seen as before
 pub groups_as_before : (name : List ℕ) (entries : List (List ℕ × CommitsKept)) (commits : CommitsKept)
     → option_map commits_in (lookup (same_text name) entries) ≡ Some (commits_in commits)
@@ -234,7 +246,7 @@ pub groups_removed : (name : List ℕ) (entries : List (List ℕ × CommitsKept)
 groups_removed name entries gone = seen_removed commits_in (same_text name) entries gone
 
 -- what a commit is reserved by
-pub ruleset reserving = (commits_found, offsets_found, groups_as_before, written_found, name_is, stands_there)
+pub ruleset reserving = (commits_found, offsets_found, topic_found, groups_as_before, written_found, name_is, stands_there)
 
 -- what a place in a list is reserved by
 pub ruleset reserving_name = (common_steps, alike_written, written_found, is_some)

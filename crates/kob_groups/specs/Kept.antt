@@ -1,5 +1,5 @@
 -- When there is room for a commit.
-use Rattle.std.specs.Prelude.{◌≡◌, ◌<◌, ◌⊎◌, ℕ, nat_eq, List, [], IfSome, IsSome, Option, Some, None}
+use Rattle.std.specs.Prelude.{◌≡◌, ◌<◌, ◌⊎◌, ℕ, nat_eq, Bool, true, false, List, [], IfSome, IsSome, Option, Some, None}
 use Rattle.std.specs.Map.{lookup}
 use Rattle.std.specs.declared.hash.BuildHasherDefault.{BuildHasherDefault}
 use Rattle.std.specs.declared.hash.FoldHasher.{FoldHasher}
@@ -29,6 +29,15 @@ HasRoom partition offsets = IsSome (lookup (nat_eq partition) offsets.entries) �
 abbrev pub topic_in : TopicEntry → CommitsKept → List ℕ
 topic_in (TopicAt place) commits = name_at commits.by_topic place
 topic_in (NewTopic topic offsets) commits = topic
+
+-- the group had commits on the topic
+abbrev pub has_topic : TopicEntry → Bool
+has_topic (TopicAt place) = true
+has_topic (NewTopic topic offsets) = false
+
+abbrev pub had_commits : GroupEntry → Bool
+had_commits (GroupAt place topic) = has_topic topic
+had_commits (NewGroup group commits topic) = false
 
 -- there is room for the offset on the topic at the place, or on a new one, that has no offsets
 abbrev pub CanPut : TopicEntry → ℕ → CommitsKept → Type 0

@@ -28,8 +28,8 @@ pub(crate) enum TopicEntry {
 }
 
 impl Commits {
-    ghost use Rattle.kob_groups.specs.Kept.{CanPut, topic_in};
-    ghost use Rattle.kob_groups.specs.Listed.{commits_in};
+    ghost use Rattle.kob_groups.specs.Kept.{CanPut, has_topic, topic_in};
+    ghost use Rattle.kob_groups.specs.Listed.{commits_in, has_commits};
 
     /// No commits. Does not allocate.
     pub(crate) fn new(alloc: Global) -> Commits
@@ -61,6 +61,8 @@ impl Commits {
         ensures commits { commits_in self.new ≡ commits_in self.old }
         ensures topic { IfOk result (λ entry. topic_in entry self.new ≡ topic.now) }
         ensures ready { IfOk result (λ entry. CanPut entry partition self.new) }
+        ensures known { IfOk result (λ entry.
+            has_topic entry ≡ has_commits topic.now (commits_in self.old)) }
         ensures absent { OnErr result (lookup (nat_eq partition)
             (offsets_on topic.now (commits_in self.old)) ≡ None) }
     {

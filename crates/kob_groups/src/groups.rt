@@ -6,9 +6,8 @@ ghost use Rattle.kob_groups.specs.Groups.{committed_at, group_names, has_group, 
 ghost use Rattle.kob_groups.specs.Groups.{no_groups, place_of, with_commit, without_group};
 ghost use Rattle.kob_groups.specs.Groups.{without_offsets, without_topic};
 
-use crate::commit::{CommitFault, PreparedCommit, put_commit, reserve_commit};
+use crate::commit::{CommitFault, PreparedCommit, put_commit, reserve_commit, reserve_listing};
 use crate::commits::Commits;
-use crate::limits::GROUP_LIMIT;
 use crate::lists::{GroupNames, GroupsByTopic};
 use kob_names::{Items, PlainValue, Text};
 use kob_ordered::OrderedMap;
@@ -54,18 +53,11 @@ impl Groups {
         self.by_name.get(group)?.fetch(topic, partition)
     }
 
-    /// Whether the group is a new one, and there is no room for one more.
-    #[tactic(auto, using(crate::proofs::Maps::has_found, crate::proofs::Maps::count_found))]
-    fn is_full_for(&self, group: &Text) -> bool
-        ensures { result ≡ is_full_for group.now (groups_of self.now) }
-    {
-        !self.by_name.contains_key(group) && self.by_name.len() >= GROUP_LIMIT
-    }
-
     /// The first step of a commit: all allocations. The groups are unchanged, also after an error.
     /// `TooMany` is returned if the group is a new one and there are 10,000, before a name is
     /// copied. Only names that are new are copied. Does not allocate if the group has an offset on
     /// the partition.
+    #[tactic(auto, using(crate::proofs::Maps::uncommitted))]
     pub fn prepare_commit(
         &mut self,
         alloc: Global,
@@ -84,32 +76,10 @@ impl Groups {
         ensures memory { IsErrOf result (CommitFault.Memory alloc_error)
             → committed_at (place_of group.now topic.now partition) (groups_of self.old) ≡ None }
     {
-        if self.is_full_for(group) {
-            return Err(CommitFault::TooMany);
-        }
-        self.prepare_allowed(alloc, group, topic, partition, offset)
-            .map_err(CommitFault::Memory)
-    }
-
-    /// Reserves capacity for a commit, and for the group among those listed for the topic.
-    fn prepare_allowed(
-        &mut self,
-        alloc: Global,
-        group: &Text,
-        topic: &Text,
-        partition: u64,
-        offset: u64,
-    ) -> Result<PreparedCommit, AllocError>
-        ensures groups { groups_of self.new ≡ groups_of self.old }
-        ensures place { IfOk result
-            (λ made. place_in made self.new ≡ place_of group.now topic.now partition) }
-        ensures offset { IfOk result (λ made. made.offset ≡ offset) }
-        ensures ready { IfOk result (λ made. CanCommit made self.new) }
-        ensures absent { OnErr result (committed_at (place_of group.now topic.now partition)
-            (groups_of self.old) ≡ None) }
-    {
-        let listing = self.lists.reserve(alloc, topic, group)?;
         let entry = reserve_commit(&mut self.by_name, alloc, group, topic, partition)?;
+        let listing = reserve_listing(&mut self.lists, alloc, &entry, topic, group).map_err(
+            CommitFault::Memory,
+        )?;
         Ok(PreparedCommit {
             entry,
             partition,

@@ -43,51 +43,44 @@ impl GroupsByTopic {
         }
     }
 
-    /// Reserves capacity for a group among those of a topic, unless it is listed already, and
-    /// copies the names that are new. The lists are unchanged, also after an error, which is out of
-    /// memory.
+    /// Reserves capacity for a group that is not among those of a topic, and copies the names that
+    /// are new. The lists are unchanged, also after an error, which is out of memory.
     pub(crate) fn reserve(
         &mut self,
         alloc: Global,
         topic: &Text,
         group: &Text,
-    ) -> Result<Option<Listing>, AllocError>
+    ) -> Result<Listing, AllocError>
+        requires { is_listed topic.now group.now self.old ≡ false }
         ensures kept { ListsAlike self.old self.new }
-        ensures ready { IfOk result (λ listing. CanList listing topic.now group.now self.new) }
-        ensures absent { OnErr result (is_listed topic.now group.now self.old ≡ false) }
+        ensures ready { IfOk result (λ listing. Lists listing topic.now group.now self.new) }
     {
         match self.by_topic.place_of(topic) {
             Some(place) => self.reserve_name(alloc, place, group),
             None => {
                 self.by_topic.reserve()?;
-                let listing = Listing::in_new_list(alloc, topic, group)?;
-                Ok(Some(listing))
+                Listing::in_new_list(alloc, topic, group)
             }
         }
     }
 
-    /// Reserves capacity for a group in the list at a place, unless it is there.
+    /// Reserves capacity for a group that is not in the list at a place.
     #[tactic(auto, using(crate::proofs::Maps::reserving_name))]
     fn reserve_name(
         &mut self,
         alloc: Global,
         place: usize,
         group: &Text,
-    ) -> Result<Option<Listing>, AllocError>
-        requires { StandsAt self.old.by_topic place (name_at self.old.by_topic place) }
+    ) -> Result<Listing, AllocError>
+        requires stands { StandsAt self.old.by_topic place (name_at self.old.by_topic place) }
+        requires absent { is_listed (name_at self.old.by_topic place) group.now self.old ≡ false }
         ensures kept { ListsAlike self.old self.new }
         ensures ready { IfOk result (λ listing.
-            CanList listing (name_at self.old.by_topic place) group.now self.new) }
-        ensures absent { OnErr result
-            (is_listed (name_at self.old.by_topic place) group.now self.old ≡ false) }
+            Lists listing (name_at self.old.by_topic place) group.now self.new) }
     {
-        let names = self.by_topic.value_at_mut(place);
-        if names.contains_key(group) {
-            return Ok(None);
-        }
-        names.reserve()?;
+        self.by_topic.value_at_mut(place).reserve()?;
         let group = group.copy(alloc)?;
-        Ok(Some(Listing::InList(place, group)))
+        Ok(Listing::InList(place, group))
     }
 
     /// Lists a group for a topic in reserved capacity, unless it was listed when that was reserved.

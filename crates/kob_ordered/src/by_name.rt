@@ -13,7 +13,8 @@ use kob_names::Text;
 use std::cmp::Ordering;
 use std::collections::VecDeque;
 
-/// Where the place of that name is in the sorted list of places, or where it would be.
+/// Where the place of that name is in the sorted list of places, or where it would be. The first
+/// name and one that comes after all others are not searched for.
 pub(crate) fn find<V>(
     slots: &[Slot<V>],
     by_name: &VecDeque<usize>,
@@ -24,6 +25,16 @@ pub(crate) fn find<V>(
     ensures gap { IfErr result (IsGap (names_in slots.now) by_name.now.items name.now) }
     ensures known { is_ok result ≡ is_some (lookup (same_text name.now) (entries_in slots.now)) }
 {
+    if let Some(last) = by_name.back() {
+        if let Ordering::Less = order_at(slots, *last, name) {
+            return Err(by_name.len());
+        }
+    }
+    if let Some(first) = by_name.front() {
+        if let Ordering::Equal = order_at(slots, *first, name) {
+            return Ok(0);
+        }
+    }
     by_name.binary_search_by(|place| order_at(slots, *place, name))
 }
 
@@ -41,6 +52,24 @@ pub(crate) fn place_of<V>(
     match find(slots, by_name, name) {
         Ok(index) => Some(by_name[index]),
         Err(_) => None,
+    }
+}
+
+/// The same, but the place that is `near` is looked at before a search.
+pub(crate) fn place_near<V>(
+    slots: &[Slot<V>],
+    by_name: &VecDeque<usize>,
+    name: &Text,
+    near: usize,
+) -> Option<usize>
+    requires { IsSound slots.now by_name.now.items }
+    ensures stands { IfSome result (λ place.
+        slice_get (names_in slots.now) place ≡ Some (Some name.now)) }
+    ensures known { is_some result ≡ is_some (lookup (same_text name.now) (entries_in slots.now)) }
+{
+    match order_at(slots, near, name) {
+        Ordering::Equal => Some(near),
+        _ => place_of(slots, by_name, name),
     }
 }
 

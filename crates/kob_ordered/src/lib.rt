@@ -2,6 +2,7 @@
 #![tactic(auto)]
 
 mod by_name;
+mod guesses;
 mod iter;
 mod ordered_map;
 mod packing;

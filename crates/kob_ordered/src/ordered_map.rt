@@ -8,9 +8,10 @@ ghost use Rattle.std.specs.List.{IsDistinct};
 ghost use Rattle.std.specs.Option.{option_copied_mut};
 ghost use Rattle.kob_names.specs.Same.{same_text};
 
-use crate::by_name::{find, place_of, take_at};
+use crate::by_name::{find, place_near, take_at};
+use crate::guesses::Guesses;
 use crate::iter::Iter;
-use crate::packing::pack;
+use crate::packing::{pack, reserve_slot};
 use crate::slot::Slot;
 use kob_names::Text;
 use std::alloc::{AllocError, Global};
@@ -18,15 +19,17 @@ use std::collections::VecDeque;
 use std::marker::Model;
 use std::mem;
 
-/// A map from names to values in order of insertion. Names are found by binary search in a list of
-/// places that is sorted by name. So no choice of names makes a look-up slow; an insertion and a
-/// removal shift the shorter side of that list. A removal leaves a hole among the entries, which
-/// iterations skip. `reserve` removes the holes once there are more of them than entries. Contracts
-/// see the entries in order, and the capacity reserved for more.
+/// A map from names to values in order of insertion. The entry of a name is looked for where its
+/// hash guesses it, and then by binary search in a list of places that is sorted by name. So no
+/// choice of names makes a look-up slow; an insertion and a removal shift the shorter side of that
+/// list. A removal leaves a hole among the entries, which iterations skip. `reserve` removes the
+/// holes once there are more of them than entries. Contracts see the entries in order, and the
+/// capacity reserved for more.
 #[derive(Drop)]
 pub struct OrderedMap<V> {
     slots: Vec<Slot<V>>,
     by_name: VecDeque<usize>,
+    guesses: Guesses,
 }
 
 impl<V> Model for OrderedMap<V> {
@@ -62,6 +65,7 @@ impl<V: Drop> OrderedMap<V> {
         OrderedMap {
             slots: Vec::new(alloc),
             by_name: VecDeque::new(alloc),
+            guesses: Guesses::new(alloc),
         }
     }
 
@@ -84,7 +88,8 @@ impl<V: Drop> OrderedMap<V> {
     pub fn get(&self, name: &Text) -> Option<&V>
         ensures { option_copied result ≡ lookup (same_text name.now) self.now.entries }
     {
-        let place = place_of(self.slots.as_slice(), &self.by_name, name)?;
+        let near = self.guesses.place_of(name);
+        let place = place_near(self.slots.as_slice(), &self.by_name, name, near)?;
         match &self.slots[place] {
             Slot::Entry(_, value) => Some(value),
             Slot::Hole => unreachable!(),
@@ -97,7 +102,8 @@ impl<V: Drop> OrderedMap<V> {
         ensures value { option_copied_mut result ≡ lookup (same_text name.now) self.old.entries }
         ensures names { IsDistinct same_text (keys_of self.old.entries) }
     {
-        let place = place_of(self.slots.as_slice(), &self.by_name, name)?;
+        let near = self.guesses.place_of(name);
+        let place = place_near(self.slots.as_slice(), &self.by_name, name, near)?;
         Some(self.slots[place].value_mut())
     }
 
@@ -107,7 +113,8 @@ impl<V: Drop> OrderedMap<V> {
         ensures stands { IfSome result (λ place. StandsAt self.now place name.now) }
         ensures known { is_some result ≡ is_some (lookup (same_text name.now) self.now.entries) }
     {
-        place_of(self.slots.as_slice(), &self.by_name, name)
+        let near = self.guesses.place_of(name);
+        place_near(self.slots.as_slice(), &self.by_name, name, near)
     }
 
     /// The value of the entry at a place, for writing. Does not allocate.
@@ -124,7 +131,7 @@ impl<V: Drop> OrderedMap<V> {
     pub fn contains_key(&self, name: &Text) -> bool
         ensures { result ≡ is_some (lookup (same_text name.now) self.now.entries) }
     {
-        place_of(self.slots.as_slice(), &self.by_name, name).is_some()
+        self.place_of(name).is_some()
     }
 
     /// Reserves capacity for one more entry, and removes the holes if there are more of them than
@@ -136,9 +143,11 @@ impl<V: Drop> OrderedMap<V> {
     {
         if self.slots.len() - self.by_name.len() > self.by_name.len() {
             pack(*self.slots.allocator(), &mut self.slots, &mut self.by_name)?;
+            self.guesses.renew(self.slots.as_slice());
         }
+        self.guesses.reserve(self.slots.as_slice())?;
         self.by_name.reserve(1)?;
-        self.slots.reserve(1)
+        reserve_slot(&mut self.slots)
     }
 
     /// Appends an entry, whose name is not there, in reserved capacity. Does not allocate.
@@ -152,6 +161,7 @@ impl<V: Drop> OrderedMap<V> {
         self.by_name
             .insert(found.unwrap_err(), self.slots.len())
             .unwrap();
+        self.guesses.put(&name, self.slots.len());
         self.slots.push(Slot::Entry(name, value)).unwrap();
     }
 

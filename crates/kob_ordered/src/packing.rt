@@ -1,6 +1,7 @@
-//! The removal of the holes among the slots.
+//! The removal of the holes among the slots, and capacity for more.
 
-ghost use Rattle.std.specs.Prelude.{◌≡◌, ◌<◌, length, slice_index_or, ℕ, IfOk, OnOk};
+ghost use Rattle.std.specs.Prelude.{◌≡◌, ◌+◌, ◌<◌, ◌≤◌, length, slice_index_or, ℕ, IfOk, OnOk};
+ghost use Rattle.std.specs.Prelude.{vec_capacity, vec_len};
 ghost use Rattle.std.specs.VecDeque.{deque_capacity};
 ghost use Rattle.kob_ordered.specs.Slots.{entries_in, rank, IsSound};
 
@@ -19,10 +20,26 @@ pub(crate) fn pack<V: Drop>(
     ensures entries { entries_in slots.new.items ≡ entries_in slots.old.items }
     ensures packed { OnOk result (length slots.new.items ≡ length by_name.new.items) }
 {
+    if by_name.len() == 0 {
+        slots.clear();
+        return Ok(());
+    }
     let ranks = ranks_of(alloc, slots.as_slice())?;
     renumber(by_name, ranks.as_slice());
     slots.retain(|slot| slot.is_entry());
     Ok(())
+}
+
+/// Reserves capacity for one more slot; for that one alone, if there are none yet.
+pub(crate) fn reserve_slot<V>(slots: &mut Vec<Slot<V>>) -> Result<(), AllocError>
+    ensures items { slots.new.items ≡ slots.old.items }
+    ensures count { vec_len slots.new ≡ vec_len slots.old }
+    ensures room { OnOk result (vec_len slots.new + 1 ≤ vec_capacity slots.new) }
+{
+    if slots.len() == 0 {
+        return slots.reserve_exact(1);
+    }
+    slots.reserve(1)
 }
 
 /// How many entries are before each place.

@@ -4,6 +4,3 @@ use Rattle.kob_groups.proofs.lists.GroupsByTopic.reserve_name.Goals as goal
 
 pub invariant_of-self : goal.invariant_of-self
 invariant_of-self c = grind (arith, common_steps, filled_written)
-
-pub invariant_of-self-2 : goal.invariant_of-self-2
-invariant_of-self-2 c = grind (arith, common_steps, filled_written)

@@ -1,0 +1,75 @@
+//! Guesses where the entries of names stand.
+
+use crate::slot::Slot;
+use kob_names::Text;
+use std::alloc::{AllocError, Global};
+use std::hash::{FoldHasher, Hash, Hasher};
+
+/// Where the entry of a name may stand, by the hash of the name. Whoever asks compares the name that
+/// stands there, and searches for the name if it is another one. So no contract speaks of these
+/// places, and names with equal hashes cost one comparison. Fewer than eight slots have none, and
+/// others two to four for each slot.
+#[derive(Drop)]
+pub(crate) struct Guesses {
+    places: Vec<u32>,
+}
+
+impl Guesses {
+    pub(crate) fn new(alloc: Global) -> Guesses {
+        Guesses {
+            places: Vec::new(alloc),
+        }
+    }
+
+    /// A place where the entry of that name may stand.
+    pub(crate) fn place_of(&self, name: &Text) -> usize {
+        match self.places.get(self.index_of(name)) {
+            Some(place) => *place as usize,
+            None => 0,
+        }
+    }
+
+    /// From now on the name is guessed at that place.
+    pub(crate) fn put(&mut self, name: &Text, place: usize) {
+        let Ok(place) = u32::try_from(place) else {
+            return;
+        };
+        let index = self.index_of(name);
+        if let Some(guess) = self.places.get_mut(index) {
+            *guess = place;
+        }
+    }
+
+    /// Reserves capacity for guesses about one entry more than there are slots.
+    pub(crate) fn reserve<V>(&mut self, slots: &[Slot<V>]) -> Result<(), AllocError> {
+        let size = self.places.len();
+        if slots.len() < 8 || slots.len() < size / 2 {
+            return Ok(());
+        }
+        self.places.resize(size.saturating_mul(2).max(32), 0)?;
+        self.renew(slots);
+        Ok(())
+    }
+
+    /// Guesses each entry where it stands.
+    pub(crate) fn renew<V>(&mut self, slots: &[Slot<V>]) {
+        for (place, slot) in slots.iter().enumerate() {
+            if let Slot::Entry(name, _) = slot {
+                self.put(name, place);
+            }
+        }
+    }
+
+    fn index_of(&self, name: &Text) -> usize {
+        match self.places.len().checked_sub(1) {
+            Some(last) => hash_of(name) as usize & last,
+            None => 0,
+        }
+    }
+}
+
+fn hash_of(name: &Text) -> u64 {
+    let mut hasher = FoldHasher::default();
+    name.hash(&mut hasher);
+    hasher.finish()
+}
