@@ -1,5 +1,6 @@
 -- The words of a line are cut one after another. A word that is cut at a byte, and the seven words of a row.
-use Rattle.kob_words.specs.Words.{unescaped}
+use Rattle.kob_words.specs.Words.{has_percent, unescaped}
+use Rattle.kob_words.proofs.Escapes.{plain_stands}
 use Rattle.kob_script.specs.Words.{BadEscape}
 use Rattle.kob_script.proofs.Imports.{Err, FaultKind, Ok, Result, is_some, ok_or, word_of, ◌>>=◌, Bool, IsFirstByte, IsFirstByte-value, List, None, Option, Some, Word, [], ap, arith, cut_at, drop, false, get_or, is_byte, length, length-drop, nat_lt, nat_tests, not, option_map, refl, sym, take, take_all, true, ℕ, ◌+◌, ◌-◌, ◌<◌, ◌∙◌, ◌∷◌, ◌≡◌, ◌≤◌}
 use Rattle.std.proofs.Common.{cond, filter}
@@ -101,3 +102,7 @@ whole_word raw whole = by (unescaped raw) whole
         → (word : Word) × (word_by raw read ≡ Ok word)
     by (Some bytes) whole = (record { raw = raw; decoded = bytes }, refl)
     by None whole = absurd cc
+
+-- a word without a percent sign stands for itself
+pub plain_word : (raw : List ℕ) → has_percent raw ≡ false → word_of raw ≡ Ok (record { raw = raw; decoded = raw })
+plain_word raw plain = rw (plain_stands raw plain) refl

@@ -188,11 +188,12 @@ impl Item for (u64, Record) {
     ghost text = { record_item };
 
     fn push(&self, out: &mut Vec<u8>) -> Result<(), AllocError> {
-        push_labelled(out, b" ", self.0)?;
-        out.extend_from_slice(b":")?;
+        out.push(b' ')?;
+        push_number(out, self.0)?;
+        out.push(b':')?;
         if let Some(key) = &self.1.key {
             push_bytes(out, key.as_slice())?;
-            out.extend_from_slice(b"=")?;
+            out.push(b'=')?;
         }
         push_bytes(out, self.1.value.as_slice())
     }

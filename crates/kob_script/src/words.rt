@@ -38,22 +38,13 @@ impl<'a> Model for Word<'a> {
 impl<'a> Word<'a> {
     /// The word that these bytes of a line are. The fault is `BadEscape`. Does not allocate for a
     /// word without a percent sign.
+    #[tactic(auto, using(kob_words::proofs::Escapes::plain_stands))]
     pub fn read(alloc: Global, raw: &'a [u8]) -> Result<Word<'a>, LineError>
         ensures gives { Gives result (word_of raw.now) }
         ensures memory { HidesNoFault result (result_err (word_of raw.now)) }
     {
-        Word::read_part(alloc, may_have_escapes(raw), raw)
-    }
-
-    // The same, if it is known whether there may be a percent sign.
-    #[tactic(auto, using(kob_words::proofs::Escapes::plain_stands))]
-    fn read_part(alloc: Global, escaped: bool, raw: &'a [u8]) -> Result<Word<'a>, LineError>
-        requires { escaped ≡ false → has_percent raw.now ≡ false }
-        ensures gives { Gives result (word_of raw.now) }
-        ensures memory { HidesNoFault result (result_err (word_of raw.now)) }
-    {
         let mut replaced = None;
-        if escaped {
+        if may_have_escapes(raw) {
             let bytes = unescaped(alloc, raw)?.ok_or(FaultKind::BadEscape)?;
             replaced = Some(Box::new(alloc, bytes)?);
         }
@@ -109,13 +100,33 @@ pub fn words_of(alloc: Global, line: &[u8]) -> Result<Vec<Word<'_>>, LineError>
 fn read_words(alloc: Global, line: &[u8]) -> Result<Vec<Word<'_>>, LineError>
     ensures { GivesSeen (λ words. words.items) result (each word_of (raw_words line.now)) }
 {
-    let escaped = may_have_escapes(line);
+    if !may_have_escapes(line) {
+        return read_plain(alloc, line);
+    }
+    let mut words = Vec::with_capacity(alloc, 8)?;
+    let mut rest = line;
+    while let Some((raw, others)) = first_word(rest) {
+        let word = Word::read(alloc, raw)?;
+        words.push(word)?;
+        rest = others;
+    }
+    Ok(words)
+}
+
+// The words between blanks of a line without a percent sign.
+#[inline(always)]
+fn read_plain(alloc: Global, line: &[u8]) -> Result<Vec<Word<'_>>, LineError>
+    requires { has_percent line.now ≡ false }
+    ensures { GivesSeen (λ words. words.items) result (each word_of (raw_words line.now)) }
+{
     // Most lines have no more words.
     let mut words = Vec::with_capacity(alloc, 8)?;
     let mut rest = line;
     while let Some((raw, others)) = first_word(rest) {
-        let word = Word::read_part(alloc, escaped, raw)?;
-        words.push(word)?;
+        words.push(Word {
+            raw,
+            replaced: None,
+        })?;
         rest = others;
     }
     Ok(words)
