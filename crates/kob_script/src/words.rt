@@ -1,7 +1,8 @@
 //! The words of a line, in which `%` and two hexadecimal digits stand for one byte.
 
-ghost use Rattle.std.specs.Prelude.{◌≡◌, ◌<◌, ◌≤◌, ◌∷◌, [], false, find, not, IfSome, MatchOption};
-ghost use Rattle.std.specs.Prelude.{bytes_eq, codes, length, option_map, slice_get};
+ghost use Rattle.std.specs.Prelude.{◌≡◌, ◌+◌, ◌<◌, ◌≤◌, ◌∷◌, [], ℕ, drop, false, find, get_or, not};
+ghost use Rattle.std.specs.Prelude.{IfSome, MatchOption, bytes_eq, codes, length, option_map};
+ghost use Rattle.std.specs.Prelude.{slice_get};
 ghost use Rattle.std.specs.List.{position_or_len};
 ghost use Rattle.std.specs.Result.{result_err};
 ghost use Rattle.kob_words.specs.Words.{has_percent};
@@ -14,6 +15,7 @@ use kob_words::{has_whole_escapes, may_have_escapes, unescaped};
 use memchr::memchr;
 use std::alloc::Global;
 use std::marker::Model;
+use std::simd::prelude::*;
 
 /// A word as it is in a line, and the bytes that it stands for. Contracts see both.
 #[derive(Drop)]
@@ -181,6 +183,41 @@ fn size_of_word(word: &[u8]) -> usize
     ensures within { result ≤ length word.now }
 {
     let mut size = 0;
+    while word.len() - size > 16 {
+        size += letters_at(word, size);
+        if is_blank(word[size]) {
+            return size;
+        }
+        size += 1;
+    }
+    size_from(word, size)
+}
+
+// How many bytes from a place on are greater than a blank, at most 16.
+#[inline(always)]
+fn letters_at(word: &[u8], at: usize) -> usize
+    requires { at + 16 ≤ length word.now }
+    ensures few { result ≤ 16 }
+    ensures letters { (k : ℕ) → at ≤ k → k < at + result → is_blank (get_or word.now k 0) ≡ false }
+{
+    let low = u8x16::from_slice(&word[at..])
+        .simd_le(u8x16::splat(b' '))
+        .to_bitmask();
+    if low == 0 {
+        return 16;
+    }
+    low.trailing_zeros() as usize
+}
+
+// The same as `size_of_word`, if there is no blank before this place.
+fn size_from(word: &[u8], start: usize) -> usize
+    requires begun { position_or_len is_blank word.now
+        ≡ start + position_or_len is_blank (drop start word.now) }
+    requires start { start ≤ length word.now }
+    ensures size { result ≡ position_or_len is_blank word.now }
+    ensures within { result ≤ length word.now }
+{
+    let mut size = start;
     while size < word.len() && !is_blank(word[size]) {
         size += 1;
     }
