@@ -1,13 +1,13 @@
 //! The words of a line, in which `%` and two hexadecimal digits stand for one byte.
 
 ghost use Rattle.std.specs.Prelude.{◌≡◌, ◌+◌, ◌<◌, ◌≤◌, ◌∷◌, [], ℕ, drop, false, find, get_or, not};
-ghost use Rattle.std.specs.Prelude.{IfSome, MatchOption, bytes_eq, codes, length, option_map};
-ghost use Rattle.std.specs.Prelude.{slice_get};
+ghost use Rattle.std.specs.Prelude.{IfSome, MatchOption, Ok, bytes_eq, codes, length, option_map};
+ghost use Rattle.std.specs.Prelude.{slice_get, take};
 ghost use Rattle.std.specs.List.{position_or_len};
 ghost use Rattle.std.specs.Result.{result_err};
 ghost use Rattle.kob_words.specs.Words.{has_percent};
 ghost use Rattle.kob_script.specs.Words.{Gives, GivesSeen, HidesNoFault, cut_at, each, is_blank};
-ghost use Rattle.kob_script.specs.Words.{raw_words, word_of, words_of};
+ghost use Rattle.kob_script.specs.Words.{is_skipped, raw_words, word_of, words_of};
 
 use crate::fault::{FaultKind, LineError};
 use kob_names::Bytes;
@@ -85,7 +85,7 @@ pub fn words_of(alloc: Global, line: &[u8]) -> Result<Vec<Word<'_>>, LineError>
     ensures gives { GivesSeen (λ words. words.items) result (words_of line.now) }
     ensures memory { HidesNoFault result (result_err (words_of line.now)) }
 {
-    if behind_blanks(line).first().copied().unwrap_or(b'#') == b'#' {
+    if is_skipped(line) {
         return Ok(Vec::new(alloc));
     }
     match read_words(alloc, line) {
@@ -95,6 +95,77 @@ pub fn words_of(alloc: Global, line: &[u8]) -> Result<Vec<Word<'_>>, LineError>
         }
         read => read,
     }
+}
+
+fn is_skipped(line: &[u8]) -> bool
+    ensures { result ≡ is_skipped line.now }
+{
+    behind_blanks(line).first().copied().unwrap_or(b'#') == b'#'
+}
+
+impl<'l> Word<'l> {
+    fn none() -> Word<'l> {
+        Word {
+            raw: &[],
+            replaced: None,
+        }
+    }
+}
+
+/// Room for the words of most lines, so that these take no allocation.
+#[inline(always)]
+pub fn few_words<'l>() -> [Word<'l>; 7]
+    ensures { length result ≡ 7 }
+{
+    [
+        Word::none(),
+        Word::none(),
+        Word::none(),
+        Word::none(),
+        Word::none(),
+        Word::none(),
+        Word::none(),
+    ]
+}
+
+/// Puts the words of a line into `few`, and returns how many they are. None if there are more, or if
+/// the line may have an escape.
+pub fn put_words<'l>(few: &mut [Word<'l>; 7], line: &'l [u8]) -> Option<usize>
+    requires { length few.old ≡ 7 }
+    ensures put { IfSome result (λ count. words_of line.now ≡ Ok (take count few.new)) }
+    ensures within { IfSome result (λ count. count ≤ 7) }
+{
+    if is_skipped(line) {
+        return Some(0);
+    }
+    if may_have_escapes(line) {
+        return None;
+    }
+    put_plain(few, line)
+}
+
+#[inline(always)]
+fn put_plain<'l>(few: &mut [Word<'l>; 7], line: &'l [u8]) -> Option<usize>
+    requires room { length few.old ≡ 7 }
+    requires plain { has_percent line.now ≡ false }
+    ensures put { IfSome result (λ count.
+        each word_of (raw_words line.now) ≡ Ok (take count few.new)) }
+    ensures within { IfSome result (λ count. count ≤ 7) }
+{
+    let mut count = 0;
+    let mut rest = line;
+    while let Some((raw, others)) = first_word(rest) {
+        if count == few.len() {
+            return None;
+        }
+        few[count] = Word {
+            raw,
+            replaced: None,
+        };
+        count += 1;
+        rest = others;
+    }
+    Some(count)
 }
 
 // The words between blanks.
