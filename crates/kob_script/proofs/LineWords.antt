@@ -121,9 +121,7 @@ module _ (line : List ℕ) where
       → ((k : ℕ) → at ≤ k → k < at + n → is_blank (get_or line k 0) ≡ false)
       → size_of (drop at line) ≡ n + size_of (drop (at + n) line)
   letters_passed at zero room letters =
-      let here : at ≡ at + 0 = omega arith in
-      let same = ap (λ m. size_of (drop m line)) here in
-      omega (arith, same)
+      let here : at ≡ at + 0 = omega arith in omega (arith, ap (λ m. size_of (drop m line)) here)
   letters_passed at (suc n) room letters =
       let there : at + 1 + n ≡ at + suc n = omega arith in
       let others = letters_passed (at + 1) n (omega (arith, room)) (λ k from to. letters k (omega (arith, from)) (omega (arith, to))) in
@@ -131,5 +129,8 @@ module _ (line : List ℕ) where
       omega (arith, letter_at at (omega (arith, room)) (letters at (omega arith) (omega arith)), others, same)
 
 -- a byte greater than a blank is none
-pub no_blank : (byte : ℕ) → leb byte 32 ≡ false → is_blank byte ≡ false
+abbrev pub low : ℕ → Bool
+low byte = leb byte 32
+
+pub no_blank : (byte : ℕ) → low byte ≡ false → is_blank byte ≡ false
 no_blank byte greater = grind (arith, nat_tests)
