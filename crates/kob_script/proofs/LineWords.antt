@@ -1,9 +1,11 @@
 -- The words of a line are cut one after another. A word that is cut at a byte, and the seven words of a row.
-use Rattle.kob_words.specs.Words.{unescaped}
+use Rattle.kob_words.specs.Words.{has_percent, unescaped}
+use Rattle.kob_words.proofs.Escapes.{plain_stands}
 use Rattle.kob_script.specs.Words.{BadEscape}
 use Rattle.kob_script.proofs.Imports.{Err, FaultKind, Ok, Result, is_some, ok_or, word_of, ◌>>=◌, Bool, IsFirstByte, IsFirstByte-value, List, None, Option, Some, Word, [], ap, arith, cut_at, drop, false, get_or, is_byte, length, length-drop, nat_lt, nat_tests, not, option_map, refl, sym, take, take_all, true, ℕ, ◌+◌, ◌-◌, ◌<◌, ◌∙◌, ◌∷◌, ◌≡◌, ◌≤◌}
-use Rattle.std.proofs.Common.{cond, filter}
+use Rattle.std.proofs.Common.{cond, filter, leb}
 use Rattle.std.specs.Option.{IfSome}
+use Rattle.std.proofs.lemmas.List.{drop_more}
 use Rattle.std.proofs.lemmas.List.Splits.{slice_split-cons_yes}
 use Rattle.std.specs.List.{position_or_len, slice_split, onto_first, slice_get}
 use Rattle.kob_script.specs.Words.{is_blank, raw_words}
@@ -101,3 +103,34 @@ whole_word raw whole = by (unescaped raw) whole
         → (word : Word) × (word_by raw read ≡ Ok word)
     by (Some bytes) whole = (record { raw = raw; decoded = bytes }, refl)
     by None whole = absurd cc
+
+-- a word without a percent sign stands for itself
+pub plain_word : (raw : List ℕ) → has_percent raw ≡ false → word_of raw ≡ Ok (record { raw = raw; decoded = raw })
+plain_word raw plain = rw (plain_stands raw plain) refl
+
+-- The size of a word is told by its bytes one by one, or by a run of them.
+module _ (line : List ℕ) where
+  pub blank_at : (at : ℕ) → at < length line → is_blank (get_or line at 0) ≡ true → size_of (drop at line) ≡ 0
+  blank_at at below blank = rw (drop_more line at 0 below, blank) refl
+
+  pub letter_at : (at : ℕ) → at < length line → is_blank (get_or line at 0) ≡ false
+      → size_of (drop at line) ≡ 1 + size_of (drop (at + 1) line)
+  letter_at at below letter = rw (drop_more line at 0 below, letter) refl
+
+  pub letters_passed : (at n : ℕ) → at + n ≤ length line
+      → ((k : ℕ) → at ≤ k → k < at + n → is_blank (get_or line k 0) ≡ false)
+      → size_of (drop at line) ≡ n + size_of (drop (at + n) line)
+  letters_passed at zero room letters =
+      let here : at ≡ at + 0 = omega arith in omega (arith, ap (λ m. size_of (drop m line)) here)
+  letters_passed at (suc n) room letters =
+      let there : at + 1 + n ≡ at + suc n = omega arith in
+      let others = letters_passed (at + 1) n (omega (arith, room)) (λ k from to. letters k (omega (arith, from)) (omega (arith, to))) in
+      let same = ap (λ m. size_of (drop m line)) there in
+      omega (arith, letter_at at (omega (arith, room)) (letters at (omega arith) (omega arith)), others, same)
+
+-- a byte greater than a blank is none
+abbrev pub low : ℕ → Bool
+low byte = leb byte 32
+
+pub no_blank : (byte : ℕ) → low byte ≡ false → is_blank byte ≡ false
+no_blank byte greater = grind (arith, nat_tests)

@@ -171,7 +171,8 @@ impl Item for u64 {
     ghost text = { serial_item };
 
     fn push(&self, out: &mut Vec<u8>) -> Result<(), AllocError> {
-        push_labelled(out, b" ", *self)
+        out.push(b' ')?;
+        push_number(out, *self)
     }
 }
 
@@ -179,7 +180,7 @@ impl Item for (u64, Binding) {
     ghost text = { binding_item };
 
     fn push(&self, out: &mut Vec<u8>) -> Result<(), AllocError> {
-        out.extend_from_slice(b"\n")?;
+        out.push(b'\n')?;
         print_binding(out, self.0, &self.1)
     }
 }
@@ -188,11 +189,12 @@ impl Item for (u64, Record) {
     ghost text = { record_item };
 
     fn push(&self, out: &mut Vec<u8>) -> Result<(), AllocError> {
-        push_labelled(out, b" ", self.0)?;
-        out.extend_from_slice(b":")?;
+        out.push(b' ')?;
+        push_number(out, self.0)?;
+        out.push(b':')?;
         if let Some(key) = &self.1.key {
             push_bytes(out, key.as_slice())?;
-            out.extend_from_slice(b"=")?;
+            out.push(b'=')?;
         }
         push_bytes(out, self.1.value.as_slice())
     }
@@ -203,7 +205,8 @@ impl Item for (Text, u64) {
 
     fn push(&self, out: &mut Vec<u8>) -> Result<(), AllocError> {
         self.0.push(out)?;
-        push_labelled(out, b":", self.1)
+        out.push(b':')?;
+        push_number(out, self.1)
     }
 }
 
@@ -211,7 +214,7 @@ impl Item for Text {
     ghost text = { group_item };
 
     fn push(&self, out: &mut Vec<u8>) -> Result<(), AllocError> {
-        out.extend_from_slice(b" ")?;
+        out.push(b' ')?;
         push_bytes(out, self.as_str().as_bytes())
     }
 }

@@ -7,7 +7,7 @@ ghost use Rattle.std.specs.Result.{result_unwrap_or};
 use crate::command_lines::{asks_clap, read_event};
 use crate::fault::LineError;
 use crate::script::is_setting;
-use crate::words::{Word, words_of};
+use crate::words::{Word, few_words, put_words, words_of};
 use bstr::ByteSlice;
 use kob_acl_cli::CliArgs;
 use kob_names::Bytes;
@@ -148,15 +148,39 @@ impl Requests {
         ensures same { OnErr result ((asked.new.items ≡ [])
             × (answers.new.items ≡ answers.old.items)) }
     {
+        let mut few = few_words();
+        if let Some(count) = put_words(&mut few, line) {
+            return Requests::read_cut(alloc, next, &few[..count], answers, asked);
+        }
         let words = match words_of(alloc, line) {
             Ok(words) => words,
             Err(LineError::Memory(error)) => return Err(error),
             Err(LineError::Fault(_)) => unreachable!(),
         };
-        if !asks_clap(&words) {
-            return Requests::read_words(alloc, next, &words, answers, asked);
+        Requests::read_cut(alloc, next, &words, answers, asked)
+    }
+
+    // The same for a line that was cut into words.
+    fn read_cut(
+        alloc: Global,
+        next: &mut Option<Event>,
+        words: &[Word<'_>],
+        answers: &mut VecDeque<Option<CliArgs>>,
+        asked: &mut VecDeque<Event>,
+    ) -> Result<bool, AllocError>
+        requires none { asked.old.items ≡ [] }
+        requires checked { IsOk (requests_of (slice_index_or answers.old.items 0 None) words.now) }
+        ensures asked { IfOk result (λ read. IfOk
+            (requests_of (slice_index_or answers.old.items 0 None) words.now)
+            (AreRead read next.new asked.new.items)) }
+        ensures used { OnOk result (answers.new.items ≡ answers_after words.now answers.old.items) }
+        ensures same { OnErr result ((asked.new.items ≡ [])
+            × (answers.new.items ≡ answers.old.items)) }
+    {
+        if !asks_clap(words) {
+            return Requests::read_words(alloc, next, words, answers, asked);
         }
-        let read = Requests::read_words(alloc, next, &words, answers, asked)?;
+        let read = Requests::read_words(alloc, next, words, answers, asked)?;
         answers.pop_front();
         Ok(read)
     }

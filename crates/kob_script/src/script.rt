@@ -17,7 +17,7 @@ use crate::command_lines::{answer_to, asks_clap, count_of};
 use crate::fault::{Fault, FaultKind, LineError, ScriptError};
 use crate::requests::Requests;
 use crate::values::named_principal;
-use crate::words::{Word, words_of};
+use crate::words::{Word, few_words, put_words, words_of};
 use bstr::ByteSlice;
 use kob_acl_cli::CliArgs;
 use kob_names::{Bytes, Items, Principal, Settings, sum_of};
@@ -139,11 +139,30 @@ fn check_line(
         → ChecksLine (script_so_far checking.old events) line.now checking.new
         answers.old.items answers.new.items result }
 {
+    let mut few = few_words();
+    if let Some(count) = put_words(&mut few, line) {
+        return check_cut(alloc, checking, answers, &few[..count]);
+    }
     let words = words_of(alloc, line)?;
-    if asks_clap(&words) {
-        check_answered(alloc, checking, answers, &words)
+    check_cut(alloc, checking, answers, &words)
+}
+
+// Checks a line that was cut into words.
+fn check_cut(
+    alloc: Global,
+    checking: &mut Checking,
+    answers: &mut Vec<Option<CliArgs>>,
+    words: &[Word<'_>],
+) -> Result<(), LineError>
+    ensures { (line : List ℕ) (events : List event.Event) → words_of line ≡ Ok words.now
+        → checking.old.requests ≡ length events
+        → ChecksLine (script_so_far checking.old events) line checking.new
+        answers.old.items answers.new.items result }
+{
+    if asks_clap(words) {
+        check_answered(alloc, checking, answers, words)
     } else {
-        check_words(alloc, checking, &words, None)
+        check_words(alloc, checking, words, None)
     }
 }
 

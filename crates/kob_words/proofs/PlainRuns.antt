@@ -1,6 +1,7 @@
 -- A text begins with the bytes that stand for themselves, and these are ASCII.
-use Rattle.std.proofs.Common.{◌≡◌, ◌∙◌, ◌+◌, ◌/◌, ◌%◌, ℕ, Bool, true, false, cond, List, [], ◌∷◌, ◌++◌, suc, take, drop, sym, ap, refl, append_assoc, append-nil, arith, subst, if◌then◌else◌}
+use Rattle.std.proofs.Common.{◌≡◌, ◌∙◌, ◌+◌, ◌/◌, ◌%◌, ℕ, Bool, true, false, cond, List, length, [], ◌∷◌, ◌++◌, suc, take, drop, sym, ap, refl, append_assoc, append-nil, arith, subst, if◌then◌else◌}
 use Rattle.std.specs.Char.{digit_char}
+use Rattle.std.specs.List.{list_all}
 use Rattle.std.specs.Str.{IsAscii}
 use Rattle.std.proofs.lemmas.Bool.Decides.{nat_tests}
 use Rattle.std.proofs.lemmas.Str.{IsAscii-append}
@@ -77,3 +78,8 @@ module _ (bytes rest plain others : List ℕ) (split : bytes_text rest ≡ plain
       (subst IsAscii (sym (split ∙ ap (λ o. plain ++ bytes_text o) next))
       (IsAscii-append plain (byte_text byte ++ bytes_text after) front
       (IsAscii-append (byte_text byte) (bytes_text after) here more)))
+
+-- the plain front of plain bytes is all of them
+pub all_plain : (bytes : List ℕ) → list_all is_plain bytes ≡ true → length bytes ≡ plain_length bytes
+all_plain [] plain = refl
+all_plain (byte ∷ bytes) plain = grind (arith, nat_tests, all_plain bytes)

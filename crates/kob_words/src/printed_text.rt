@@ -3,6 +3,7 @@
 ghost use Rattle.std.specs.Prelude.{◌≡◌, ◌<◌, ◌≤◌, ◌++◌, length, take, OnErr, OnOk};
 ghost use Rattle.std.specs.Char.{digit_char};
 ghost use Rattle.std.specs.Fmt.{decimal};
+ghost use Rattle.std.specs.List.{list_all};
 ghost use Rattle.std.specs.Str.{IsAscii};
 ghost use Rattle.kob_words.specs.Words.{IsKept, is_plain, byte_text, bytes_text, plain_length};
 
@@ -60,7 +61,22 @@ fn plain_length(bytes: &[u8]) -> usize
     ensures length { result ≡ plain_length bytes.now }
     ensures within { result ≤ length bytes.now }
 {
+    if are_plain(bytes) {
+        return bytes.len();
+    }
     bytes.iter().take_while(|byte| is_plain(**byte)).count()
+}
+
+/// Whether all bytes are printed as they are.
+fn are_plain(bytes: &[u8]) -> bool
+    ensures { result ≡ list_all is_plain bytes.now }
+{
+    // No early exit, so that the loop tests many bytes at a time.
+    let mut plain = true;
+    for byte in bytes {
+        plain &= is_plain(*byte);
+    }
+    plain
 }
 
 #[tactic(auto, using(crate::proofs::Appending::kept))]
@@ -82,7 +98,7 @@ fn push_byte(out: &mut Vec<u8>, byte: u8) -> Result<(), AllocError>
 fn is_plain(byte: u8) -> bool
     ensures { result ≡ is_plain byte }
 {
-    0x21 <= byte && byte <= 0x7e && byte != b'%' && byte != b'='
+    (0x21 <= byte) & (byte <= 0x7e) & (byte != b'%') & (byte != b'=')
 }
 
 fn hex_digit(digit: u8) -> u8

@@ -1,5 +1,5 @@
-use Rattle.kob_script.proofs.Imports.{err_from_is_err_and, rules, script_so_far}
-use Rattle.kob_script.proofs.CheckedLines.{line_fails, unasked_checked}
+use Rattle.kob_script.proofs.Imports.{err_from_is_err_and, script_so_far}
+use Rattle.kob_script.proofs.CheckedLines.{line_fails}
 use Rattle.kob_script.proofs.script.check_line.Goals as goal
 
 pub returns-in_err-words : goal.returns-in_err-words
@@ -9,8 +9,5 @@ returns-in_err-words c = λ events counts.
     (line_fails (script_so_far c.args.checking.now events) c.args.line.now c.args.checking.now c.args.answers.now.items
     c.args.answers.now.items _ c.in_err-words.ensures.gives c.in_err-words.ensures.memory)
 
-pub returns : goal.returns
-returns c = λ events counts.
-    unasked_checked (script_so_far c.args.checking.now events) c.args.line.now c.check_words.new.checking
-    c.args.answers.now.items c.args.answers.now.items c.check_words.result c.in_ok-words.words.items c.in_ok-words.ensures.gives
-    (search rules) (rw c.deref-else-asks_clap.ensures.value at (c.check_words.ensures.next events counts)) (λ i. c.args.answers.now.items)
+pub returns-in-Some : goal.returns-in-Some
+returns-in-Some c = λ events counts. c.check_cut.ensures c.args.line.now events c.in-Some.ensures.put counts
