@@ -8,7 +8,7 @@ use Rattle.kob_delivery_check.specs.Logs.{Log, is_on, number_of}
 use Rattle.kob_delivery_check.specs.Sent.{is_number, sent_at}
 use Rattle.kob_delivery_check.specs.declared.cause.Cause.{Cause}
 use Rattle.kob_delivery_check.specs.declared.cause.Cause.TheVariants.{Unknown, Unsent, Unread, OutOfReach, KeptOut}
-use Rattle.kob_delivery_check.specs.declared.cause.Loss.{Loss}
+use Rattle.kob_delivery_check.specs.declared.cause.LostEvent.{LostEvent}
 use Rattle.kob_delivery_check.specs.declared.fate.Fate.{Fate}
 use Rattle.kob_inbox.specs.declared.fetcher.Subscription.{Subscription}
 use Rattle.kob_inbox.specs.declared.inbox_row.InboxRow.{InboxRow}
@@ -102,7 +102,8 @@ cause_beside reader journal event None = cause_of reader journal event
 abbrev pub row_with : ℕ → List InboxRow → Option InboxRow
 row_with id rows = find (λ row. number_of row.id == id) rows
 
-abbrev pub loss_by : Subscription → List InboxRow → List Entry → ℕ → Option OutboxEvent → List Loss
+abbrev pub loss_by : Subscription → List InboxRow → List Entry → ℕ → Option OutboxEvent
+    → List LostEvent
 loss_by reader rows journal place None = []
 loss_by reader rows journal place (Some event) =
     record {
@@ -110,12 +111,13 @@ loss_by reader rows journal place (Some event) =
       cause = cause_beside reader journal (number_of event.id) (row_with (number_of event.id) rows);
     } ∷ []
 
-abbrev pub loss_at : Subscription → List InboxRow → List Entry → List OutboxEvent → ℕ × Fate → List Loss
+abbrev pub loss_at : Subscription → List InboxRow → List Entry → List OutboxEvent → ℕ × Fate
+    → List LostEvent
 loss_at reader rows journal events (place, fate) =
     if is_lost fate then loss_by reader rows journal place (slice_get events place) else []
 
 -- the events that are lost to a consumer whose inbox has these rows, each with its cause
 abbrev pub losses_by : Subscription → List InboxRow → List Entry → List OutboxEvent → List Fate
-    → List Loss
+    → List LostEvent
 losses_by reader rows journal events fates =
     flat_map (λ x. loss_at reader rows journal events x) (enumerate_from 0 fates)

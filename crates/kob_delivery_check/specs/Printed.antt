@@ -8,7 +8,7 @@ use Rattle.kob_delivery_check.specs.PrintedOrder.{record_lines, row_lines}
 use Rattle.kob_delivery_check.specs.PrintedPieces.{counted, event_text, place_text}
 use Rattle.kob_delivery_check.specs.PrintedRecords.{doubled_lines, lost_lines}
 use Rattle.kob_delivery_check.specs.Unrecorded.{unrecorded_lines}
-use Rattle.kob_delivery_check.specs.declared.cause.Loss.{Loss}
+use Rattle.kob_delivery_check.specs.declared.cause.LostEvent.{LostEvent}
 use Rattle.kob_delivery_check.specs.declared.printed.Found.{Found}
 use Rattle.kob_delivery_check.specs.declared.fate.Fate.{Fate}
 use Rattle.kob_delivery_check.specs.declared.fate.Fate.TheVariants.{Delivered, Ahead, Outbox, Lost}
@@ -49,7 +49,8 @@ head_text number fates unrecorded =
     ++ codes " lost" ++ counted (count_by is_lost fates + length unrecorded) ++ codes "\n"
 
 -- a line for each event that is lost, and then for each that was never recorded
-unfoldable pub missing_lines : List Entry → List Place → List OutboxEvent → List OutboxEvent → List Loss
+unfoldable pub missing_lines : List Entry → List Place → List OutboxEvent → List OutboxEvent
+    → List LostEvent
     → List ℕ
 missing_lines journal assignment events unrecorded losses =
     lost_lines journal assignment events losses ++ unrecorded_lines unrecorded

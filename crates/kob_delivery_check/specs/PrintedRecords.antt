@@ -6,7 +6,7 @@ use Rattle.kob_delivery_check.specs.PrintedPieces.{counted, event_text, place_te
 use Rattle.kob_delivery_check.specs.Sent.{put_at, sent_at}
 use Rattle.kob_delivery_check.specs.declared.cause.Cause.{Cause}
 use Rattle.kob_delivery_check.specs.declared.cause.Cause.TheVariants.{Unknown, Unsent, Unread, OutOfReach, KeptOut}
-use Rattle.kob_delivery_check.specs.declared.cause.Loss.{Loss}
+use Rattle.kob_delivery_check.specs.declared.cause.LostEvent.{LostEvent}
 use Rattle.kob_delivery_check.specs.declared.reach.Stored.{Stored}
 use Rattle.kob_names.specs.declared.batch.Idem.{Idem}
 use Rattle.kob_outbox.specs.declared.event.OutboxEvent.{OutboxEvent}
@@ -67,18 +67,18 @@ cause_text journal assignment (OutOfReach assigned offset by) =
 cause_text journal assignment (KeptOut row) = codes ", the inbox has its id at" ++ counted row
 
 -- the line of an event that is lost
-abbrev pub lost_line : List Entry → List Place → Loss → Option OutboxEvent → List ℕ
+abbrev pub lost_line : List Entry → List Place → LostEvent → Option OutboxEvent → List ℕ
 lost_line journal assignment loss None = []
 lost_line journal assignment loss (Some event) =
     codes "lost" ++ event_text (one_more loss.event) event
     ++ cause_text journal assignment loss.cause ++ codes "\n"
 
-abbrev pub lost_item : List Entry → List Place → List OutboxEvent → Loss → List ℕ
+abbrev pub lost_item : List Entry → List Place → List OutboxEvent → LostEvent → List ℕ
 lost_item journal assignment events loss =
     lost_line journal assignment loss (slice_get events loss.event)
 
 -- a line for each event that is lost
-abbrev pub lost_lines : List Entry → List Place → List OutboxEvent → List Loss → List ℕ
+abbrev pub lost_lines : List Entry → List Place → List OutboxEvent → List LostEvent → List ℕ
 lost_lines journal assignment events losses =
     flat_map (λ loss. lost_item journal assignment events loss) losses
 

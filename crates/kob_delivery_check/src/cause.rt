@@ -50,7 +50,7 @@ pub enum Cause {
 
 /// A lost event, by its place among the events that the service recorded, from 0, and its cause.
 #[derive(Clone, Copy, Debug)]
-pub struct Loss {
+pub struct LostEvent {
     pub event: usize,
     pub cause: Cause,
 }
@@ -64,7 +64,7 @@ pub fn losses_of(
     journal: &Journal,
     events: &[&OutboxEvent],
     fates: &[Fate],
-) -> Result<Vec<Loss>, AllocError>
+) -> Result<Vec<LostEvent>, AllocError>
     ensures { IfOk result (λ losses. losses.items ≡ losses_by reader.now rows.now journal.now
         (map (λ event. event.now) events.now) fates.now) }
 {
@@ -86,7 +86,7 @@ pub fn losses_of(
 
 fn push_loss(
     alloc: Global,
-    losses: &mut Vec<Loss>,
+    losses: &mut Vec<LostEvent>,
     reader: &Subscription,
     rows: &[InboxRow],
     journal: &Journal,
@@ -114,7 +114,7 @@ fn push_loss(
 
 fn push_lost(
     alloc: Global,
-    losses: &mut Vec<Loss>,
+    losses: &mut Vec<LostEvent>,
     reader: &Subscription,
     rows: &[InboxRow],
     journal: &Journal,
@@ -129,7 +129,7 @@ fn push_lost(
     };
     let id = event.id.as_u128();
     let cause = cause_beside(alloc, reader, journal, id, row_with(id, rows))?;
-    losses.push(Loss {
+    losses.push(LostEvent {
         event: place,
         cause,
     })?;

@@ -25,7 +25,7 @@ mod unread;
 mod unrecorded;
 
 pub use altered::altered_row;
-pub use cause::{Cause, Loss, losses_of};
+pub use cause::{Cause, LostEvent, losses_of};
 pub use come::{Arrival, count_taken};
 pub use fate::Fate;
 pub use fates::fates_of;

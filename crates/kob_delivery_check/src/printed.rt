@@ -7,7 +7,7 @@ ghost use Rattle.kob_delivery_check.specs.Fates.{is_delivered, is_lost, is_waiti
 ghost use Rattle.kob_delivery_check.specs.Printed.{check_text, head_text, missing_lines, waits_at};
 ghost use Rattle.kob_delivery_check.specs.Printed.{waits_line, waits_text, where_text};
 
-use crate::cause::{Loss, event_at};
+use crate::cause::{LostEvent, event_at};
 use crate::come::count_of;
 use crate::fate::Fate;
 use crate::order::Early;
@@ -143,7 +143,7 @@ fn push_missing(
     assignment: &[Place],
     events: &[&OutboxEvent],
     unrecorded: &[&OutboxEvent],
-    losses: &[Loss],
+    losses: &[LostEvent],
 ) -> Result<(), AllocError>
     ensures { OnOk result (out.new.items ≡ out.old.items
         ++ missing_lines journal.now assignment.now (map (λ event. event.now) events.now)
@@ -160,7 +160,7 @@ fn push_missing(
 #[derive(Drop)]
 pub struct Found {
     pub fates: Vec<Fate>,
-    pub losses: Vec<Loss>,
+    pub losses: Vec<LostEvent>,
     pub repeats: Vec<Stored>,
     pub doubled_rows: Vec<DoubledRow>,
     pub early_rows: Vec<Early>,

@@ -12,7 +12,7 @@ ghost use Rattle.kob_delivery_check.specs.PrintedRecords.{producer_of, producer_
 ghost use Rattle.kob_delivery_check.specs.PrintedRecords.{sender_text, senders_text, unread_at};
 ghost use Rattle.kob_delivery_check.specs.PrintedRecords.{unread_text};
 
-use crate::cause::{Cause, Loss, event_at};
+use crate::cause::{Cause, LostEvent, event_at};
 use crate::printed_pieces::{push_assigned, push_counted, push_event, push_spaced};
 use crate::reach::{Stored, record_at};
 use crate::sent::{put_at, sent_at};
@@ -149,7 +149,7 @@ fn push_lost(
     out: &mut Vec<u8>,
     journal: &Journal,
     assignment: &[Place],
-    loss: Loss,
+    loss: LostEvent,
     event: Option<&OutboxEvent>,
 ) -> Result<(), AllocError>
     ensures { OnOk result (out.new.items ≡ out.old.items
@@ -170,7 +170,7 @@ pub(crate) fn push_losses(
     journal: &Journal,
     assignment: &[Place],
     events: &[&OutboxEvent],
-    losses: &[Loss],
+    losses: &[LostEvent],
 ) -> Result<(), AllocError>
     ensures { OnOk result (out.new.items ≡ out.old.items ++ lost_lines journal.now
         assignment.now (map (λ event. event.now) events.now) losses.now) }
@@ -182,7 +182,7 @@ pub(crate) fn push_losses(
     Ok(())
 }
 
-fn loss_at(losses: &[Loss], place: usize) -> Loss
+fn loss_at(losses: &[LostEvent], place: usize) -> LostEvent
     requires { place < length losses.now }
     ensures { slice_get losses.now place ≡ Some result }
 {

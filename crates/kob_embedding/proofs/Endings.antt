@@ -4,21 +4,21 @@ use Rattle.std.proofs.Common.{inl, inr}
 use Rattle.std.proofs.lemmas.List.{length-map}
 use Rattle.std.specs.List.{AllByRecursion}
 use Rattle.std.specs.Prelude.{IfErr, IsSome, MatchOption, slice_get}
-use Rattle.kob_embedding.specs.Running.{AreSteps, AreTries, EndsSending, Moment, SendsFor, TriesFor, sending_after}
+use Rattle.kob_embedding.specs.Running.{AreTicks, AreTries, EndsSending, IsTickBetween, Moment, SendsFor, TriesFor, sending_after}
 use Rattle.kob_lines.specs.declared.program_fault.ProgramFault.{ProgramFault}
 use Rattle.kob_lines.specs.declared.program_fault.ProgramFault.TheVariants as program
 use Rattle.kob_outbox.specs.Contents.{Contents, Event, first_after, later_than, stored_row}
 use Rattle.kob_outbox.specs.declared.event.Row.{Row}
 use Rattle.kob_router.specs.Run.{Dispatching, Move, State, next_row}
 use Rattle.kob_router.specs.Tick.{IsReport}
-use Rattle.kob_router.specs.declared.tick.StopReason.TheVariants.{BadTopic, Denied, Memory, Refused, Store}
+use Rattle.kob_router.specs.declared.tick.StopReason.TheVariants.{BadTopic, Memory, Rejected, Store}
 use Rattle.kob_router.specs.declared.tick.Tick as sent
 use Rattle.kob_router.specs.declared.tick.Tick.TheVariants.{Idle, Moved, Repeat, Stopped}
 
 -- so many ticks were made, after each of which the work goes on
 pub record Sending (count : ℕ) (before now : Moment) : Type 0 where
   pub ticks : List sent.Tick
-  pub made : AreSteps ticks before now
+  pub made : AreTicks IsTickBetween ticks before now
   pub on : AllByRecursion (λ one. sending_after one ≡ None) ticks
   pub many : length ticks ≡ count
 
@@ -95,8 +95,7 @@ none_after : (route : Dispatching) (tick : sent.Tick) (moves : List Move) (now :
 none_after route Idle moves now unmade then_unmade report = let (introduced, none, counted) = report in none
 none_after route (Moved seq) moves now unmade then_unmade report = tt
 none_after route Repeat moves now unmade then_unmade report = tt
-none_after route (Stopped (Denied code verdicts)) moves now unmade then_unmade report = tt
-none_after route (Stopped (Refused code reason)) moves now unmade then_unmade report = tt
+none_after route (Stopped (Rejected reply)) moves now unmade then_unmade report = tt
 none_after route (Stopped BadTopic) moves now unmade then_unmade report = tt
 none_after route (Stopped (Memory refused)) moves now unmade then_unmade report = tt
 none_after route (Stopped Store) moves now unmade then_unmade report = tt

@@ -1,6 +1,6 @@
 -- What becomes of the runs of a service and of a consumer.
 use Rattle.kob_embedding.proofs.Words.{Call, Change, Err, Event, Fetcher, HasConsumerRun, HasRun, HasServiceRun, IsReaderRun, IsSenderRun, IsTick, List, None, Ok, OnErr, OnOk, OutboxEvent, RecordFault, RecordsNoRow, Relayed, Restarted, Result, Subscription, Target, Tick, [], after_record, ap, arith, dispatch_of, empty, false, first_bad, id_text, is_recorded, nat_tests, next_seq, records, point_of, stored_event, subst, sym, ticks, ℕ, ◌++◌, ◌<◌, ◌^◌, ◌∙◌, ◌∷◌, ◌≡◌}
-use Rattle.kob_embedding.specs.Running.{IsSomeStep, OfSomeService}
+use Rattle.kob_embedding.specs.Running.{IsSomeTick, OfSomeService, at}
 use Rattle.std.specs.Prelude.{IfOk}
 use Rattle.kob_router.specs.Run.{calls_of}
 use Rattle.kob_router.specs.Tick.{state_of}
@@ -94,17 +94,13 @@ ticked_after earlier old new calls then_calls unmade then_unmade tick is =
     ticked old new (earlier ++ calls) (earlier ++ then_calls) unmade then_unmade tick
     (tick_after earlier old new calls then_calls unmade then_unmade tick is)
 
--- some service made the step
-pub some_step : (earlier : List Call) (before now : Relayed) (calls then_calls : List Call)
+-- some service made the tick
+pub some_tick : (earlier : List Call) (before now : Relayed) (calls then_calls : List Call)
     (unmade then_unmade : ℕ) (tick : Tick) → HasRun before (earlier ++ calls)
-    → IsTick before now calls then_calls unmade then_unmade tick → IsSomeStep tick
-some_step earlier before now calls then_calls unmade then_unmade tick ran made = record {
-  before = before;
-  now = now;
-  calls = earlier ++ calls;
-  then_calls = earlier ++ then_calls;
-  unmade = unmade;
-  then_unmade = then_unmade;
+    → IsTick before now calls then_calls unmade then_unmade tick → IsSomeTick tick
+some_tick earlier before now calls then_calls unmade then_unmade tick ran made = record {
+  before = at before (earlier ++ calls) unmade;
+  now = at now (earlier ++ then_calls) then_unmade;
   ran = ran;
   made = tick_after earlier before now calls then_calls unmade then_unmade tick made;
 }

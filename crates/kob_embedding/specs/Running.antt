@@ -1,5 +1,5 @@
 -- A service and a consumer since they began.
-use Rattle.std.specs.Prelude.{ℕ, List, [], ◌∷◌, ◌++◌, ◌+◌, ◌≡◌, ◌<◌, ◌≤◌, length, take, Option, Some, None, Result, Ok, Err, ◌⊎◌, suc}
+use Rattle.std.specs.Prelude.{ℕ, List, [], ◌∷◌, ◌++◌, ◌+◌, ◌≡◌, ◌<◌, ◌≤◌, length, take, Option, Some, None, Result, Ok, Err, ◌⊎◌, suc, alloc_error}
 use Rattle.std.specs.List.{AllByRecursion}
 use Rattle.kob_inbox.specs.Contents.{Contents}
 use Rattle.kob_inbox.specs.declared.fetcher.Fetcher.{Fetcher}
@@ -18,8 +18,6 @@ use Rattle.kob_inbox.specs.Tick.{Point, Ticks}
 use Rattle.kob_inbox.specs.declared.fetcher.Subscription.{Subscription}
 use Rattle.kob_inbox.specs.declared.tick.Tick.{Tick}
 use Rattle.kob_inbox.specs.declared.tick.Tick.TheVariants as took
-use Rattle.kob_inbox.specs.declared.tick.StopReason.{StopReason}
-use Rattle.kob_inbox.specs.declared.tick.StopReason.TheVariants as untaken
 use Rattle.kob_rights.specs.declared.code.Code.{Code}
 use Rattle.kob_rights.specs.declared.code.Code.TheVariants.{OffsetOutOfRange}
 use Rattle.kob_delivery.specs.Served.{served_to}
@@ -28,7 +26,9 @@ use Rattle.kob_router.specs.Line.{AreServed, Served}
 use Rattle.kob_router.specs.Tick as router
 use Rattle.kob_router.specs.declared.tick.Tick as router_tick
 use Rattle.kob_router.specs.declared.tick.Tick.TheVariants as sent
-use Rattle.kob_router.specs.declared.tick.StopReason.TheVariants as unsent
+use Rattle.kob_router.specs.declared.tick.StopReason.{StopReason}
+use Rattle.kob_router.specs.declared.tick.StopReason.TheVariants as stops
+use Rattle.kob_rights.specs.declared.reply.Reply.TheVariants.{Refused}
 
 -- a service: its outbox with its router, the calls of the lines that it handed out, and its line
 pub record Service (L : Type 0) : Type 0 where
@@ -63,11 +63,10 @@ abbrev pub sending_after : router_tick.Tick → Option (Result (Unit {0}) Progra
 sending_after sent.Idle = Some (Ok tt)
 sending_after (sent.Moved seq) = None
 sending_after sent.Repeat = None
-sending_after (sent.Stopped (unsent.Denied code verdicts)) = None
-sending_after (sent.Stopped (unsent.Refused code reason)) = None
-sending_after (sent.Stopped unsent.BadTopic) = Some (Err program.BadText)
-sending_after (sent.Stopped (unsent.Memory refused)) = Some (Err (program.Memory refused))
-sending_after (sent.Stopped unsent.Store) = Some (Err program.Store)
+sending_after (sent.Stopped (stops.Rejected reply)) = None
+sending_after (sent.Stopped stops.BadTopic) = Some (Err program.BadText)
+sending_after (sent.Stopped (stops.Memory refused)) = Some (Err (program.Memory refused))
+sending_after (sent.Stopped stops.Store) = Some (Err program.Store)
 
 -- a service and what its line tells, at one time
 pub record Moment : Type 0 where
@@ -78,12 +77,16 @@ pub record Moment : Type 0 where
 abbrev pub at : Relayed → List Call → ℕ → Moment
 at relayed calls unmade = record { relayed = relayed; calls = calls; unmade = unmade }
 
--- these ticks in a row led from one moment to another, the latest of them first
-abbrev pub AreSteps : List router_tick.Tick → Moment → Moment → Type 0
-AreSteps [] before now = before ≡ now
-AreSteps (tick ∷ ticks) before now =
-    (last : Moment) × AreSteps ticks before last
-    × IsTick last.relayed now.relayed last.calls now.calls last.unmade now.unmade tick
+-- a tick of a service led from one moment to another
+abbrev pub IsTickBetween : Moment → Moment → router_tick.Tick → Type 0
+IsTickBetween old new tick =
+    IsTick old.relayed new.relayed old.calls new.calls old.unmade new.unmade tick
+
+-- such ticks in a row led from one to another, the latest of them first
+abbrev pub AreTicks : {P T : Type 0} → (P → P → T → Type 0) → List T → P → P → Type 0
+AreTicks Ticks [] before now = before ≡ now
+AreTicks {P} Ticks (tick ∷ ticks) before now =
+    (last : P) × AreTicks Ticks ticks before last × Ticks last now tick
 
 -- these ticks, the latest first, are no more than may be made, and the work of sending all rows went
 -- on after all but the latest: only that one may have found no row
@@ -95,7 +98,7 @@ AreTries most (tick ∷ ticks) =
 -- some such ticks were made
 abbrev pub TriesFor : ℕ → Moment → Moment → Type 0
 TriesFor most before now =
-    (ticks : List router_tick.Tick) × AreSteps ticks before now × AreTries most ticks
+    (ticks : List router_tick.Tick) × AreTicks IsTickBetween ticks before now × AreTries most ticks
 
 -- the work ends with this fault after these ticks: the latest says so, or it is `Stopped` after as
 -- many as may be made
@@ -109,18 +112,15 @@ EndsSending most (tick ∷ ticks) fault =
 -- some such ticks were made
 abbrev pub SendsFor : ℕ → Moment → Moment → ProgramFault → Type 0
 SendsFor most before now fault =
-    (ticks : List router_tick.Tick) × AreSteps ticks before now × EndsSending most ticks fault
+    (ticks : List router_tick.Tick) × AreTicks IsTickBetween ticks before now
+    × EndsSending most ticks fault
 
--- some service that has run so far made this step
-pub record IsSomeStep (tick : router_tick.Tick) : Type 0 where
-  pub before : Relayed
-  pub now : Relayed
-  pub calls : List Call
-  pub then_calls : List Call
-  pub unmade : ℕ
-  pub then_unmade : ℕ
-  pub ran : HasRun before calls
-  pub made : IsTick before now calls then_calls unmade then_unmade tick
+-- some service that has run so far made this tick
+pub record IsSomeTick (tick : router_tick.Tick) : Type 0 where
+  pub before : Moment
+  pub now : Moment
+  pub ran : HasRun before.relayed before.calls
+  pub made : IsTickBetween before now tick
 
 -- this holds of some service that has run so far
 abbrev pub OfSomeService : (Relayed → Type 0) → Type 0
@@ -138,10 +138,10 @@ fault_of_code _ = None
 
 -- why the work of taking records in ends at a step that stopped, if it does
 abbrev pub fault_of_stop : StopReason → Option ProgramFault
-fault_of_stop (untaken.Denied code verdicts) = None
-fault_of_stop (untaken.Refused code reason) = fault_of_code code
-fault_of_stop (untaken.Memory refused) = Some (program.Memory refused)
-fault_of_stop untaken.Store = Some program.Store
+fault_of_stop (stops.Rejected (Refused code reason)) = fault_of_code code
+fault_of_stop (stops.Memory refused) = Some (program.Memory refused)
+fault_of_stop stops.Store = Some program.Store
+fault_of_stop _ = None
 
 -- why it ends at a tick, if it does
 abbrev pub taking_after : Tick → Option ProgramFault
@@ -152,11 +152,9 @@ taking_after took.Idle = None
 taking_after took.Repeat = None
 taking_after (took.Stopped reason) = fault_of_stop reason
 
--- these ticks in a row led from one point to another, the latest of them first
-abbrev pub AreTicks : Subscription → List Tick → Point → Point → Type 0
-AreTicks t [] before now = before ≡ now
-AreTicks t (tick ∷ ticks) before now =
-    (last : Point) × AreTicks t ticks before last × Ticks t last now tick
+-- a tick of a consumer whose inbox had fewer rows than so many
+abbrev pub TicksBelow : ℕ → Subscription → Point → Point → Tick → Type 0
+TicksBelow rows t old new tick = (length old.state.inbox < rows) × Ticks t old new tick
 
 -- the work of taking records in went on after each of these ticks
 abbrev pub WentOn : List Tick → Type 0
@@ -170,6 +168,16 @@ EndsTaking most (tick ∷ ticks) fault =
     WentOn ticks × (length (tick ∷ ticks) ≤ most)
     × ((taking_after tick ≡ Some fault)
     ⊎ ((taking_after tick ≡ None) × (length (tick ∷ ticks) ≡ most) × (fault ≡ program.Stopped)))
+
+-- The work of taking so many rows in ends so after these ticks, the latest first, when so many are
+-- there: well only if they are enough. Otherwise it is out of memory to read them, or the latest tick
+-- says the fault, or it is `Stopped` after as many as may be made, and they are not enough.
+abbrev pub EndsTakingRows : ℕ → ℕ → List Tick → ℕ → Result (Unit {0}) ProgramFault → Type 0
+EndsTakingRows rows most ticks there (Ok done) =
+    (rows ≤ there) × WentOn ticks × (length ticks ≤ most)
+EndsTakingRows rows most ticks there (Err fault) =
+    ((fault ≡ program.Memory alloc_error) × WentOn ticks × (length ticks ≤ most))
+    ⊎ (EndsTaking most ticks fault × (WentOn ticks → there < rows))
 
 -- how many ticks in a row found no record, after one more
 abbrev pub idle_after : Tick → ℕ → ℕ

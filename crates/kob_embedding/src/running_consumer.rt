@@ -2,9 +2,9 @@
 
 ghost use Rattle.std.specs.Prelude.{◌≡◌, ◌<◌, ◌≤◌, ◌^◌, ◌-◌, ◌↔◌, ◌⊎◌, ◌++◌, [], List, length, map};
 ghost use Rattle.std.specs.Prelude.{IfErr, IfOk, IsErrOf, IsTrue, OnErr, OnOk, None, Some, max};
-ghost use Rattle.std.specs.Prelude.{alloc_error};
-ghost use Rattle.kob_embedding.specs.Running.{AreTicks, EndsTaking, EndsTakingAll, fault_of_code};
-ghost use Rattle.kob_embedding.specs.Running.{idle_after, taking_after};
+ghost use Rattle.std.specs.Prelude.{alloc_error, false, ℕ};
+ghost use Rattle.kob_embedding.specs.Running.{AreTicks, EndsTakingAll, EndsTakingRows, TicksBelow};
+ghost use Rattle.kob_embedding.specs.Running.{fault_of_code, idle_after, taking_after};
 ghost use Rattle.std.specs.List.{enumerate_from};
 ghost use Rattle.kob_inbox.specs.Contents.{placed_intake};
 ghost use Rattle.kob_inbox.specs.Run.Move.{Restarted};
@@ -14,10 +14,10 @@ ghost use Rattle.kob_inbox.specs.Tick.{Ticks, point_of, state_of};
 use crate::consumer_end::ConsumerEnd;
 use crate::part::{Part, joined};
 use crate::past_calls::PastCalls;
-use kob_inbox::{Inbox, InboxFault, InboxRow, StopReason, Subscription, Tick};
+use kob_inbox::{Inbox, InboxFault, InboxRow, Subscription, Tick};
 use kob_lines::{IntoCalls, Loss, Lossy, ProgramFault, Receiver, a_consumer_run_goes_on};
-use kob_rights::Code;
-use kob_router::{Call, Line};
+use kob_rights::{Code, Reply};
+use kob_router::{Call, Line, StopReason};
 use std::alloc::{AllocError, Global};
 use std::marker::Model;
 use std::{mem, thread};
@@ -103,7 +103,7 @@ impl<L: Line> RunningConsumer<L> {
     pub fn take_all(&mut self, alloc: Global, most: u32) -> Result<(), ProgramFault>
         ensures same { self.new.fetcher.subscription ≡ self.old.fetcher.subscription }
         ensures ticks { (ticks : List Tick)
-            × AreTicks self.old.fetcher.subscription ticks
+            × AreTicks (Ticks self.old.fetcher.subscription) ticks
             (point_of self.old.fetcher self.old.inbox
             (L.calls self.old.line) (L.unmade self.old.line))
             (point_of self.new.fetcher self.new.inbox
@@ -155,20 +155,20 @@ impl<L: Line> RunningConsumer<L> {
         }
     }
 
-    /// Ticks until the inbox has `count` rows or more, at most `most` times; not at all if it has
-    /// them already. The errors are those of `take_all`: after no tick it had as many.
+    /// Ticks while the inbox has fewer than `count` rows, at most `most` times; not at all if it has
+    /// them already. The errors are those of `take_all`, and `Memory` also where the rows of the inbox
+    /// could not be read. After `Stopped` it has fewer than `count` rows.
     pub fn take_rows(&mut self, alloc: Global, count: usize, most: u32) -> Result<(), ProgramFault>
         ensures taken { OnOk result (count ≤ length self.new.inbox) }
         ensures there { count ≤ length self.old.inbox → OnOk result (self.new ≡ self.old) }
         ensures same { self.new.fetcher.subscription ≡ self.old.fetcher.subscription }
-        ensures ends { IfErr result (λ fault. (fault ≡ ProgramFault.Memory alloc_error)
-            ⊎ ((ticks : List Tick)
-            × AreTicks self.old.fetcher.subscription ticks
+        ensures ticks { (ticks : List Tick)
+            × AreTicks (TicksBelow count self.old.fetcher.subscription) ticks
             (point_of self.old.fetcher self.old.inbox
             (L.calls self.old.line) (L.unmade self.old.line))
             (point_of self.new.fetcher self.new.inbox
             (L.calls self.new.line) (L.unmade self.new.line))
-            × EndsTaking most ticks fault)) }
+            × EndsTakingRows count most ticks (length self.new.inbox) result }
         ensures earlier { self.new.earlier ≡ self.old.earlier }
         ensures line { L.becomes self.old.line self.new.line }
     {
@@ -188,6 +188,8 @@ impl<L: Line> RunningConsumer<L> {
     /// Whether the inbox has `count` rows or more after a step that took records in.
     fn has_rows(&mut self, tick: Tick, count: usize) -> Result<bool, ProgramFault>
         ensures taken { IfOk result (λ has. IsTrue has → count ≤ length self.old.inbox) }
+        ensures few { IfOk result (λ has. has ≡ false → (records : ℕ) → tick ≡ Tick.Took records
+            → length self.old.inbox < count) }
         ensures memory { IfErr result (λ fault. fault ≡ ProgramFault.Memory alloc_error) }
         ensures same { self.new ≡ self.old }
     {
@@ -268,7 +270,7 @@ fn fault_of(tick: &Tick) -> Option<ProgramFault>
     ensures { result ≡ taking_after tick.now }
 {
     match tick {
-        Tick::Stopped(StopReason::Refused { code, .. }) => fault_of_code(*code),
+        Tick::Stopped(StopReason::Rejected(Reply::Refused { code, .. })) => fault_of_code(*code),
         Tick::Stopped(StopReason::Memory(refused)) => Some(ProgramFault::Memory(*refused)),
         Tick::Stopped(StopReason::Store) => Some(ProgramFault::Store),
         _ => None,

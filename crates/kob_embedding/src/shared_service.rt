@@ -3,7 +3,7 @@
 ghost use Rattle.std.specs.Prelude.{◌≡◌, ◌<◌, ◌≤◌, ◌^◌, ◌↔◌, ◌⊎◌, ◌++◌, [], Some, None, IfOk, OnOk};
 ghost use Rattle.std.specs.Prelude.{IfErr, IsErrOf, OnErr, alloc_error, length, map, option_map};
 ghost use Rattle.std.specs.Prelude.{string_bytes};
-ghost use Rattle.kob_embedding.specs.Running.{IsSomeStep, OfSomeService};
+ghost use Rattle.kob_embedding.specs.Running.{IsSomeTick, OfSomeService};
 ghost use Rattle.kob_outbox.specs.Contents.{first_after, first_bad, state_at, stored_row, up_to};
 
 use crate::running_service::RunningService;
@@ -77,7 +77,7 @@ impl<L: Line> SharedService<L> {
 
     /// One step of the router under the lock, as [`RunningService::tick`] makes it.
     pub fn tick<R: Wait>(&self, rt: &R, alloc: Global) -> Tick
-        ensures { IsSomeStep result }
+        ensures { IsSomeTick result }
     {
         let mut held = self.held.lock(rt);
         held.service.tick(alloc)

@@ -4,7 +4,7 @@ use Rattle.kob_inbox.specs.Run.{State}
 use Rattle.kob_router.specs.declared.line.Delivery.TheVariants.{Delivered}
 use Rattle.kob_inbox.specs.Tick.{IsReport}
 use Rattle.kob_rights.specs.declared.reply.Body.TheVariants as bodies
-use Rattle.kob_inbox.specs.declared.tick.StopReason.TheVariants as stop
+use Rattle.kob_router.specs.declared.tick.StopReason.TheVariants as stop
 
 pub moved_new : (cs : List Cursor) (c : Cursor) → standing (cursor_of cs c.place) ≡ None
     → with_cursor cs c ≡ cs ++ c ∷ []
@@ -73,19 +73,13 @@ module _ {t : Subscription} {inbox : Contents} {cs ds : List Cursor} {turn : ℕ
   ticks_lost (inl made) = ticks_still None refl made.0 made.1 (inr (asked, refl))
   ticks_lost (inr unmade) = grind (arith, nat_tests, append-nil)
 
-  pub ticks_denied : {reply : Reply} (code : _) (verdicts : _) → reply ≡ Denied code verdicts
+  pub ticks_rejected : (reply : Reply) → ((body : Body) → reply ≡ Done body → ⊥)
       → Adds before now u v asked (Delivered reply)
       → Ticks t (point (state_with inbox ds turn) before u) (point (state_with inbox cs turn) now v)
-      (Stopped (stop.Denied code verdicts))
-  ticks_denied code verdicts is added =
-      let (made, noted) = rw is at added in ticks_still _ refl made noted (asked, refl)
-
-  pub ticks_refused : {reply : Reply} (code : _) (reason : _) → reply ≡ Refused code reason
-      → Adds before now u v asked (Delivered reply)
-      → Ticks t (point (state_with inbox ds turn) before u) (point (state_with inbox cs turn) now v)
-      (Stopped (stop.Refused code reason))
-  ticks_refused code reason is added =
-      let (made, noted) = rw is at added in ticks_still _ refl made noted (asked, refl)
+      (Stopped (stop.Rejected reply))
+  ticks_rejected (Denied code verdicts) other (made, noted) = ticks_still _ refl made noted (tt, (asked, refl))
+  ticks_rejected (Refused code reason) other (made, noted) = ticks_still _ refl made noted (tt, (asked, refl))
+  ticks_rejected (Done body) other added = absurd (other body refl)
 
   -- a body was heard
   pub ticks_heard : {new : State} {reply : Reply} (request : Request) (body : Body) {tick : Tick} → asked ≡ request

@@ -6,12 +6,13 @@ use Rattle.kob_rights.specs.declared.on_partitions.Fetch.{Fetch as FetchRequest}
 use Rattle.kob_rights.specs.declared.reply.Body.TheVariants as bodies
 use Rattle.kob_router.specs.Line.{one_more}
 use Rattle.kob_inbox.specs.declared.fetcher.Fetcher.{Fetcher}
-use Rattle.kob_inbox.specs.declared.tick.StopReason.{StopReason}
-use Rattle.kob_inbox.specs.declared.tick.StopReason.TheVariants as stop
+use Rattle.kob_router.specs.Tick.{IsRejection}
+use Rattle.kob_router.specs.declared.tick.StopReason.{StopReason}
+use Rattle.kob_router.specs.declared.tick.StopReason.TheVariants as stop
 use Rattle.kob_inbox.specs.declared.tick.Tick.{Tick}
 use Rattle.kob_inbox.specs.declared.tick.Tick.TheVariants.{Placed, Took, Committed, Idle, Repeat, Stopped}
 use Rattle.kob_inbox.specs.Contents.{Contents}
-use Rattle.kob_inbox.specs.Run.{Body, Call, Denied, Done, Fetch, OffsetCommit, OffsetFetch, Record, Refused, Reply, Request, Subscription, State, Move, IsConsumerRun, calls_of, after_answer, records_heard}
+use Rattle.kob_inbox.specs.Run.{Body, Call, Done, Fetch, OffsetCommit, OffsetFetch, Record, Reply, Request, Subscription, State, Move, IsConsumerRun, calls_of, after_answer, records_heard}
 use Rattle.kob_inbox.specs.Run.Move.{Called}
 
 -- a consumer with its inbox
@@ -46,10 +47,9 @@ IsCut moves =
 
 -- why a tick stopped
 abbrev pub IsReason : StopReason → List Move → Type 0
-IsReason (stop.Denied code verdicts) moves =
-    (request : Request) × IsCall moves request (Some (Denied code verdicts)) 0
-IsReason (stop.Refused code reason) moves =
-    (request : Request) × IsCall moves request (Some (Refused code reason)) 0
+IsReason (stop.Rejected reply) moves =
+    IsRejection reply × ((request : Request) × IsCall moves request (Some reply) 0)
+IsReason stop.BadTopic moves = ⊥
 IsReason (stop.Memory refused) moves = (moves ≡ []) ⊎ IsCut moves
 IsReason stop.Store moves = IsCut moves
 

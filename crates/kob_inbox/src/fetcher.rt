@@ -6,10 +6,10 @@ use crate::cursors::{Cursor, Standing, put, set, standing_of};
 use crate::fault::InboxFault;
 use crate::inbox::Inbox;
 use crate::intake::{Passed, take_all};
-use crate::tick::{StopReason, Tick};
+use crate::tick::Tick;
 use kob_names::{Items, PlainValue, Record, Text};
 use kob_rights::{Body, Fetch, OffsetCommit, OffsetFetch, Reply, Request};
-use kob_router::{Delivery, Line, Place};
+use kob_router::{Delivery, Line, Place, StopReason};
 use std::alloc::{AllocError, Global};
 
 /// What a consumer reads: for which group, which partitions, and how many records at most at once.
@@ -111,15 +111,12 @@ impl Fetcher {
             Ok(request) => request,
             Err(refused) => return Tick::Stopped(StopReason::Memory(refused)),
         };
-        match line.send(alloc, request) {
-            Delivery::Lost => Tick::Repeat,
-            Delivery::Delivered(Reply::Denied { code, verdicts }) => {
-                Tick::Stopped(StopReason::Denied { code, verdicts })
-            }
-            Delivery::Delivered(Reply::Refused { code, reason }) => {
-                Tick::Stopped(StopReason::Refused { code, reason })
-            }
-            Delivery::Delivered(Reply::Done(body)) => self.hear(inbox, place, stood, body),
+        let Delivery::Delivered(reply) = line.send(alloc, request) else {
+            return Tick::Repeat;
+        };
+        match reply {
+            Reply::Done(body) => self.hear(inbox, place, stood, body),
+            reply => Tick::Stopped(StopReason::Rejected(reply)),
         }
     }
 

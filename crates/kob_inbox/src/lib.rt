@@ -22,4 +22,4 @@ pub use fetcher::{Fetcher, Subscription};
 pub use inbox::{Inbox, TakeIn};
 pub use inbox_row::InboxRow;
 pub use laws::an_inbox_is_what_was_taken_in;
-pub use tick::{StopReason, Tick};
+pub use tick::Tick;

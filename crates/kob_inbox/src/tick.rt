@@ -1,29 +1,6 @@
 //! What one step of a consumer returns.
 
-use kob_names::{Items, Verdict};
-use kob_rights::{Code, Reason};
-use std::alloc::AllocError;
-
-/// Why a step stopped. The partition keeps its turn.
-#[derive(Debug, Drop)]
-pub enum StopReason {
-    /// The broker denied a right, with these verdicts.
-    Denied {
-        code: Code,
-        verdicts: Items<Verdict>,
-    },
-    /// The broker refused the request. Code 1 (`OFFSET_OUT_OF_RANGE`) means that the position is
-    /// not an offset of the partition; no record is skipped.
-    Refused {
-        code: Code,
-        reason: Reason,
-    },
-    /// Out of memory: nothing was sent, or the inbox took in only a prefix of the records that were
-    /// received.
-    Memory(AllocError),
-    /// The database failed, and the inbox took in only a prefix of the records that were received.
-    Store,
-}
+use kob_router::StopReason;
 
 /// What one step of a consumer did.
 #[derive(Debug, Drop)]
@@ -40,5 +17,7 @@ pub enum Tick {
     Idle,
     /// The call was lost: the next step makes the same call again.
     Repeat,
+    /// The partition keeps its turn. A refusal with code 1 (`OFFSET_OUT_OF_RANGE`) means that the
+    /// position is not an offset of the partition; no record is skipped.
     Stopped(StopReason),
 }

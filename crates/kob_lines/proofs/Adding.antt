@@ -2,7 +2,7 @@
 use Rattle.kob_lines.proofs.Words.{All-append, All-cons, All-nil, ArePassedOn, AreServed, Call, Delivered, Delivery, Event, Fits, GainsAtMost, IsEntryOf, IsHeardOf, IsJournaled, IsSent, IsServedIfHeard, IsServedInSession, Journals, KeepsSeat, List, Loss, Lost, MakesCalls, None, Option, PassesCallsOn, PassesOn, Record, Reply, Request, Retained, Seat, ServesAs, ServesEach, Settings, Some, [], added_append, after_event, ap, append-nil, arith, calls_are_made, entry, event_by, false, inl, inr, map, map-append, nat_tests, no_call_is_made, outcome_of, refl, reply_fits, reply_of, retained_meaning, Served, served_in, step, subst, sym, ℕ, ◌++◌, ◌∙◌, ◌∷◌, ◌≡◌, ◌⊎◌}
 use Rattle.kob_broker.specs.State.{State}
 use Rattle.kob_lines.specs.Servers.{ServesLossy, ServesRecorded}
-use Rattle.kob_lines.specs.declared.lossy.Loss.TheVariants as losses
+use Rattle.kob_router.specs.declared.line.Loss.TheVariants as losses
 use Rattle.kob_lines.specs.declared.recorded_line.RecordedServer.{RecordedServer}
 use Rattle.kob_lines.specs.Calls.{IsHeardAs, MayAnswer, fault_after, fault_kept, reply_in}
 use Rattle.kob_rights.specs.Requests.{OffsetsWithin}

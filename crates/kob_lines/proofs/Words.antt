@@ -8,7 +8,7 @@ pub use Rattle.kob_inbox.specs.declared.tick.Tick.{Tick}
 pub use Rattle.kob_lines.specs.Calls.{ArePassedOn, GainsAtMost, GoesOnBy, IsEntryOf, IsHeardOf, IsJournaled, IsMadeBelow, IsSent, IsServedIfHeard, IsServedInSession, Journals, KeepsSeat, MakesCalls, PassesCallsOn, PassesOn, ServesAs, ServesEach, reply_of, served_in}
 pub use Rattle.kob_lines.specs.Joined.{added_append, calls_are_made, no_call_is_made}
 pub use Rattle.kob_lines.specs.Relayed.{HasConsumerRun, HasServiceRun, HoldsFirst, Relayed}
-pub use Rattle.kob_lines.specs.declared.lossy.Loss.{Loss}
+pub use Rattle.kob_router.specs.declared.line.Loss.{Loss}
 pub use Rattle.kob_names.specs.declared.settings.Settings.{Settings}
 pub use Rattle.kob_outbox.proofs.Lawful.{swept_waits}
 pub use Rattle.kob_outbox.specs.Contents.{Contents, empty, stored_event, later_than, up_to, without_sent, after_record, next_seq}

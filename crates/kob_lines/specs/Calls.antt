@@ -15,8 +15,8 @@ use Rattle.kob_rights.specs.declared.request.Request.{Request}
 use Rattle.kob_router.specs.declared.line.Delivery.{Delivery}
 use Rattle.kob_router.specs.declared.line.Delivery.TheVariants.{Delivered, Lost}
 use Rattle.kob_shared.specs.declared.journal.Receipt.{Receipt}
-use Rattle.kob_lines.specs.declared.lossy.Loss.{Loss}
-use Rattle.kob_lines.specs.declared.lossy.Loss.TheVariants as losses
+use Rattle.kob_router.specs.declared.line.Loss.{Loss}
+use Rattle.kob_router.specs.declared.line.Loss.TheVariants as losses
 
 -- ---- a connection
 

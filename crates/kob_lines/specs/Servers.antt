@@ -3,8 +3,8 @@ use Rattle.std.specs.Prelude.{◌≡◌, ℕ, List, Option, length}
 use Rattle.kob_broker.specs.Step.{state_of, step}
 use Rattle.kob_lines.specs.Calls.{IsMadeBelow, IsServedIfHeard, PassesOn}
 use Rattle.kob_lines.specs.declared.broker_line.BrokerServer.{BrokerServer}
-use Rattle.kob_lines.specs.declared.lossy.Loss.{Loss}
-use Rattle.kob_lines.specs.declared.lossy.Loss.TheVariants as losses
+use Rattle.kob_router.specs.declared.line.Loss.{Loss}
+use Rattle.kob_router.specs.declared.line.Loss.TheVariants as losses
 use Rattle.kob_lines.specs.declared.recorded_line.RecordedServer.{RecordedServer}
 use Rattle.kob_partition.specs.Retained.{retained_meaning}
 use Rattle.kob_rights.specs.declared.reply.Reply.{Reply}

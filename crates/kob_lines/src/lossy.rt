@@ -4,20 +4,9 @@ ghost use Rattle.std.specs.Prelude.{◌≡◌, [], None};
 
 use crate::connection::{Connection, Serve};
 use kob_rights::{Reply, Request};
-use kob_router::{Delivery, Line};
+use kob_router::{Delivery, Line, Loss};
 use kob_shared::CallFault;
 use std::alloc::Global;
-
-/// What happens to a call.
-#[derive(Clone, Copy, Debug, PartialEq, Eq)]
-pub enum Loss {
-    /// It is served, and its reply is received.
-    None,
-    /// It never reaches the broker.
-    BeforeServe,
-    /// It is served, and its reply is lost.
-    AfterServe,
-}
 
 /// A line whose calls are lost where `loss` says so. It has the calls that reached it, with the
 /// replies that it received.

@@ -10,7 +10,7 @@ use Rattle.kob_pipeline.specs.declared.plan.ServiceStep.TheVariants.{Record}
 use Rattle.kob_delivery.proofs.Rows.{all_later, run_numbered}
 use Rattle.kob_inbox.specs.declared.tick.Tick.{Tick as ConsumerAnswer}
 use Rattle.kob_router.specs.declared.tick.Tick.{Tick as RouterAnswer}
-use Rattle.kob_lines.specs.declared.lossy.Loss.TheVariants as lost
+use Rattle.kob_router.specs.declared.line.Loss.TheVariants as lost
 use Rattle.kob_inbox.specs.Run as consumers
 use Rattle.kob_inbox.specs.Tick as consumer_ticks
 use Rattle.kob_router.specs.Run as routers

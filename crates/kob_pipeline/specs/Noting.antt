@@ -4,7 +4,7 @@ use Rattle.std.proofs.lemmas.Bool.Decides.{nat_tests}
 use Rattle.std.proofs.lemmas.List.Elements.{All-append, All-nil}
 use Rattle.kob_pipeline.specs.Types.{Served, Call, AtDesk, CallFault, Loss}
 use Rattle.kob_pipeline.specs.Served.{AreMade, AreNoted, AreServedByLoss, IsEventOf, loss_after, served_by_notes}
-use Rattle.kob_lines.specs.declared.lossy.Loss.TheVariants as lost
+use Rattle.kob_router.specs.declared.line.Loss.TheVariants as lost
 
 loss_append : (loss : Loss) (xs ys : List Call) → loss_after loss (xs ++ ys) ≡ loss_after (loss_after loss xs) ys
 loss_append loss xs ys = grind (arith, nat_tests)

@@ -3,7 +3,7 @@ use Rattle.std.specs.Prelude.{ℕ, List, [], ◌∷◌, ◌≡◌, ◌++◌, Opt
 use Rattle.kob_pipeline.specs.Types.{Served, Call, AtDesk, CallFault, Loss, Event}
 use Rattle.kob_shared.specs.declared.journal.Receipt.{Receipt}
 use Rattle.std.specs.List.{All}
-use Rattle.kob_lines.specs.declared.lossy.Loss.TheVariants as losses
+use Rattle.kob_router.specs.declared.line.Loss.TheVariants as losses
 
 -- what a worker noted that it was served, in order
 abbrev pub served_by_notes : List Event → List Receipt → List Served

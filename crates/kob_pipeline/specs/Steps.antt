@@ -16,10 +16,10 @@ use Rattle.kob_shared.specs.declared.script.Script.{Script}
 use Rattle.kob_shared.specs.declared.work.Done.{Done}
 use Rattle.kob_pipeline.specs.declared.worker.Worker.{Worker}
 use Rattle.kob_router.specs.Run as routers
-use Rattle.kob_router.specs.declared.tick.StopReason.TheVariants as router_stops
+use Rattle.kob_router.specs.declared.tick.StopReason.{StopReason}
+use Rattle.kob_router.specs.declared.tick.StopReason.TheVariants as stops
 use Rattle.kob_pipeline.specs.declared.plan.ServiceStep.TheVariants as service_steps
 use Rattle.kob_inbox.specs.Run as consumers
-use Rattle.kob_inbox.specs.declared.tick.StopReason.TheVariants as consumer_stops
 use Rattle.kob_pipeline.specs.declared.plan.ConsumerStep.TheVariants as consumer_steps
 use Rattle.kob_pipeline.specs.declared.end.WorkerEnd.TheVariants as ends
 use Rattle.kob_pipeline.specs.declared.worker.Worker.TheVariants as workers
@@ -62,10 +62,15 @@ pub record HasWorked {S T M : Type 0} (does : Doing S T M) (start : S) (planned 
   pub steps : Steps does start planned moves (served_by_notes noted.events noted.told) state
   pub own : All (IsEventOf principal host) noted.events
 
+-- neither memory nor the database is the reason
+abbrev pub GoesOnAfter : StopReason → Type 0
+GoesOnAfter (stops.Memory refused) = ⊥
+GoesOnAfter stops.Store = ⊥
+GoesOnAfter reason = Unit {0}
+
 -- neither memory nor the database stopped the tick
 abbrev pub ServiceGoesOn : RouterTick → Type 0
-ServiceGoesOn (RouterStopped (router_stops.Memory refused)) = ⊥
-ServiceGoesOn (RouterStopped router_stops.Store) = ⊥
+ServiceGoesOn (RouterStopped reason) = GoesOnAfter reason
 ServiceGoesOn tick = Unit {0}
 
 -- the moves of a tick of the router: what it answers tells of them, and its first call has the loss
@@ -107,8 +112,7 @@ pub record IsServiceRun (service : Service) (noted : Noted) (left : OutboxEnd) :
 
 -- neither memory nor the database stopped the tick
 abbrev pub ConsumerGoesOn : ConsumerTick → Type 0
-ConsumerGoesOn (ConsumerStopped (consumer_stops.Memory refused)) = ⊥
-ConsumerGoesOn (ConsumerStopped consumer_stops.Store) = ⊥
+ConsumerGoesOn (ConsumerStopped reason) = GoesOnAfter reason
 ConsumerGoesOn tick = Unit {0}
 
 -- the one move of a tick of the consumer: what it answers tells of it, and its call has the loss

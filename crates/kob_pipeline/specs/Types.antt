@@ -3,7 +3,7 @@ pub use Rattle.kob_broker.specs.State.{State}
 pub use Rattle.kob_inbox.specs.Contents.{taken_in, placed_intake}
 pub use Rattle.kob_inbox.specs.Run.{IsConsumerRun, taken_of}
 pub use Rattle.kob_inbox.specs.declared.fetcher.Subscription.{Subscription}
-pub use Rattle.kob_lines.specs.declared.lossy.Loss.{Loss}
+pub use Rattle.kob_router.specs.declared.line.Loss.{Loss}
 pub use Rattle.kob_names.specs.declared.record.Record.{Record}
 pub use Rattle.kob_names.specs.declared.settings.Settings.{Settings}
 pub use Rattle.kob_outbox.specs.Contents.{id_text, stored_event, stored_row}

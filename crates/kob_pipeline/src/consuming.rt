@@ -11,11 +11,11 @@ ghost use Rattle.kob_pipeline.specs.Steps.{ConsumerGoesOn, IsConsumerStep, Leads
 use crate::end::InboxEnd;
 use crate::line::DeskLine;
 use crate::plan::{ConsumerPlan, ConsumerStep};
-use crate::step_fault::StepFault;
-use kob_inbox::{StopReason, Tick};
+use crate::step_fault::{StepFault, goes_on_after};
+use kob_inbox::Tick;
 use kob_lines::{Loss, Receiver};
 use kob_router::Line;
-use kob_shared::{CallFault, Gate};
+use kob_shared::Gate;
 use std::alloc::Global;
 use std::sync::Wait;
 
@@ -122,10 +122,7 @@ fn goes_on(tick: Tick) -> Result<(), StepFault>
     ensures err { OnErr result (¬ (ConsumerGoesOn tick)) }
 {
     match tick {
-        Tick::Stopped(StopReason::Memory(refused)) => {
-            Err(StepFault::Call(CallFault::Memory(refused)))
-        }
-        Tick::Stopped(StopReason::Store) => Err(StepFault::Store),
+        Tick::Stopped(reason) => goes_on_after(reason),
         _ => Ok(()),
     }
 }

@@ -15,10 +15,10 @@ ghost use Rattle.kob_pipeline.specs.Steps.{ServiceGoesOn, IsServiceStep, Leads, 
 use crate::end::OutboxEnd;
 use crate::line::DeskLine;
 use crate::plan::{Service, ServiceStep};
-use crate::step_fault::StepFault;
+use crate::step_fault::{StepFault, goes_on_after};
 use kob_lines::{Loss, Relay};
 use kob_outbox::{Change, Outbox, OutboxEvent, RecordFault, Row};
-use kob_router::{Line, StopReason, Tick};
+use kob_router::{Line, Tick};
 use kob_shared::{CallFault, Gate};
 use std::alloc::Global;
 use std::sync::Wait;
@@ -176,10 +176,7 @@ fn goes_on(tick: Tick) -> Result<(), StepFault>
     ensures err { OnErr result (¬ (ServiceGoesOn tick)) }
 {
     match tick {
-        Tick::Stopped(StopReason::Memory(refused)) => {
-            Err(StepFault::Call(CallFault::Memory(refused)))
-        }
-        Tick::Stopped(StopReason::Store) => Err(StepFault::Store),
+        Tick::Stopped(reason) => goes_on_after(reason),
         _ => Ok(()),
     }
 }

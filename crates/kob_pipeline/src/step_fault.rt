@@ -1,7 +1,11 @@
 //! Why a step ends its worker.
 
+ghost use Rattle.std.specs.Prelude.{OnErr, OnOk};
+ghost use Rattle.kob_pipeline.specs.Steps.{GoesOnAfter};
+
 use kob_inbox::InboxFault;
 use kob_outbox::{OutboxFault, RecordFault};
+use kob_router::StopReason;
 use kob_shared::CallFault;
 use std::alloc::AllocError;
 
@@ -46,5 +50,17 @@ impl From<InboxFault> for StepFault {
             InboxFault::Memory(refused) => StepFault::Call(CallFault::Memory(refused)),
             InboxFault::Store => StepFault::Store,
         }
+    }
+}
+
+/// The fault, if out of memory or the database is why a tick stopped.
+pub(crate) fn goes_on_after(reason: StopReason) -> Result<(), StepFault>
+    ensures ok { OnOk result (GoesOnAfter reason) }
+    ensures err { OnErr result (¬ (GoesOnAfter reason)) }
+{
+    match reason {
+        StopReason::Memory(refused) => Err(StepFault::Call(CallFault::Memory(refused))),
+        StopReason::Store => Err(StepFault::Store),
+        StopReason::Rejected(_) | StopReason::BadTopic => Ok(()),
     }
 }

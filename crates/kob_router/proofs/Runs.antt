@@ -2,7 +2,7 @@
 use Rattle.kob_router.proofs.Words.{AllByRecursion, Bool, Call, Called, Dispatching, EndsHeard, EndsUnmarked, Idle, InitProducerId, IsReport, IsAtMostOne, IsDone, IsHeld, IsOfTick, IsOneTick, IsRouterRun, List, MayCall, Move, Moved, Repeat, Reply, Point, State, Stopped, Tick, Ticks, Took, [], after, ap, append_assoc, arith, calls_of, inl, inr, nat_tests, refl, subst, sym, ℕ, ◌++◌, ◌∙◌, ◌∷◌, ◌≡◌, Acknowledges, Adds, Body, Contents, Done, Err, HasHand, Lost, None, Ok, Option, Request, Requests, Sender, Some, StopReason, after_acknowledgement, append-nil, false, state_of, true, true≢false, Denied, Hand, HeldRow, Introduces, Place, Producer, Refused, Sequence, Takes, bytes_eq-Decides, cases_Bool, cond-false, cond-true, dispatch_of, eq-eqb, hand_of, has_place, option_map, or_left, or_right, producer_after, with_sequence_for}
 use Rattle.kob_rights.specs.declared.request.Request.TheVariants.{Produce}
 use Rattle.kob_router.specs.declared.line.Delivery.TheVariants.{Delivered}
-use Rattle.kob_router.specs.Tick.{given_call}
+use Rattle.kob_router.specs.Tick.{IsRejection, given_call}
 use Rattle.kob_router.specs.declared.tick.StopReason.TheVariants as stop
 
 -- a router with its outbox, and what its line tells
@@ -118,6 +118,21 @@ ticks_lost s outbox asked may held (inl made) =
     ticks_call s outbox asked None may held made.0 (inl ([], asked, refl, made.1))
 ticks_lost s outbox asked may held (inr unmade) = ticks_none unmade.0 (inr (tt, unmade.1)) held
 
+-- a reply that is not done
+pub is_rejection : (reply : Reply) → ((body : Body) → reply ≡ Done body → ⊥) → IsRejection reply
+is_rejection (Denied code verdicts) other = tt
+is_rejection (Refused code reason) other = tt
+is_rejection (Done body) other = other body refl
+
+-- a call that was rejected
+pub ticks_rejected : {route : Dispatching} (s : Sender) (outbox : Contents) (asked : Request) {reply : Reply}
+    {before now : List Call} {u t : ℕ} → Requests route s asked → IsHeld route (state_of s outbox)
+    → ((body : Body) → reply ≡ Done body → ⊥) → Adds before now u t asked (Delivered reply)
+    → Ticks IsAtMostOne route (point (state_of s outbox) before u) (point (state_of s outbox) now t)
+    (Stopped (stop.Rejected reply))
+ticks_rejected s outbox asked {reply} may held other (made, same) =
+    ticks_call s outbox asked (Some reply) may held made ((is_rejection reply other, ([], asked, refl)), same)
+
 held_after : (route : Dispatching) (s : Sender) (outbox : Contents) → HasHand s
     → IsHeld route (after_acknowledgement (state_of s outbox) (state_of s outbox).hand)
 held_after route s outbox (held, is) = grind (arith, nat_tests)
@@ -179,6 +194,11 @@ asked_only outbox old new heard rest none still same made answer held =
     ticks_once (record { request = InitProducerId; heard = heard }) false (none, refl) (grind (arith, nat_tests)) made tt
     answer (grind (arith, nat_tests))
 
+none_given : (reply : Reply) → IsRejection reply → producer_after None InitProducerId (Some reply) ≡ None
+none_given (Denied code verdicts) rejected = refl
+none_given (Refused code reason) rejected = refl
+none_given (Done body) rejected = absurd rejected
+
 pub ticks_unknown : {route : Dispatching} (outbox : Contents) (old new : Sender) {before now : List Call} {u t : ℕ}
     (tick : Tick) → new ≡ record old { producer = new.producer }
     → Introduces old.producer new.producer before now u t (Err tick) → IsHeld route (state_of old outbox)
@@ -186,12 +206,9 @@ pub ticks_unknown : {route : Dispatching} (outbox : Contents) (old new : Sender)
 ticks_unknown outbox old new Repeat rest (none, still, inl made) held =
     asked_only outbox old new None rest none still refl made.0 (inl ([], InitProducerId, refl, made.1)) held
 ticks_unknown outbox old new Repeat rest (none, still, inr unmade) held = grind (arith, nat_tests, append-nil)
-ticks_unknown outbox old new (Stopped (stop.Denied code verdicts)) rest (none, still, made, same) held =
-    asked_only outbox old new (Some (Denied code verdicts)) rest none still refl made
-    (([], InitProducerId, refl), same) held
-ticks_unknown outbox old new (Stopped (stop.Refused code reason)) rest (none, still, made, same) held =
-    asked_only outbox old new (Some (Refused code reason)) rest none still refl made
-    (([], InitProducerId, refl), same) held
+ticks_unknown outbox old new (Stopped (stop.Rejected reply)) rest (rejected, (none, still, made, same)) held =
+    asked_only outbox old new (Some reply) rest none still (none_given reply rejected) made
+    ((rejected, ([], InitProducerId, refl)), same) held
 ticks_unknown outbox old new _ rest is held = absurd is
 
 -- a producer id is there, or was given

@@ -8,7 +8,7 @@ use Rattle.kob_router.specs.declared.sender.Sender.{Sender}
 use Rattle.kob_router.specs.declared.tick.Tick.{Tick}
 use Rattle.kob_router.specs.declared.tick.Tick.TheVariants.{Moved, Idle, Repeat, Stopped}
 use Rattle.kob_router.specs.declared.tick.StopReason.{StopReason}
-use Rattle.kob_router.specs.Run.{Dispatching, dispatch_of, place_of, has_place, with_sequence_for, Call, Denied, Done, InitProducerId, Produce, ProduceRequest, Producer, Refused, Reply, Request, Sequence, Hand, State, Move, IsRouterRun, IsDone, calls_of, next_row, IsSending, after_acknowledgement}
+use Rattle.kob_router.specs.Run.{Dispatching, dispatch_of, place_of, has_place, with_sequence_for, Call, Done, InitProducerId, Produce, ProduceRequest, Producer, Reply, Request, Sequence, Hand, State, Move, IsRouterRun, IsDone, calls_of, next_row, IsSending, after_acknowledgement}
 use Rattle.kob_router.specs.Line.{one_more}
 use Rattle.kob_router.specs.Run.Move.{Called, Took}
 use Rattle.kob_router.specs.declared.tick.StopReason.TheVariants as stop
@@ -94,10 +94,14 @@ EndsLost moves unmade then_unmade =
     × (then_unmade ≡ unmade))
     ⊎ (SendsNothing moves × (then_unmade ≡ one_more unmade))
 
+-- a reply to a request that was denied or refused
+abbrev pub IsRejection : Reply → Type 0
+IsRejection (Done body) = ⊥
+IsRejection reply = Unit {0}
+
 -- why a tick stopped
 abbrev pub IsReason : Dispatching → StopReason → List Move → State → Type 0
-IsReason route (stop.Denied code verdicts) moves new = EndsHeard moves (Denied code verdicts)
-IsReason route (stop.Refused code reason) moves new = EndsHeard moves (Refused code reason)
+IsReason route (stop.Rejected reply) moves new = IsRejection reply × EndsHeard moves reply
 IsReason route stop.BadTopic moves new =
     IsIntroduced moves new
     × ((event : Event) × (next_row new.outbox ≡ Some event) × (route event ≡ None))
@@ -168,12 +172,10 @@ Introduces old new before now unmade then_unmade (Err Repeat) =
     × (((now ≡ before ++ record { request = InitProducerId; heard = None } ∷ [])
     × (then_unmade ≡ unmade))
     ⊎ ((now ≡ before) × (then_unmade ≡ one_more unmade)))
-Introduces old new before now unmade then_unmade (Err (Stopped (stop.Denied code verdicts))) =
-    IsAsked old new before now unmade then_unmade
-    (record { request = InitProducerId; heard = Some (Denied code verdicts) })
-Introduces old new before now unmade then_unmade (Err (Stopped (stop.Refused code reason))) =
-    IsAsked old new before now unmade then_unmade
-    (record { request = InitProducerId; heard = Some (Refused code reason) })
+Introduces old new before now unmade then_unmade (Err (Stopped (stop.Rejected reply))) =
+    IsRejection reply
+    × IsAsked old new before now unmade then_unmade
+    (record { request = InitProducerId; heard = Some reply })
 Introduces old new before now unmade then_unmade _ = ⊥
 
 -- the first row after the mark is in hand, where nothing was

@@ -25,7 +25,7 @@ pub use header_id::event_id;
 pub use laws::{
     a_batch_is_repeated_as_it_was, a_record_tells_its_event_id, an_aggregate_has_one_partition,
 };
-pub use line::{Call, Delivery, Line};
+pub use line::{Call, Delivery, Line, Loss};
 pub use partitioner::partition_of;
 pub use place::{Place, is_same_place};
 pub use placement::{Placed, PlacedColumn};

@@ -39,6 +39,17 @@ pub enum Delivery {
     Lost,
 }
 
+/// Which message of a call is lost.
+#[derive(Clone, Copy, Debug, PartialEq, Eq)]
+pub enum Loss {
+    /// None: the call is served, and its reply is received.
+    None,
+    /// The request: it never reaches the broker.
+    BeforeServe,
+    /// The reply: the call is served.
+    AfterServe,
+}
+
 /// A connection to a broker, which makes requests one after another. It keeps each request with the
 /// reply that was received.
 pub trait Line {

@@ -89,20 +89,17 @@ impl Sender {
         if let Some(producer) = self.producer {
             return Ok(producer);
         }
-        match line.send(alloc, Request::InitProducerId) {
-            Delivery::Lost => Err(Tick::Repeat),
-            Delivery::Delivered(Reply::Denied { code, verdicts }) => {
-                Err(Tick::Stopped(StopReason::Denied { code, verdicts }))
-            }
-            Delivery::Delivered(Reply::Refused { code, reason }) => {
-                Err(Tick::Stopped(StopReason::Refused { code, reason }))
-            }
-            Delivery::Delivered(Reply::Done(Body::Producer { id, epoch })) => {
+        let Delivery::Delivered(reply) = line.send(alloc, Request::InitProducerId) else {
+            return Err(Tick::Repeat);
+        };
+        match reply {
+            Reply::Done(Body::Producer { id, epoch }) => {
                 let producer = Producer { id, epoch };
                 self.producer = Some(producer);
                 Ok(producer)
             }
-            Delivery::Delivered(Reply::Done(_)) => unreachable!(),
+            Reply::Done(_) => unreachable!(),
+            reply => Err(Tick::Stopped(StopReason::Rejected(reply))),
         }
     }
 
@@ -155,18 +152,18 @@ impl Sender {
             Ok(request) => request,
             Err(refused) => return Tick::Stopped(StopReason::Memory(refused)),
         };
-        match line.send(alloc, request) {
-            Delivery::Lost => Tick::Repeat,
-            Delivery::Delivered(Reply::Denied { code, verdicts }) => {
-                Tick::Stopped(StopReason::Denied { code, verdicts })
+        let Delivery::Delivered(reply) = line.send(alloc, request) else {
+            return Tick::Repeat;
+        };
+        match reply {
+            Reply::Done(body) => {
+                drop(body);
+                match self.acknowledge(outbox) {
+                    Ok(seq) => Tick::Moved(seq),
+                    Err(reason) => Tick::Stopped(reason),
+                }
             }
-            Delivery::Delivered(Reply::Refused { code, reason }) => {
-                Tick::Stopped(StopReason::Refused { code, reason })
-            }
-            Delivery::Delivered(Reply::Done(_)) => match self.acknowledge(outbox) {
-                Ok(seq) => Tick::Moved(seq),
-                Err(reason) => Tick::Stopped(reason),
-            },
+            reply => Tick::Stopped(StopReason::Rejected(reply)),
         }
     }
 

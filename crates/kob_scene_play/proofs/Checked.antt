@@ -1,6 +1,6 @@
 -- What is answered about where events are.
 use Rattle.kob_scene_play.proofs.Words.{Consumer, Entry, IsChecked, IsFound, List, PlayedConsumer, PlayedService, Service, Some, Stage, Tells, ap, check_text, one_more, refl, slice_get, ℕ, ◌++◌, ◌∙◌, ◌≡◌}
-use Rattle.kob_delivery_check.specs.declared.cause.Loss.{Loss}
+use Rattle.kob_delivery_check.specs.declared.cause.LostEvent.{LostEvent}
 use Rattle.kob_delivery_check.specs.declared.fate.Fate.{Fate}
 use Rattle.kob_delivery_check.specs.declared.printed.Found.{Found}
 use Rattle.kob_outbox.specs.declared.event.OutboxEvent.{OutboxEvent}
@@ -8,7 +8,7 @@ use Rattle.kob_scene_play.specs.Checks.{AreLosses, unrecorded_by}
 
 -- the losses of equals
 pub same_losses : (from service : Service) (to consumer : Consumer) (journal : List Entry) (given fates : List Fate)
-    (losses : List Loss) → from ≡ service → to ≡ consumer → given ≡ fates → AreLosses from to journal given losses
+    (losses : List LostEvent) → from ≡ service → to ≡ consumer → given ≡ fates → AreLosses from to journal given losses
     → AreLosses service consumer journal fates losses
 same_losses from service to consumer journal given fates losses is_from is_to is_given are =
     rw is_from at (rw is_to at (rw is_given at are))

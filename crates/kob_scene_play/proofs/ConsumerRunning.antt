@@ -2,7 +2,7 @@
 use Rattle.kob_scene_play.proofs.Words.{Consumer, IsConsumerStep, IsConsumerTick, IsReadOnce, Left, List, None, Option, Record, Some, Tells, ap, consumer_goes_on, consumer_line, idle_in_row, idle_with, is_some, left_after, length, option_and_then, refl, subst, sym, ℕ, ◌+◌, ◌∙◌, ◌∷◌, ◌≡◌}
 use Rattle.kob_scene_play.proofs.Running.{HasRun}
 use Rattle.kob_scene_play.proofs.Running as running
-use Rattle.kob_lines.specs.declared.lossy.Loss.TheVariants as losses
+use Rattle.kob_router.specs.declared.line.Loss.TheVariants as losses
 use Rattle.kob_scene_text.specs.declared.scene.ConsumerStep.TheVariants as consumer_steps
 
 -- so many ticks of a consumer with so many partitions, and how many of the last ones were idle in a row
@@ -24,7 +24,7 @@ none_at_first partitions consumer r told held = record {
 module _ (partitions : ℕ) (old mid now : Consumer) (before between after : Record) (told mid_told then_told : ℕ)
     (held mid_held then_held : List ℕ) (count idle : ℕ) (left : Left) (more : Option ℕ)
     (taken : HasTaken partitions old mid before between told mid_told held mid_held count idle)
-    (ticked : IsReadOnce None left mid now between after mid_told then_told mid_held then_held)
+    (ticked : IsReadOnce losses.None left mid now between after mid_told then_told mid_held then_held)
     (given : more ≡ idle_with partitions left idle) where
   next : idle_in_row partitions (ticked.0 ∷ taken.run.ticks) ≡ more
   next =

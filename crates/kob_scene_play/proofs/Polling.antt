@@ -1,6 +1,6 @@
 -- What a router sees of the rows that wait.
 use Rattle.kob_scene_play.proofs.Words.{[], Bool, Contents, Err, IfOk, List, None, Ok, Option, Record, Result, Service, Some, false, map, option_map, refl, subst, sym, true, ℕ, ◌∙◌, ◌∷◌, ◌≡◌}
-use Rattle.kob_lines.specs.declared.lossy.Loss.{Loss}
+use Rattle.kob_router.specs.declared.line.Loss.{Loss}
 use Rattle.kob_outbox.specs.Contents.{Event, stored_row}
 use Rattle.kob_outbox.specs.declared.event.Row.{Row}
 use Rattle.kob_router.specs.declared.sender.HeldRow.{HeldRow}

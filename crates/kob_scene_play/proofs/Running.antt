@@ -1,6 +1,6 @@
 -- A run of ticks, one tick after another.
 use Rattle.kob_scene_play.proofs.Words.{AllGoOn, AreTicks, Bool, EndsRun, IsPrinted, IsServiceTick, List, Record, Service, Tells, [], ap, append-nil, append_assoc, arith, false, inl, inr, length, refl, service_goes_on, service_line, sym, true, ℕ, ◌++◌, ◌+◌, ◌∙◌, ◌∷◌, ◌≡◌}
-use Rattle.kob_lines.specs.declared.lossy.Loss.TheVariants as losses
+use Rattle.kob_router.specs.declared.line.Loss.TheVariants as losses
 
 -- one text behind another
 pub joined : (held mid now one two : List ℕ) → mid ≡ held ++ one → now ≡ mid ++ two → now ≡ held ++ (one ++ two)

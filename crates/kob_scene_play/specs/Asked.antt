@@ -1,13 +1,13 @@
 -- A request of a worker of which a message may be lost.
 use Rattle.std.specs.Prelude.{◌≡◌, ℕ, ◌+◌, Bool, true, false, Option, None, Some}
-use Rattle.kob_inbox.specs.declared.tick.StopReason.TheVariants as stops
+use Rattle.kob_router.specs.declared.tick.StopReason.TheVariants as stops
 use Rattle.kob_inbox.specs.declared.tick.Tick.{Tick}
 use Rattle.kob_inbox.specs.declared.tick.Tick.TheVariants.{Committed, Repeat, Stopped}
-use Rattle.kob_lines.specs.declared.lossy.Loss.{Loss}
-use Rattle.kob_lines.specs.declared.lossy.Loss.TheVariants as losses
+use Rattle.kob_router.specs.declared.line.Loss.{Loss}
+use Rattle.kob_router.specs.declared.line.Loss.TheVariants as losses
 use Rattle.kob_rights.specs.declared.event.Event.{Event}
 use Rattle.kob_rights.specs.declared.reply.Reply.{Reply}
-use Rattle.kob_rights.specs.declared.reply.Reply.TheVariants.{Denied, Done, Refused}
+use Rattle.kob_rights.specs.declared.reply.Reply.TheVariants.{Done}
 use Rattle.kob_shared.specs.Journals.{Record, after_event, outcome_of}
 
 -- the request is served as this worker's, unless it is lost before; its reply is heard, unless the
@@ -32,5 +32,4 @@ HasLoss losses.AfterServe false before after = after ≡ before
 abbrev pub committed_by : Option Reply → Tick
 committed_by None = Repeat
 committed_by (Some (Done body)) = Committed
-committed_by (Some (Denied code verdicts)) = Stopped (stops.Denied code verdicts)
-committed_by (Some (Refused code reason)) = Stopped (stops.Refused code reason)
+committed_by (Some reply) = Stopped (stops.Rejected reply)

@@ -3,7 +3,7 @@ use Rattle.std.specs.Prelude.{◌≡◌, ℕ, List, Option, None, option_map}
 use Rattle.kob_delivery_check.specs.Starts.{start_due}
 use Rattle.kob_inbox.specs.declared.fetcher.Fetcher.{Fetcher}
 use Rattle.kob_inbox.specs.declared.tick.Tick.{Tick}
-use Rattle.kob_lines.specs.declared.lossy.Loss.{Loss}
+use Rattle.kob_router.specs.declared.line.Loss.{Loss}
 use Rattle.kob_rights.specs.declared.event.Event.{Event}
 use Rattle.kob_rights.specs.declared.on_groups.OffsetCommit.{OffsetCommit as CommitRequest}
 use Rattle.kob_rights.specs.declared.reply.Reply.{Reply}

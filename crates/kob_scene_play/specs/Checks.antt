@@ -10,7 +10,7 @@ use Rattle.kob_delivery_check.specs.Printed.{check_text}
 use Rattle.kob_delivery_check.specs.Reaches.{records_ahead}
 use Rattle.kob_delivery_check.specs.Repeats.{records_of, repeats_of}
 use Rattle.kob_delivery_check.specs.Unrecorded.{unrecorded_of}
-use Rattle.kob_delivery_check.specs.declared.cause.Loss.{Loss}
+use Rattle.kob_delivery_check.specs.declared.cause.LostEvent.{LostEvent}
 use Rattle.kob_delivery_check.specs.declared.fate.Fate.{Fate}
 use Rattle.kob_delivery_check.specs.declared.order.Early.{Early}
 use Rattle.kob_delivery_check.specs.declared.record_order.EarlyRecord.{EarlyRecord}
@@ -58,7 +58,7 @@ AreFates service consumer journal fates =
 
 -- the events that are lost by these fates, each with its cause, by the rows of the consumer's inbox and
 -- by the journal
-abbrev pub AreLosses : Service → Consumer → List Entry → List Fate → List Loss → Type 0
+abbrev pub AreLosses : Service → Consumer → List Entry → List Fate → List LostEvent → Type 0
 AreLosses service consumer journal fates losses =
     (taken : List InboxRow)
     × (map placed_intake taken ≡ enumerate_from 1 consumer.inbox)

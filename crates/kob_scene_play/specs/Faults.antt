@@ -3,12 +3,12 @@ use Rattle.std.specs.Prelude.{Bool, true, false, Option, Some, None, Result, Ok,
 use Rattle.std.specs.Option.{option_map}
 use Rattle.kob_inbox.specs.declared.fault.InboxFault.{InboxFault}
 use Rattle.kob_inbox.specs.declared.fault.InboxFault.TheVariants as of_inbox
-use Rattle.kob_inbox.specs.declared.tick.StopReason.TheVariants as consumer_stop
 use Rattle.kob_inbox.specs.declared.tick.Tick.{Tick as ConsumerTick}
 use Rattle.kob_inbox.specs.declared.tick.Tick.TheVariants as consumer_tick
 use Rattle.kob_outbox.specs.declared.fault.OutboxFault.{OutboxFault}
 use Rattle.kob_outbox.specs.declared.fault.OutboxFault.TheVariants as of_outbox
-use Rattle.kob_router.specs.declared.tick.StopReason.TheVariants as service_stop
+use Rattle.kob_router.specs.declared.tick.StopReason.{StopReason}
+use Rattle.kob_router.specs.declared.tick.StopReason.TheVariants as stop
 use Rattle.kob_router.specs.declared.tick.Tick.{Tick as ServiceTick}
 use Rattle.kob_router.specs.declared.tick.Tick.TheVariants as service_tick
 use Rattle.kob_scene_play.specs.declared.fault.PlayFault.{PlayFault}
@@ -40,13 +40,16 @@ abbrev pub fault_of_inbox : InboxFault → PlayFault
 fault_of_inbox (of_inbox.Memory e) = Memory e
 fault_of_inbox of_inbox.Store = Store
 
--- why a tick stopped that ran out of memory or whose database failed; every other stop is a result
+-- the fault of a tick that ran out of memory or whose database failed; every other stop is a result
+abbrev pub fault_of_stop : StopReason → Option PlayFault
+fault_of_stop (stop.Memory e) = Some (Memory e)
+fault_of_stop stop.Store = Some Store
+fault_of_stop reason = None
+
 abbrev pub stop_of_service : ServiceTick → Option PlayFault
-stop_of_service (service_tick.Stopped (service_stop.Memory e)) = Some (Memory e)
-stop_of_service (service_tick.Stopped service_stop.Store) = Some Store
+stop_of_service (service_tick.Stopped reason) = fault_of_stop reason
 stop_of_service tick = None
 
 abbrev pub stop_of_consumer : ConsumerTick → Option PlayFault
-stop_of_consumer (consumer_tick.Stopped (consumer_stop.Memory e)) = Some (Memory e)
-stop_of_consumer (consumer_tick.Stopped consumer_stop.Store) = Some Store
+stop_of_consumer (consumer_tick.Stopped reason) = fault_of_stop reason
 stop_of_consumer tick = None

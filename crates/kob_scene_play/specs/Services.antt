@@ -4,8 +4,8 @@ use Rattle.std.specs.Prelude.{◌≡◌, ℕ, ◌-◌, ◌==◌, Bool, true, fal
 use Rattle.kob_delivery_check.specs.Unrecorded.{has_new_id}
 use Rattle.kob_lines.specs.Calls.{IsJournaled}
 use Rattle.kob_lines.specs.Relayed.{IsTick, Relayed, relayed_state}
-use Rattle.kob_lines.specs.declared.lossy.Loss.{Loss}
-use Rattle.kob_lines.specs.declared.lossy.Loss.TheVariants as losses
+use Rattle.kob_router.specs.declared.line.Loss.{Loss}
+use Rattle.kob_router.specs.declared.line.Loss.TheVariants as losses
 use Rattle.kob_outbox.specs.Contents.{Contents, Event, first_after, key_of, with_state}
 use Rattle.kob_outbox.specs.declared.change.Change.{Change}
 use Rattle.kob_outbox.specs.declared.event.OutboxEvent.{OutboxEvent}

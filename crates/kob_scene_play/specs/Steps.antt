@@ -7,7 +7,7 @@ use Rattle.kob_inbox.specs.Contents.{Contents as InboxContents, placed_intake}
 use Rattle.kob_inbox.specs.declared.fetcher.Fetcher.{Fetcher}
 use Rattle.kob_inbox.specs.declared.tick.Tick.{Tick as ConsumerAnswer}
 use Rattle.kob_lines.specs.Calls.{IsJournaled}
-use Rattle.kob_lines.specs.declared.lossy.Loss.{Loss}
+use Rattle.kob_router.specs.declared.line.Loss.{Loss}
 use Rattle.kob_outbox.specs.Contents.{id_text, stored_row, first_bad, first_bad_of_change, first_after, state_at, up_to, is_recorded, next_seq}
 use Rattle.kob_router.specs.declared.line.Call.{Call}
 use Rattle.kob_router.specs.declared.tick.Tick.{Tick as RouterAnswer}
@@ -21,7 +21,6 @@ use Rattle.kob_outbox.specs.declared.event.OutboxEvent.{OutboxEvent}
 use Rattle.kob_outbox.specs.declared.fault.RecordFault.{RecordFault}
 use Rattle.kob_scene_play.specs.declared.consumer_steps.Left.{Left}
 use Rattle.kob_scene_text.specs.declared.scene.ConsumerStep.{ConsumerStep}
-use Rattle.kob_scene_text.specs.declared.scene.Lost.{Lost}
 use Rattle.kob_scene_text.specs.declared.scene.Recording.{Recording}
 use Rattle.kob_scene_text.specs.declared.scene.Recording.TheVariants.{Whole, Crash, Late}
 use Rattle.kob_scene_text.specs.declared.scene.ServiceStep.{ServiceStep}
@@ -41,13 +40,12 @@ use Rattle.kob_scene_play.specs.Needs.{behind}
 use Rattle.kob_inbox.specs.Run as consuming
 use Rattle.kob_inbox.specs.Tick as consumer_ticks
 use Rattle.kob_inbox.specs.declared.tick.Tick.TheVariants as readings
-use Rattle.kob_lines.specs.declared.lossy.Loss.TheVariants as losses
+use Rattle.kob_router.specs.declared.line.Loss.TheVariants as losses
 use Rattle.kob_router.specs.Run as routing
 use Rattle.kob_outbox.specs.declared.fault.RecordFault.TheVariants as faults
 use Rattle.kob_router.specs.declared.tick.Tick.TheVariants as answers
 use Rattle.kob_scene_play.specs.declared.consumer_steps.Left.TheVariants as left
 use Rattle.kob_scene_text.specs.declared.scene.ConsumerStep.TheVariants as consumer_steps
-use Rattle.kob_scene_text.specs.declared.scene.Lost.TheVariants as lost
 use Rattle.kob_scene_text.specs.declared.scene.ServiceStep.TheVariants as service_steps
 use Rattle.kob_scene_text.specs.declared.scene.Taking.TheVariants as takings
 
@@ -185,12 +183,6 @@ IsConsumerTick loss old new before after tick =
 
 -- What the steps of a scene do, and what they print.
 
--- what becomes of the first call of a tick
-abbrev pub loss_for : Option Lost → Loss
-loss_for None = losses.None
-loss_for (Some lost.Request) = losses.BeforeServe
-loss_for (Some lost.Reply) = losses.AfterServe
-
 -- a run of ticks goes on after one that moved the mark, or that has to be made again
 abbrev pub goes_on_after : RouterAnswer → Bool
 goes_on_after (answers.Moved seq) = true
@@ -325,17 +317,17 @@ abbrev pub visible_text : ℕ → List ℕ
 visible_text count = codes " ok visible " ++ decimal count
 
 -- one tick of a service's router, and its answer
-abbrev pub IsServiceAnswer : Option Lost → RouterAnswer → Service → Service → Record → Record → ℕ → ℕ
+abbrev pub IsServiceAnswer : Loss → RouterAnswer → Service → Service → Record → Record → ℕ → ℕ
     → List ℕ → Type 0
-IsServiceAnswer lost tick old new before after told then_told text =
-    IsServiceTick (loss_for lost) old new before after tick
+IsServiceAnswer loss tick old new before after told then_told text =
+    IsServiceTick loss old new before after tick
     × IsPrinted (service_line before after tick) told then_told text
 
 -- one tick of a consumer, and its answer
-abbrev pub IsConsumerAnswer : Option Lost → ConsumerAnswer → Consumer → Consumer → Record → Record
+abbrev pub IsConsumerAnswer : Loss → ConsumerAnswer → Consumer → Consumer → Record → Record
     → ℕ → ℕ → List ℕ → Type 0
-IsConsumerAnswer lost tick old new before after told then_told text =
-    IsConsumerTick (loss_for lost) old new before after tick
+IsConsumerAnswer loss tick old new before after told then_told text =
+    IsConsumerTick loss old new before after tick
     × IsPrinted (consumer_line before after tick) told then_told text
 
 -- what a step of a service does that makes no tick, and the text that it prints; before it so many
@@ -343,7 +335,7 @@ IsConsumerAnswer lost tick old new before after told then_told text =
 abbrev pub IsServiceChange : ServiceStep → Service → Service → ℕ → ℕ → List ℕ → Type 0
 IsServiceChange (service_steps.Record change event recording) old new told then_told text =
     IsRecord recording change event old new told then_told text
-IsServiceChange (service_steps.Tick lost) old new told then_told text = ⊥
+IsServiceChange (service_steps.Tick loss) old new told then_told text = ⊥
 IsServiceChange service_steps.Run old new told then_told text = ⊥
 IsServiceChange service_steps.Restart old new told then_told text =
     Does routing.Move.Restarted old new × IsPrinted (codes " ok restarted") told then_told text
@@ -366,8 +358,8 @@ IsServiceChange service_steps.Visible old new told then_told text =
 -- what a step of a service does, and the text that it prints; without a tick the journal stays
 abbrev pub IsServiceStep : ServiceStep → Service → Service → Record → Record → ℕ → ℕ → List ℕ
     → Type 0
-IsServiceStep (service_steps.Tick lost) old new before after told then_told text =
-    (tick : RouterAnswer) × IsServiceAnswer lost tick old new before after told then_told text
+IsServiceStep (service_steps.Tick loss) old new before after told then_told text =
+    (tick : RouterAnswer) × IsServiceAnswer loss tick old new before after told then_told text
 IsServiceStep service_steps.Run old new before after told then_told text =
     (ticks : List RouterAnswer)
     × AreTicks (IsServiceTick losses.None) service_line ticks old new before after told
@@ -378,7 +370,7 @@ IsServiceStep step old new before after told then_told text =
 
 -- what a step of a consumer does that makes no tick, and the text that it prints
 abbrev pub IsConsumerChange : ConsumerStep → Consumer → Consumer → ℕ → ℕ → List ℕ → Type 0
-IsConsumerChange (consumer_steps.Tick lost) old new told then_told text = ⊥
+IsConsumerChange (consumer_steps.Tick loss) old new told then_told text = ⊥
 IsConsumerChange consumer_steps.Run old new told then_told text = ⊥
 IsConsumerChange consumer_steps.Restart old new told then_told text =
     Restarts old new × IsPrinted (codes " ok restarted") told then_told text
@@ -392,8 +384,8 @@ IsConsumerChange consumer_steps.Inbox old new told then_told text =
 -- what a step of a consumer does, and the text that it prints; without a tick the journal stays
 abbrev pub IsConsumerStep : ConsumerStep → Consumer → Consumer → Record → Record → ℕ → ℕ → List ℕ
     → Type 0
-IsConsumerStep (consumer_steps.Tick lost) old new before after told then_told text =
-    (tick : ConsumerAnswer) × IsConsumerAnswer lost tick old new before after told then_told text
+IsConsumerStep (consumer_steps.Tick loss) old new before after told then_told text =
+    (tick : ConsumerAnswer) × IsConsumerAnswer loss tick old new before after told then_told text
 IsConsumerStep consumer_steps.Run old new before after told then_told text =
     (ticks : List ConsumerAnswer)
     × AreTicks (IsConsumerTick losses.None) consumer_line ticks old new before after told
@@ -403,17 +395,17 @@ IsConsumerStep step old new before after told then_told text =
     (after ≡ before) × IsConsumerChange step old new told then_told text
 
 -- a tick of a service and its answer, and whether the next tick has something to do
-abbrev pub IsTold : Option Lost → Bool → Service → Service → Record → Record → ℕ → ℕ → List ℕ
+abbrev pub IsTold : Loss → Bool → Service → Service → Record → Record → ℕ → ℕ → List ℕ
     → List ℕ → Type 0
-IsTold lost goes_on old new before after told then_told held then_held =
+IsTold loss goes_on old new before after told then_told held then_held =
     (tick : RouterAnswer)
     × (goes_on ≡ goes_on_after tick)
-    × Tells (IsServiceAnswer lost tick old new before after told then_told) held then_held
+    × Tells (IsServiceAnswer loss tick old new before after told then_told) held then_held
 
 -- a tick of a consumer and its answer, and what it leaves to do
-abbrev pub IsReadOnce : Option Lost → Left → Consumer → Consumer → Record → Record → ℕ → ℕ → List ℕ
+abbrev pub IsReadOnce : Loss → Left → Consumer → Consumer → Record → Record → ℕ → ℕ → List ℕ
     → List ℕ → Type 0
-IsReadOnce lost rest old new before after told then_told held then_held =
+IsReadOnce loss rest old new before after told then_told held then_held =
     (tick : ConsumerAnswer)
     × (rest ≡ left_after tick)
-    × Tells (IsConsumerAnswer lost tick old new before after told then_told) held then_held
+    × Tells (IsConsumerAnswer loss tick old new before after told then_told) held then_held

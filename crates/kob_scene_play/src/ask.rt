@@ -4,9 +4,9 @@ ghost use Rattle.std.specs.Prelude.{◌≡◌, IfOk, IfSome};
 ghost use Rattle.kob_rights.specs.Requests.{Fits, OffsetsWithin};
 ghost use Rattle.kob_scene_play.specs.Asked.{IsAsked, committed_by};
 
-use kob_inbox::{StopReason, Tick};
-use kob_lines::Loss;
+use kob_inbox::Tick;
 use kob_rights::{Event, Reply};
+use kob_router::{Loss, StopReason};
 use kob_shared::{CallFault, Recorded};
 use std::alloc::Global;
 
@@ -42,14 +42,11 @@ pub(crate) fn ask(
 pub(crate) fn committed_by(heard: Option<Reply>) -> Tick
     ensures { result ≡ committed_by heard }
 {
-    match heard {
-        None => Tick::Repeat,
-        Some(Reply::Done(_)) => Tick::Committed,
-        Some(Reply::Denied { code, verdicts }) => {
-            Tick::Stopped(StopReason::Denied { code, verdicts })
-        }
-        Some(Reply::Refused { code, reason }) => {
-            Tick::Stopped(StopReason::Refused { code, reason })
-        }
+    let Some(reply) = heard else {
+        return Tick::Repeat;
+    };
+    match reply {
+        Reply::Done(_) => Tick::Committed,
+        reply => Tick::Stopped(StopReason::Rejected(reply)),
     }
 }

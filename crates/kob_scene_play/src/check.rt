@@ -16,9 +16,9 @@ use crate::output::Output;
 use crate::service_worker::ServiceWorker;
 use crate::stage::Stage;
 use kob_delivery_check::{
-    DoubledRow, Early, EarlyRecord, Fate, Found, Loss, Reach, Stored, doubled_rows, early_records,
-    early_rows, fates_of, losses_of, print_check, reaches_by, records_ahead, records_of,
-    repeats_of, unrecorded_of,
+    DoubledRow, Early, EarlyRecord, Fate, Found, LostEvent, Reach, Stored, doubled_rows,
+    early_records, early_rows, fates_of, losses_of, print_check, reaches_by, records_ahead,
+    records_of, repeats_of, unrecorded_of,
 };
 use kob_outbox::OutboxEvent;
 use kob_shared::Journal;
@@ -98,7 +98,7 @@ fn losses_at(
     sender: &ServiceWorker<'_>,
     taker: &mut ConsumerWorker,
     fates: &[Fate],
-) -> Result<Vec<Loss>, PlayFault>
+) -> Result<Vec<LostEvent>, PlayFault>
     ensures losses { IfOk result
         (λ losses. AreLosses sender.now taker.old journal.now fates.now losses.items) }
     ensures same { taker.new ≡ taker.old }

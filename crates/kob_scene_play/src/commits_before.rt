@@ -11,9 +11,9 @@ ghost use Rattle.kob_scene_play.specs.Takings.{asked_next, held_or, with_held};
 ghost use Rattle.kob_scene_play.specs.declared.holding.Holding.TheVariants.{Nothing};
 
 use crate::ask::committed_by;
-use crate::fault::PlayFault;
+use crate::fault::{PlayFault, stop_of_consumer};
 use crate::holding::{Held, Holding, held_of};
-use kob_inbox::{Consumer, StopReason, Tick};
+use kob_inbox::{Consumer, Tick};
 use kob_lines::Receiver;
 use kob_names::PlainValue;
 use kob_rights::{Body, Event, Fetch, Reply, Request};
@@ -178,9 +178,7 @@ fn took(tick: Tick) -> Result<u64, PlayFault>
 {
     match tick {
         Tick::Took(count) => Ok(count),
-        Tick::Stopped(StopReason::Memory(refused)) => Err(PlayFault::Memory(refused)),
-        Tick::Stopped(StopReason::Store) => Err(PlayFault::Store),
-        _ => Err(PlayFault::NotDue),
+        tick => Err(stop_of_consumer(&tick).unwrap_or(PlayFault::NotDue)),
     }
 }
 

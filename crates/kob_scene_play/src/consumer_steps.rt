@@ -10,9 +10,10 @@ use crate::consumer_worker::ConsumerWorker;
 use crate::fault::PlayFault;
 use crate::needs::last_needs;
 use crate::output::Output;
-use crate::service_steps::{RUN_LIMIT, loss_of};
+use crate::service_steps::RUN_LIMIT;
 use kob_inbox::Tick;
-use kob_scene_text::{ConsumerStep, Lost, print_consumer_tick, print_inbox, print_restarted};
+use kob_router::Loss;
+use kob_scene_text::{ConsumerStep, print_consumer_tick, print_inbox, print_restarted};
 use kob_shared::Recorded;
 use std::alloc::{AllocError, Global};
 
@@ -40,8 +41,8 @@ pub(crate) fn play_consumer(
         recorded.new out.old.told out.new.told) out.old.text.items out.new.text.items) }
 {
     match step {
-        ConsumerStep::Tick(lost) => {
-            tick(alloc, recorded, consumer, *lost, out)?;
+        ConsumerStep::Tick(loss) => {
+            tick(alloc, recorded, consumer, *loss, out)?;
             Ok(())
         }
         ConsumerStep::Run => run(alloc, recorded, consumer, out),
@@ -54,15 +55,15 @@ fn tick(
     alloc: Global,
     recorded: &mut Recorded,
     consumer: &mut ConsumerWorker,
-    lost: Option<Lost>,
+    loss: Loss,
     out: &mut Output,
 ) -> Result<Left, PlayFault>
-    ensures { IfOk result (λ left. IsReadOnce lost left consumer.old consumer.new
+    ensures { IfOk result (λ left. IsReadOnce loss left consumer.old consumer.new
         recorded.old recorded.new out.old.told out.new.told out.old.text.items
         out.new.text.items) }
 {
     let before = recorded.journal().len();
-    let tick = consumer.tick(alloc, recorded, loss_of(lost))?;
+    let tick = consumer.tick(alloc, recorded, loss)?;
     let left = left_by(&tick);
     let lacks = lacks_of(alloc, &tick, before, recorded)?;
     let number = out.number();
@@ -126,7 +127,7 @@ fn run(
     let partitions = consumer.subscription().assignment.len();
     let mut idle = 0;
     for _ in 0..RUN_LIMIT {
-        let left = tick(alloc, recorded, consumer, None, out)?;
+        let left = tick(alloc, recorded, consumer, Loss::None, out)?;
         let Some(in_row) = idle_with(partitions, left, idle) else {
             return Ok(());
         };

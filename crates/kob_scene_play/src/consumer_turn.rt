@@ -1,7 +1,6 @@
 //! One step of a consumer, by how it takes in.
 
 ghost use Rattle.std.specs.Prelude.{◌≡◌, IfOk, OnOk};
-ghost use Rattle.kob_scene_play.specs.Faults.{stop_of_consumer};
 ghost use Rattle.kob_scene_play.specs.Steps.{IsAheadTick, IsCalled, IsOwnTick, IsTakingTick};
 ghost use Rattle.kob_scene_play.specs.Takings.{asked_event, inbox_by, inbox_with};
 ghost use Rattle.kob_scene_text.specs.declared.scene.Taking.TheVariants.{CommitsBefore};
@@ -9,10 +8,10 @@ ghost use Rattle.kob_scene_text.specs.declared.scene.Taking.TheVariants.{Commits
 use crate::ask::ask;
 use crate::commits_before::{handle_reply, take_held};
 use crate::consumer_worker::ConsumerWorker;
-use crate::fault::{PlayFault, line_fault, loses_first, unless};
+use crate::fault::{PlayFault, line_fault, loses_first, stop_of_consumer, unless};
 use crate::holding::asked_next;
 use crate::line::take_over;
-use kob_inbox::{StopReason, Tick};
+use kob_inbox::Tick;
 use kob_lines::{Connection, Loss, LossyServer, RecordedLine, RecordedServer};
 use kob_names::PlainValue;
 use kob_rights::Event;
@@ -91,7 +90,7 @@ impl ConsumerWorker {
         let mut line = Connection::new(alloc, LossyServer { line: below, loss });
         let tick = take_over(&mut self.receiver, alloc, &mut line);
         let line_fault = line_fault(line.calls.fault, line.server.line.calls.fault);
-        let fault = stopped_by(&tick).or(line_fault);
+        let fault = stop_of_consumer(&tick).or(line_fault);
         let is_lost = loses_first(loss, &line.calls.made);
         let (
             LossyServer {
@@ -148,16 +147,5 @@ impl ConsumerWorker {
         };
         let event = event_of(alloc, &self.principal, &self.host, request)?;
         Ok(Some(event))
-    }
-}
-
-/// Why a tick stopped that ran out of memory or whose database failed.
-fn stopped_by(tick: &Tick) -> Option<PlayFault>
-    ensures { result ≡ stop_of_consumer tick.now }
-{
-    match tick {
-        Tick::Stopped(StopReason::Memory(refused)) => Some(PlayFault::Memory(*refused)),
-        Tick::Stopped(StopReason::Store) => Some(PlayFault::Store),
-        _ => None,
     }
 }

@@ -6,9 +6,8 @@ ghost use Rattle.kob_scene_play.specs.Faults.{line_fault, unless_failed};
 ghost use Rattle.kob_scene_play.specs.Steps.{LosesFirst};
 
 use kob_inbox::InboxFault;
-use kob_lines::Loss;
 use kob_outbox::OutboxFault;
-use kob_router::{Call, StopReason, Tick};
+use kob_router::{Call, Loss, StopReason};
 use kob_shared::CallFault;
 use std::alloc::{AllocError, AllocFailed};
 use thiserror::Error;
@@ -164,15 +163,35 @@ pub(crate) fn unless<T: Drop>(
     }
 }
 
-ghost use Rattle.kob_scene_play.specs.Faults.{stop_of_service};
+ghost use Rattle.kob_scene_play.specs.Faults.{fault_of_stop, stop_of_consumer, stop_of_service};
 
-/// Why a tick of a service stopped that ran out of memory or whose database failed.
-pub(crate) fn stop_of_service(tick: &Tick) -> Option<PlayFault>
+/// The fault, if a tick ran out of memory or its database failed.
+fn fault_of_stop(reason: &StopReason) -> Option<PlayFault>
+    ensures { result ≡ fault_of_stop reason.now }
+{
+    match reason {
+        StopReason::Memory(refused) => Some(PlayFault::Memory(*refused)),
+        StopReason::Store => Some(PlayFault::Store),
+        _ => None,
+    }
+}
+
+/// The fault of a tick of a service.
+pub(crate) fn stop_of_service(tick: &kob_router::Tick) -> Option<PlayFault>
     ensures { result ≡ stop_of_service tick.now }
 {
     match tick {
-        Tick::Stopped(StopReason::Memory(refused)) => Some(PlayFault::Memory(*refused)),
-        Tick::Stopped(StopReason::Store) => Some(PlayFault::Store),
+        kob_router::Tick::Stopped(reason) => fault_of_stop(reason),
+        _ => None,
+    }
+}
+
+/// The fault of a tick of a consumer.
+pub(crate) fn stop_of_consumer(tick: &kob_inbox::Tick) -> Option<PlayFault>
+    ensures { result ≡ stop_of_consumer tick.now }
+{
+    match tick {
+        kob_inbox::Tick::Stopped(reason) => fault_of_stop(reason),
         _ => None,
     }
 }

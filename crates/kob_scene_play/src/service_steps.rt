@@ -4,7 +4,7 @@ ghost use Rattle.std.specs.Prelude.{◌≡◌, IfOk, OnOk};
 ghost use Rattle.kob_scene_play.specs.Steps.{IsPrinted};
 ghost use Rattle.kob_scene_text.specs.PrintedRows.{recorded_text};
 ghost use Rattle.kob_scene_play.specs.Steps.{IsServiceChange, IsServiceStep, IsTold, Tells};
-ghost use Rattle.kob_scene_play.specs.Steps.{goes_on_after, loss_for, service_lacks};
+ghost use Rattle.kob_scene_play.specs.Steps.{goes_on_after, service_lacks};
 ghost use Rattle.kob_scene_play.specs.Forms.{last_needs};
 ghost use Rattle.kob_scene_text.specs.declared.scene.Recording.TheVariants as recordings;
 ghost use Rattle.kob_scene_text.specs.declared.scene.ServiceStep.TheVariants as service_steps;
@@ -13,12 +13,11 @@ use crate::fault::PlayFault;
 use crate::needs::last_needs;
 use crate::output::Output;
 use crate::service_worker::ServiceWorker;
-use kob_lines::Loss;
 use kob_names::Text;
 use kob_outbox::{Change, OutboxEvent, RecordFault};
-use kob_router::Tick;
+use kob_router::{Loss, Tick};
 use kob_scene_text::{
-    Lost, Recording, ServiceStep, print_crashed, print_outbox, print_recorded, print_restarted,
+    Recording, ServiceStep, print_crashed, print_outbox, print_recorded, print_restarted,
     print_service_tick, print_state, print_swept, print_visible,
 };
 use kob_shared::Recorded;
@@ -43,8 +42,8 @@ pub(crate) fn play_service<'s>(
         ServiceStep::Record(change, event, recording) => {
             record_as(service, change, event, *recording, out)
         }
-        ServiceStep::Tick(lost) => {
-            tick(alloc, recorded, service, *lost, out)?;
+        ServiceStep::Tick(loss) => {
+            tick(alloc, recorded, service, *loss, out)?;
             Ok(())
         }
         ServiceStep::Run => run(alloc, recorded, service, out),
@@ -167,15 +166,15 @@ fn tick(
     alloc: Global,
     recorded: &mut Recorded,
     service: &mut ServiceWorker<'_>,
-    lost: Option<Lost>,
+    loss: Loss,
     out: &mut Output,
 ) -> Result<bool, PlayFault>
-    ensures { IfOk result (λ goes_on. IsTold lost goes_on service.old service.new
+    ensures { IfOk result (λ goes_on. IsTold loss goes_on service.old service.new
         recorded.old recorded.new out.old.told out.new.told out.old.text.items
         out.new.text.items) }
 {
     let before = recorded.journal().len();
-    let tick = service.tick(alloc, recorded, loss_of(lost))?;
+    let tick = service.tick(alloc, recorded, loss)?;
     let goes_on = goes_on(&tick);
     let lacks = lacks_of(alloc, &tick, before, recorded)?;
     let number = out.number();
@@ -225,7 +224,7 @@ fn run(
         out.new.text.items) }
 {
     for _ in 0..RUN_LIMIT {
-        if !tick(alloc, recorded, service, None, out)? {
+        if !tick(alloc, recorded, service, Loss::None, out)? {
             return Ok(());
         }
     }
@@ -282,15 +281,4 @@ fn show_state(
     print_state(&mut out.text, number, &state)?;
     out.tell();
     Ok(())
-}
-
-/// What becomes of the first call of a tick.
-pub(crate) fn loss_of(lost: Option<Lost>) -> Loss
-    ensures { result ≡ loss_for lost }
-{
-    match lost {
-        None => Loss::None,
-        Some(Lost::Request) => Loss::BeforeServe,
-        Some(Lost::Reply) => Loss::AfterServe,
-    }
 }

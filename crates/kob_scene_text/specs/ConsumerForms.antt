@@ -6,7 +6,6 @@ use Rattle.kob_scene_text.specs.declared.forms.Keyword.{Keyword}
 use Rattle.kob_scene_text.specs.declared.forms.Keyword.TheVariants as keyword
 use Rattle.kob_scene_text.specs.declared.forms.Part.{Part}
 use Rattle.kob_scene_text.specs.declared.forms.Part.TheVariants.{One, After, OrEnd, Each}
-use Rattle.kob_scene_text.specs.declared.forms.Slot.{Slot}
 use Rattle.kob_scene_text.specs.declared.forms.Slot.TheVariants as slot
 
 -- NAME PRINCIPAL HOST group GROUP max N [start latest], a variant or not, and

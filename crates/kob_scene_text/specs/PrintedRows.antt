@@ -11,12 +11,11 @@ use Rattle.kob_inbox.specs.declared.tick.Tick.{Tick as ConsumerTick}
 use Rattle.kob_outbox.specs.declared.fault.RecordFault.{RecordFault}
 use Rattle.kob_outbox.specs.declared.fault.RecordFault.TheVariants.{BadField, DuplicateId, Memory, Store}
 use Rattle.kob_outbox.specs.declared.fields.Column.{Column}
-use Rattle.kob_rights.specs.declared.reply.Reply.TheVariants.{Denied, Refused}
 use Rattle.kob_router.specs.declared.tick.Tick.{Tick as ServiceTick}
-use Rattle.kob_inbox.specs.declared.tick.StopReason.TheVariants as consumer_stop
 use Rattle.kob_inbox.specs.declared.tick.Tick.TheVariants as consumer_tick
 use Rattle.kob_outbox.specs.declared.fields.Column.TheVariants as columns
-use Rattle.kob_router.specs.declared.tick.StopReason.TheVariants as service_stop
+use Rattle.kob_router.specs.declared.tick.StopReason.{StopReason}
+use Rattle.kob_router.specs.declared.tick.StopReason.TheVariants as stop
 use Rattle.kob_router.specs.declared.tick.Tick.TheVariants as service_tick
 
 -- a text after a space
@@ -97,18 +96,19 @@ abbrev pub crashed_text : Result (Unit {0}) RecordFault → List ℕ
 crashed_text (Ok done) = codes " crashed"
 crashed_text (Err fault) = recorded_text (Err fault)
 
+-- why a tick stopped
+abbrev pub stop_text : StopReason → List ℕ
+stop_text (stop.Rejected reply) = codes " stopped" ++ outcome_text reply
+stop_text stop.BadTopic = codes " stopped bad-topic"
+stop_text (stop.Memory e) = codes " stopped memory"
+stop_text stop.Store = codes " stopped store"
+
 -- what a tick of a service came to
 abbrev pub service_tick_text : ServiceTick → List ℕ
 service_tick_text (service_tick.Moved seq) = codes " moved " ++ decimal seq
 service_tick_text service_tick.Idle = codes " idle"
 service_tick_text service_tick.Repeat = codes " repeat"
-service_tick_text (service_tick.Stopped (service_stop.Denied code verdicts)) =
-    codes " stopped" ++ outcome_text (Denied code verdicts)
-service_tick_text (service_tick.Stopped (service_stop.Refused code reason)) =
-    codes " stopped" ++ outcome_text (Refused code reason)
-service_tick_text (service_tick.Stopped service_stop.BadTopic) = codes " stopped bad-topic"
-service_tick_text (service_tick.Stopped (service_stop.Memory e)) = codes " stopped memory"
-service_tick_text (service_tick.Stopped service_stop.Store) = codes " stopped store"
+service_tick_text (service_tick.Stopped reason) = stop_text reason
 
 -- what a tick of a consumer came to
 abbrev pub consumer_tick_text : ConsumerTick → List ℕ
@@ -117,12 +117,7 @@ consumer_tick_text (consumer_tick.Took count) = codes " took " ++ decimal count
 consumer_tick_text consumer_tick.Committed = codes " committed"
 consumer_tick_text consumer_tick.Idle = codes " idle"
 consumer_tick_text consumer_tick.Repeat = codes " repeat"
-consumer_tick_text (consumer_tick.Stopped (consumer_stop.Denied code verdicts)) =
-    codes " stopped" ++ outcome_text (Denied code verdicts)
-consumer_tick_text (consumer_tick.Stopped (consumer_stop.Refused code reason)) =
-    codes " stopped" ++ outcome_text (Refused code reason)
-consumer_tick_text (consumer_tick.Stopped (consumer_stop.Memory e)) = codes " stopped memory"
-consumer_tick_text (consumer_tick.Stopped consumer_stop.Store) = codes " stopped store"
+consumer_tick_text (consumer_tick.Stopped reason) = stop_text reason
 
 -- a line of output
 abbrev pub numbered : ℕ → List ℕ → List ℕ

@@ -12,7 +12,7 @@ use Rattle.kob_scene_text.specs.declared.fault.SceneFaultKind.TheVariants.{BadId
 use Rattle.kob_scene_text.specs.declared.scene.ConsumerStep.{ConsumerStep}
 use Rattle.kob_scene_text.specs.declared.scene.Expected.{Expected}
 use Rattle.kob_scene_text.specs.declared.scene.Expected.TheVariants as expectations
-use Rattle.kob_scene_text.specs.declared.scene.Lost.{Lost}
+use Rattle.kob_router.specs.declared.line.Loss.{Loss}
 use Rattle.kob_scene_text.specs.declared.scene.Recording.{Recording}
 use Rattle.kob_scene_text.specs.declared.scene.Recording.TheVariants.{Whole, Crash, Late}
 use Rattle.kob_scene_text.specs.declared.scene.Sending.{Sending}
@@ -25,7 +25,7 @@ use Rattle.kob_scene_text.specs.declared.name.Worker.{Worker}
 use Rattle.kob_scene_text.specs.declared.line.Head.{Head}
 use Rattle.kob_scene_text.specs.declared.line.Head.TheVariants.{Setting, Service, Consumer, Journal, Law, Check, Expect, Of, Unknown, Request}
 use Rattle.kob_scene_text.specs.declared.scene.ConsumerStep.TheVariants as consumer_steps
-use Rattle.kob_scene_text.specs.declared.scene.Lost.TheVariants as losses
+use Rattle.kob_router.specs.declared.line.Loss.TheVariants as losses
 use Rattle.kob_scene_text.specs.declared.scene.ServiceStep.TheVariants as service_steps
 use Rattle.kob_scene_text.specs.declared.step_names.StepName.{StepName}
 use Rattle.kob_scene_text.specs.declared.step_names.StepName.TheVariants as steps
@@ -55,12 +55,12 @@ service_told (service_steps.Business kind key) = Plain (service_steps.Business k
 service_told service_steps.Visible = Plain service_steps.Visible
 
 -- [lose-request|lose-reply]
-abbrev pub lost_of : List Word → Result (Option Lost) FaultKind
-lost_of [] = Ok None
-lost_of (word ∷ []) =
-    if bytes_eq word.decoded (codes "lose-request") then Ok (Some losses.Request)
-    else (if bytes_eq word.decoded (codes "lose-reply") then Ok (Some losses.Reply) else Err BadLine)
-lost_of (word ∷ other ∷ words) = Err BadLine
+abbrev pub loss_of : List Word → Result Loss FaultKind
+loss_of [] = Ok losses.None
+loss_of (word ∷ []) =
+    if bytes_eq word.decoded (codes "lose-request") then Ok losses.BeforeServe
+    else (if bytes_eq word.decoded (codes "lose-reply") then Ok losses.AfterServe else Err BadLine)
+loss_of (word ∷ other ∷ words) = Err BadLine
 
 -- a UUID in one of its forms
 abbrev pub id_in : Option (List ℕ) → Result (List ℕ) SceneFaultKind
@@ -156,7 +156,7 @@ visible_of false words = Err BadLine
 abbrev pub service_line : Sending → StepName → List Word → Result ServiceTold SceneFaultKind
 service_line sending steps.Record words = record_of sending words
 service_line sending steps.Tick words =
-    as_scripts (lost_of words >>= λ lost. Ok (Plain (service_steps.Tick lost)))
+    as_scripts (loss_of words >>= λ loss. Ok (Plain (service_steps.Tick loss)))
 service_line sending steps.Run words = as_scripts (alone (Plain service_steps.Run) words)
 service_line sending steps.Restart words = as_scripts (alone (Plain service_steps.Restart) words)
 service_line sending steps.Sweep words = as_scripts (alone (Plain service_steps.Sweep) words)
@@ -179,7 +179,7 @@ service_step_of sending (name ∷ words) =
 -- a step of a consumer, by the words behind its name
 abbrev pub consumer_line : StepName → List Word → Result ConsumerStep FaultKind
 consumer_line steps.Record words = Err BadLine
-consumer_line steps.Tick words = lost_of words >>= λ lost. Ok (consumer_steps.Tick lost)
+consumer_line steps.Tick words = loss_of words >>= λ loss. Ok (consumer_steps.Tick loss)
 consumer_line steps.Run words = alone consumer_steps.Run words
 consumer_line steps.Restart words = alone consumer_steps.Restart words
 consumer_line steps.Sweep words = Err BadLine

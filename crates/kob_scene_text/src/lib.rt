@@ -40,6 +40,6 @@ pub use printed_tick::{
 };
 pub use reading::read_scene;
 pub use scene::{
-    Consumer, ConsumerStep, Expected, Lost, Recording, Routed, Scene, Sending, Service,
-    ServiceStep, Start, Step, Taking,
+    Consumer, ConsumerStep, Expected, Recording, Routed, Scene, Sending, Service, ServiceStep,
+    Start, Step, Taking,
 };

@@ -4,10 +4,10 @@ ghost use Rattle.std.specs.Prelude.{◌≡◌, ◌++◌, OnOk, codes};
 ghost use Rattle.std.specs.Fmt.{decimal};
 ghost use Rattle.kob_scene_text.specs.PrintedRows.{bad_field_text, consumer_tick_text, numbered};
 ghost use Rattle.kob_scene_text.specs.PrintedRows.{crashed_text, recorded_text};
-ghost use Rattle.kob_scene_text.specs.PrintedRows.{service_tick_text};
+ghost use Rattle.kob_scene_text.specs.PrintedRows.{service_tick_text, stop_text};
 
 use kob_outbox::{Column, RecordFault};
-use kob_rights::Reply;
+use kob_router::StopReason;
 use kob_script::push_outcome;
 use kob_words::push_number;
 use std::alloc::AllocError;
@@ -38,38 +38,23 @@ fn push_service_tick(out: &mut Vec<u8>, tick: kob_router::Tick) -> Result<(), Al
         kob_router::Tick::Moved(seq) => push_counted(out, b" moved ", seq),
         kob_router::Tick::Idle => out.extend_from_slice(b" idle"),
         kob_router::Tick::Repeat => out.extend_from_slice(b" repeat"),
-        kob_router::Tick::Stopped(reason) => push_service_stop(out, reason),
+        kob_router::Tick::Stopped(reason) => push_stop(out, &reason),
     }
 }
-
-ghost use Rattle.kob_router.specs.declared.tick.Tick.TheVariants as service_tick;
-
-fn push_service_stop(out: &mut Vec<u8>, reason: kob_router::StopReason) -> Result<(), AllocError>
-    ensures { OnOk result (out.new.items
-        ≡ out.old.items ++ service_tick_text (service_tick.Stopped reason)) }
-{
-    match reason {
-        kob_router::StopReason::Denied { code, verdicts } => {
-            push_stopped(out, &Reply::Denied { code, verdicts })
-        }
-        kob_router::StopReason::Refused { code, reason } => {
-            push_stopped(out, &Reply::Refused { code, reason })
-        }
-        kob_router::StopReason::BadTopic => out.extend_from_slice(b" stopped bad-topic"),
-        kob_router::StopReason::Memory(_) => out.extend_from_slice(b" stopped memory"),
-        kob_router::StopReason::Store => out.extend_from_slice(b" stopped store"),
-    }
-}
-
-ghost use Rattle.kob_script.specs.Printed.{outcome_text};
 
 #[tactic(auto, using(kob_words::proofs::Appending::appending))]
-fn push_stopped(out: &mut Vec<u8>, reply: &Reply) -> Result<(), AllocError>
-    ensures { OnOk result (out.new.items
-        ≡ out.old.items ++ (codes " stopped" ++ outcome_text reply.now)) }
+fn push_stop(out: &mut Vec<u8>, reason: &StopReason) -> Result<(), AllocError>
+    ensures { OnOk result (out.new.items ≡ out.old.items ++ stop_text reason.now) }
 {
-    out.extend_from_slice(b" stopped")?;
-    push_outcome(out, reply)
+    match reason {
+        StopReason::Rejected(reply) => {
+            out.extend_from_slice(b" stopped")?;
+            push_outcome(out, reply)
+        }
+        StopReason::BadTopic => out.extend_from_slice(b" stopped bad-topic"),
+        StopReason::Memory(_) => out.extend_from_slice(b" stopped memory"),
+        StopReason::Store => out.extend_from_slice(b" stopped store"),
+    }
 }
 
 #[tactic(auto, using(kob_words::proofs::Appending::appending))]
@@ -127,25 +112,7 @@ fn push_consumer_tick(out: &mut Vec<u8>, tick: kob_inbox::Tick) -> Result<(), Al
         kob_inbox::Tick::Committed => out.extend_from_slice(b" committed"),
         kob_inbox::Tick::Idle => out.extend_from_slice(b" idle"),
         kob_inbox::Tick::Repeat => out.extend_from_slice(b" repeat"),
-        kob_inbox::Tick::Stopped(reason) => push_consumer_stop(out, reason),
-    }
-}
-
-ghost use Rattle.kob_inbox.specs.declared.tick.Tick.TheVariants as consumer_tick;
-
-fn push_consumer_stop(out: &mut Vec<u8>, reason: kob_inbox::StopReason) -> Result<(), AllocError>
-    ensures { OnOk result (out.new.items
-        ≡ out.old.items ++ consumer_tick_text (consumer_tick.Stopped reason)) }
-{
-    match reason {
-        kob_inbox::StopReason::Denied { code, verdicts } => {
-            push_stopped(out, &Reply::Denied { code, verdicts })
-        }
-        kob_inbox::StopReason::Refused { code, reason } => {
-            push_stopped(out, &Reply::Refused { code, reason })
-        }
-        kob_inbox::StopReason::Memory(_) => out.extend_from_slice(b" stopped memory"),
-        kob_inbox::StopReason::Store => out.extend_from_slice(b" stopped store"),
+        kob_inbox::Tick::Stopped(reason) => push_stop(out, &reason),
     }
 }
 

@@ -6,7 +6,7 @@ use kob_inbox::Subscription;
 use kob_names::{Host, Principal, Settings, Text};
 use kob_outbox::{Change, OutboxEvent};
 use kob_rights::Event;
-use kob_router::{Route, RouteSettings, Target};
+use kob_router::{Loss, Route, RouteSettings, Target};
 use std::marker::Model;
 use uuid::Uuid;
 
@@ -235,15 +235,6 @@ pub enum Expected {
     Order,
 }
 
-/// Which message of a tick's first call is lost.
-#[derive(Clone, Copy)]
-pub enum Lost {
-    /// The request never reaches the broker.
-    Request,
-    /// The broker serves the request, and its reply is lost.
-    Reply,
-}
-
 /// How an event is recorded.
 #[derive(Clone, Copy, Debug, PartialEq, Eq)]
 pub enum Recording {
@@ -261,7 +252,7 @@ pub enum ServiceStep {
     /// Records a business row together with an outbox row, or as a variant does.
     Record(Change, OutboxEvent, Recording),
     /// One step of the router; a message of its first call may be lost.
-    Tick(Option<Lost>),
+    Tick(Loss),
     /// Makes ticks until one neither moves nor repeats.
     Run,
     Restart,
@@ -278,7 +269,7 @@ pub enum ServiceStep {
 #[derive(Drop)]
 pub enum ConsumerStep {
     /// One step of the consumer; a message of its first call may be lost.
-    Tick(Option<Lost>),
+    Tick(Loss),
     /// Makes ticks until a whole round of its partitions is idle, or until it stops.
     Run,
     Restart,

@@ -7,28 +7,29 @@ ghost use Rattle.kob_script.specs.Words.{Gives as ScriptGives, GivesSeen as Scri
 ghost use Rattle.kob_script.specs.Words.{text_of};
 ghost use Rattle.kob_scene_text.specs.Reading.{Gives, GivesSeen};
 ghost use Rattle.kob_scene_text.specs.Steps.{business_of, change_of, consumer_line};
-ghost use Rattle.kob_scene_text.specs.Steps.{consumer_step_of, event_of, id_of, lost_of};
+ghost use Rattle.kob_scene_text.specs.Steps.{consumer_step_of, event_of, id_of, loss_of};
 ghost use Rattle.kob_scene_text.specs.Steps.{id_in, record_of, record_with, recording_named};
 ghost use Rattle.kob_scene_text.specs.Steps.{recording_of, service_line, written_by};
 ghost use Rattle.kob_scene_text.specs.Steps.{expected_alone, expected_by, expected_of};
 ghost use Rattle.kob_scene_text.specs.Steps.{service_step_of, service_told, written};
 
 use crate::fault::{SceneFaultKind, StepError};
-use crate::scene::{ConsumerStep, Expected, Lost, Recording, Sending, ServiceStep};
+use crate::scene::{ConsumerStep, Expected, Recording, Sending, ServiceStep};
 use crate::step_names::{StepName, step_named};
 use kob_outbox::{Change, OutboxEvent};
+use kob_router::Loss;
 use kob_script::{FaultKind, LineError, Word, lent_text_of, text_of};
 use std::alloc::Global;
 use uuid::Uuid;
 
 /// Which message a tick loses, by the words after `tick`.
-fn lost_of(words: &[Word<'_>]) -> Result<Option<Lost>, LineError>
-    ensures { ScriptGives result (lost_of words.now) }
+fn loss_of(words: &[Word<'_>]) -> Result<Loss, LineError>
+    ensures { ScriptGives result (loss_of words.now) }
 {
     match words {
-        [] => Ok(None),
-        [word] if word.decoded() == b"lose-request".as_slice() => Ok(Some(Lost::Request)),
-        [word] if word.decoded() == b"lose-reply".as_slice() => Ok(Some(Lost::Reply)),
+        [] => Ok(Loss::None),
+        [word] if word.decoded() == b"lose-request".as_slice() => Ok(Loss::BeforeServe),
+        [word] if word.decoded() == b"lose-reply".as_slice() => Ok(Loss::AfterServe),
         _ => Err(LineError::Fault(FaultKind::BadLine)),
     }
 }
@@ -61,7 +62,7 @@ fn service_line(
 {
     match (step, words) {
         (StepName::Record, _) => record_step(alloc, sending, words),
-        (StepName::Tick, _) => Ok(ServiceStep::Tick(lost_of(words)?)),
+        (StepName::Tick, _) => Ok(ServiceStep::Tick(loss_of(words)?)),
         (StepName::Run, []) => Ok(ServiceStep::Run),
         (StepName::Restart, []) => Ok(ServiceStep::Restart),
         (StepName::Sweep, []) => Ok(ServiceStep::Sweep),
@@ -98,7 +99,7 @@ fn consumer_line(step: StepName, words: &[Word<'_>]) -> Result<ConsumerStep, Lin
     ensures { ScriptGives result (consumer_line step words.now) }
 {
     match (step, words) {
-        (StepName::Tick, _) => Ok(ConsumerStep::Tick(lost_of(words)?)),
+        (StepName::Tick, _) => Ok(ConsumerStep::Tick(loss_of(words)?)),
         (StepName::Run, []) => Ok(ConsumerStep::Run),
         (StepName::Restart, []) => Ok(ConsumerStep::Restart),
         (StepName::Inbox, []) => Ok(ConsumerStep::Inbox),

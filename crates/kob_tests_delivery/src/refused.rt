@@ -75,7 +75,7 @@ pub(crate) fn consumer_tick<L: Line>(
     let tick = consumer.tick(alloc, inbox, line);
     let came = match &tick {
         kob_inbox::Tick::Idle => Came::Idle,
-        kob_inbox::Tick::Stopped(kob_inbox::StopReason::Memory(_)) => Came::On,
+        kob_inbox::Tick::Stopped(kob_router::StopReason::Memory(_)) => Came::On,
         kob_inbox::Tick::Stopped(_) => Came::Stopped,
         _ => Came::On,
     };

@@ -1,4 +1,4 @@
-use Rattle.kob_router.proofs.Words.{nat_tests, List, Place, Sequence, after_use, ap, arith, cond-true, drop, drop_more, get_or, length, next_sequence, same_place, set, set_split, sym, take, true, ℕ, ◌++◌, ◌+◌, ◌<◌, ◌∙◌, ◌≡◌}
+use Rattle.kob_router.proofs.Words.{nat_tests, List, Place, Sequence, after_use, ap, arith, cond-true, drop, drop_more, get_or, length, next_sequence, same_place, set, set_split, sym, take, true, ℕ, ◌++◌, ◌<◌, ◌∙◌, ◌≡◌}
 use Rattle.kob_router.proofs.sequences.use_one.Goals as goal
 
 -- the first sequence of a place is used

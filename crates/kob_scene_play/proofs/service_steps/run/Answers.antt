@@ -1,6 +1,6 @@
 use Rattle.kob_scene_play.proofs.Words.{IsServiceTick, rules, service_goes_on, service_line, sym, ◌∙◌}
 use Rattle.kob_scene_play.proofs.Running.{last_tick, one_tick_more}
-use Rattle.kob_lines.specs.declared.lossy.Loss.TheVariants as losses
+use Rattle.kob_router.specs.declared.line.Loss.TheVariants as losses
 use Rattle.kob_scene_play.proofs.service_steps.run.Goals as goal
 
 pub returns-then-not-branch : goal.returns-then-not-branch

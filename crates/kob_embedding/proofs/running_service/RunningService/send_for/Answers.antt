@@ -1,4 +1,4 @@
-use Rattle.kob_embedding.proofs.Words.{rules, sym, ◌≡◌}
+use Rattle.kob_embedding.proofs.Words.{arith, rules, sym, ◌≡◌}
 use Rattle.kob_embedding.proofs.Endings.{none_waits, one_tick, one_try, sending_ends}
 use Rattle.kob_embedding.specs.Running.{at}
 use Rattle.kob_embedding.proofs.running_service.RunningService.send_for.Goals as goal
@@ -43,4 +43,5 @@ loop-preserved g c =
           (at was.relayed (g.L.Line.calls was.line) (g.L.Line.unmade was.line))
           (at now.relayed (g.L.Line.calls now.line) (g.L.Line.unmade now.line)) c.tick-tick.result c.loop.invariant.4
           c.tick-tick.ensures.done (sym c.in_default.ensures),
+      λ none. absurd (omega (arith, none)),
     )

@@ -12,3 +12,4 @@ invariant-loop g l =
     × g.L.Line.becomes l.fn.self.line l.self.line
     × Sending l.counter (at l.fn.self.relayed (g.L.Line.calls l.fn.self.line) (g.L.Line.unmade l.fn.self.line))
     (at l.self.relayed (g.L.Line.calls l.self.line) (g.L.Line.unmade l.self.line))
+    × (l.counter ≡ 0 → l.self ≡ l.fn.self)

@@ -1,6 +1,6 @@
 use Rattle.kob_pipeline.proofs.Words.{arith, get_or, get_or_from_slice_get, length, refl, slice_get-get_or, sym, ◌<◌, ◌∙◌}
 use Rattle.kob_pipeline.specs.declared.plan.ConsumerStep.TheVariants.{Tick}
-use Rattle.kob_lines.specs.declared.lossy.Loss.TheVariants.{None}
+use Rattle.kob_router.specs.declared.line.Loss.TheVariants.{None}
 use Rattle.kob_pipeline.proofs.Worked.{leads_more, no_step}
 use Rattle.kob_pipeline.proofs.consuming.Consuming.run.Goals as goal
 
