@@ -28,7 +28,7 @@ use Rattle.kob_router.specs.declared.tick.Tick as router_tick
 use Rattle.kob_router.specs.declared.tick.Tick.TheVariants as sent
 use Rattle.kob_router.specs.declared.tick.StopReason.{StopReason}
 use Rattle.kob_router.specs.declared.tick.StopReason.TheVariants as stops
-use Rattle.kob_rights.specs.declared.reply.Reply.TheVariants.{Refused}
+use Rattle.kob_rights.specs.declared.reply.Reply.TheVariants.{Done, Denied, Refused}
 
 -- a service: its outbox with its router, the calls of the lines that it handed out, and its line
 pub record Service (L : Type 0) : Type 0 where
@@ -138,10 +138,12 @@ fault_of_code _ = None
 
 -- why the work of taking records in ends at a step that stopped, if it does
 abbrev pub fault_of_stop : StopReason → Option ProgramFault
+fault_of_stop (stops.Rejected (Done body)) = None
+fault_of_stop (stops.Rejected (Denied code verdicts)) = None
 fault_of_stop (stops.Rejected (Refused code reason)) = fault_of_code code
+fault_of_stop stops.BadTopic = None
 fault_of_stop (stops.Memory refused) = Some (program.Memory refused)
 fault_of_stop stops.Store = Some program.Store
-fault_of_stop _ = None
 
 -- why it ends at a tick, if it does
 abbrev pub taking_after : Tick → Option ProgramFault

@@ -8,7 +8,7 @@ use Rattle.kob_router.specs.declared.sender.Sender.{Sender}
 use Rattle.kob_router.specs.declared.tick.Tick.{Tick}
 use Rattle.kob_router.specs.declared.tick.Tick.TheVariants.{Moved, Idle, Repeat, Stopped}
 use Rattle.kob_router.specs.declared.tick.StopReason.{StopReason}
-use Rattle.kob_router.specs.Run.{Dispatching, dispatch_of, place_of, has_place, with_sequence_for, Call, Done, InitProducerId, Produce, ProduceRequest, Producer, Reply, Request, Sequence, Hand, State, Move, IsRouterRun, IsDone, calls_of, next_row, IsSending, after_acknowledgement}
+use Rattle.kob_router.specs.Run.{Dispatching, dispatch_of, place_of, has_place, with_sequence_for, Call, Denied, Done, InitProducerId, Produce, ProduceRequest, Producer, Refused, Reply, Request, Sequence, Hand, State, Move, IsRouterRun, IsDone, calls_of, next_row, IsSending, after_acknowledgement}
 use Rattle.kob_router.specs.Line.{one_more}
 use Rattle.kob_router.specs.Run.Move.{Called, Took}
 use Rattle.kob_router.specs.declared.tick.StopReason.TheVariants as stop
@@ -97,7 +97,8 @@ EndsLost moves unmade then_unmade =
 -- a reply to a request that was denied or refused
 abbrev pub IsRejection : Reply → Type 0
 IsRejection (Done body) = ⊥
-IsRejection reply = Unit {0}
+IsRejection (Denied code verdicts) = Unit {0}
+IsRejection (Refused code reason) = Unit {0}
 
 -- why a tick stopped
 abbrev pub IsReason : Dispatching → StopReason → List Move → State → Type 0

@@ -52,15 +52,15 @@ returns-in_err-has_rows-clause-ticks g c =
     let p = err_from_is_err_and c.from_residual-in_err-has_rows.result c.from_residual-in_err-has_rows.ensures.1 in
     rw (p.1, p.2)
     (subst
-        (λ (r : Reader g.row.L.Denot). (ticks : List Tick) × AreTicks (TicksBelow c.args.count t) ticks before
-        (point_of r.fetcher r.inbox (g.L.Line.calls r.line) (g.L.Line.unmade r.line))
-        × EndsTakingRows c.args.count c.args.most ticks (length r.inbox) (Err c.in_err-has_rows.field-0.0))
-        (sym c.has_rows.ensures.same)
-        (filled_unread t was.fetcher.subscription c.args.count c.loop.counter c.args.most before
-        (point_of was.fetcher was.inbox (g.L.Line.calls was.line) (g.L.Line.unmade was.line))
-        (point_of now.fetcher now.inbox (g.L.Line.calls now.line) (g.L.Line.unmade now.line)) c.in_ok-tick.tick _
-        c.loop.invariant.0 c.loop.invariant.3 done.done.0 done.done.1 c.loop-test.true
-        c.in_err-has_rows.ensures.memory))
+    (λ (r : Reader g.row.L.Denot). (ticks : List Tick) × AreTicks (TicksBelow c.args.count t) ticks before
+    (point_of r.fetcher r.inbox (g.L.Line.calls r.line) (g.L.Line.unmade r.line))
+    × EndsTakingRows c.args.count c.args.most ticks (length r.inbox) (Err c.in_err-has_rows.field-0.0))
+    (sym c.has_rows.ensures.same)
+    (filled_unread t was.fetcher.subscription c.args.count c.loop.counter c.args.most before
+    (point_of was.fetcher was.inbox (g.L.Line.calls was.line) (g.L.Line.unmade was.line))
+    (point_of now.fetcher now.inbox (g.L.Line.calls now.line) (g.L.Line.unmade now.line)) c.in_ok-tick.tick _
+    c.loop.invariant.0 c.loop.invariant.3 done.done.0 done.done.1 c.loop-test.true
+    c.in_err-has_rows.ensures.memory))
 
 pub returns-then-branch-2-clause-ticks : goal.returns-then-branch-2-clause-ticks
 returns-then-branch-2-clause-ticks g c =
