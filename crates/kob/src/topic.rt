@@ -1,13 +1,16 @@
 //! A topic of a cluster, compared with the rows of an outbox.
 
-ghost use Rattle.std.specs.Prelude.{◌≡◌, ◌≢◌, ◌++◌, IfOk, OnOk, length};
+ghost use Rattle.std.specs.Prelude.{◌≡◌, ◌≢◌, ◌++◌, IfErr, IfOk, IsErr, Ok, OnOk, length};
 ghost use Rattle.kob.specs.Ending.{ending_of_changes, ending_of_list};
+ghost use Rattle.kob_policy_text.specs.Encoding.{plain_text};
 ghost use Rattle.kob_topic_check.specs.Findings.{counts_text, findings_text};
 
 use crate::ending::Ending;
 use crate::input::{Kind, text_of};
 use crate::report::{self, FileReport, Report, tell, tell_file};
 use kob_names::Text;
+use kob_policy_text::plain_text;
+use kob_script::ScriptError;
 use kob_topic_check::{
     ReadError, Record, Row, print_counts, print_findings, read_records, read_rows,
 };
@@ -34,9 +37,7 @@ fn compared<R: AllocGlobal + Files + Input + Print + Eprint>(
     records: &str,
 ) -> Result<Ending, Ending> {
     let rows = rows_of(rt, rows)?;
-    let printed = print_with(rt, &rows, records);
-    drop(rows);
-    printed
+    print_with(rt, &rows, records)
 }
 
 fn rows_of<R: AllocGlobal + Files + Input + Eprint>(
@@ -64,10 +65,28 @@ fn records_of<R: AllocGlobal + Files + Input + Eprint>(
     }
 }
 
+/// The text of a list in UTF-8, without a byte order mark.
 fn list_of<R: AllocGlobal + Files + Input + Eprint>(rt: &R, name: &str) -> Result<Vec<u8>, Ending> {
     match text_of(rt, Kind::List, name) {
-        Ok(text) => Ok(text),
+        Ok(text) => plain_list(rt, name, &text),
         Err(fault) => Err(report::unread(rt, name, &fault)),
+    }
+}
+
+/// The bytes of a list as UTF-8: UTF-16 is read behind its byte order mark.
+fn plain_list<R: AllocGlobal + Eprint>(rt: &R, name: &str, text: &[u8]) -> Result<Vec<u8>, Ending>
+    ensures plain { IfOk result (λ plain. plain_text text.now ≡ Ok plain.items) }
+    ensures refused { IfErr result (λ ending. ending ≢ Ending.OutOfMemory
+        → (ending ≡ Ending.Failed) × IsErr (plain_text text.now)) }
+{
+    match plain_text(rt.alloc(), text) {
+        Ok(plain) => Ok(plain),
+        Err(ScriptError::Memory(refused)) => Err(tell(rt, Report::OutOfMemory(name, refused))),
+        Err(ScriptError::Fault(fault)) => {
+            let line = fault.line;
+            let form = "UTF-8, or UTF-16 of whole characters";
+            Err(tell_file(rt, FileReport::Unlike { name, line, form }))
+        }
     }
 }
 
