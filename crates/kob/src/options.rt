@@ -103,13 +103,8 @@ fn with_subcommand<'a>(
         IfOk subcommand.entry (λ given. AddsSubcommand made.entry given grown)) }
     ensures refused { IsErr subcommand.entry → IsErr result }
 {
-    match subcommand {
-        Ok(subcommand) => made.subcommand(subcommand),
-        Err(refused) => {
-            drop(made);
-            Err(refused)
-        }
-    }
+    let subcommand = subcommand?;
+    made.subcommand(subcommand)
 }
 
 /// An argument more, if it could be made.
@@ -120,13 +115,8 @@ pub fn with_arg<'a>(
     ensures added { IfOk result (λ grown. IfOk arg.entry (λ given. AddsArg made.entry given grown)) }
     ensures refused { IsErr arg.entry → IsErr result }
 {
-    match arg {
-        Ok(arg) => made.arg(arg),
-        Err(refused) => {
-            drop(made);
-            Err(refused)
-        }
-    }
+    let arg = arg?;
+    made.arg(arg)
 }
 
 fn play_command<'a>(alloc: Global) -> Result<Command<'a>, AllocError>
@@ -230,13 +220,8 @@ fn export_task(alloc: Global, used: &ArgMatches<'_>) -> Result<Task, AllocError>
         (files_in (rows_of (found_of used.now)))) }
 {
     let files = values_of(alloc, used, "FILE")?;
-    match value_of(alloc, used, "service") {
-        Ok(service) => Ok(Task::Export(export_form_in(used), service, files)),
-        Err(refused) => {
-            drop(files);
-            Err(refused)
-        }
-    }
+    let service = value_of(alloc, used, "service")?;
+    Ok(Task::Export(export_form_in(used), service, files))
 }
 
 /// The form of the answers that is asked for.
@@ -326,10 +311,7 @@ fn copies_of(alloc: Global, texts: &[&str]) -> Result<Items<Text>, AllocError>
 {
     let mut made = Vec::new(alloc);
     for text in texts {
-        if let Err(refused) = push_copy(alloc, &mut made, text) {
-            drop(made);
-            return Err(refused);
-        }
+        push_copy(alloc, &mut made, text)?;
     }
     Ok(Items::from_vec(made))
 }

@@ -126,23 +126,16 @@ pub(crate) fn judge_of<R: AllocGlobal + Clock + Files + Input + Eprint>(
     ensures whole { IfOk result (λ listed. options.now.skip ≡ false → listed.judge.omissions ≡ []) }
 {
     let mut policy = Policy::new(rt.alloc());
-    match read_lists(
+    read_lists(
         rt,
         stages,
         out,
         &mut policy,
         options,
         files_of(options, side),
-    ) {
-        Ok(()) => {
-            let judge = open_judge(rt, stages, out, options, policy)?;
-            Ok(Listed { side, judge })
-        }
-        Err(stop) => {
-            drop(policy);
-            Err(stop)
-        }
-    }
+    )?;
+    let judge = open_judge(rt, stages, out, options, policy)?;
+    Ok(Listed { side, judge })
 }
 
 /// Reads the files of `--policy`, and then the others of a list.

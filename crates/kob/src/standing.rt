@@ -36,13 +36,8 @@ pub fn end_of(alloc: Global, scene: &Scene) -> Result<End, OpenFault>
         broker: broker_of(alloc, &scene.settings)?,
         topics: Vec::new(alloc),
     };
-    match take_steps(alloc, &mut end, &scene.steps) {
-        Ok(()) => Ok(end),
-        Err(refused) => {
-            drop(end);
-            Err(OpenFault::Memory(refused))
-        }
-    }
+    take_steps(alloc, &mut end, &scene.steps).map_err(OpenFault::Memory)?;
+    Ok(end)
 }
 
 #[tactic(auto, using(std::proofs::lemmas::List::Sums::fold_more))]

@@ -30,13 +30,8 @@ impl Asked {
         ensures text { IfOk result (λ asked. asked.text ≡ text) }
         ensures until { IfOk result (λ asked. asked.until ≡ until) }
     {
-        match Text::copied(alloc, name) {
-            Ok(name) => Ok(Asked { name, text, until }),
-            Err(refused) => {
-                drop(text);
-                Err(refused)
-            }
-        }
+        let name = Text::copied(alloc, name)?;
+        Ok(Asked { name, text, until })
     }
 }
 

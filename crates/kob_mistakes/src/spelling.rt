@@ -91,13 +91,8 @@ pub fn nearest(alloc: Global, word: &str, names: &[&str]) -> Result<Option<Text>
         return Ok(None);
     }
     let mut nearest = Found::new(word);
-    match nearest.add_all(alloc, word, names) {
-        Ok(()) => Ok(nearest.name),
-        Err(refused) => {
-            drop(nearest);
-            Err(refused)
-        }
-    }
+    nearest.add_all(alloc, word, names)?;
+    Ok(nearest.name)
 }
 
 /// A name, unless it is the word itself, which is then not misspelt.

@@ -124,13 +124,8 @@ pub fn principals_of_both(
         made.items ≡ fold with_principal (principals_named some.now) others.now) }
 {
     let mut made = Parties::others(alloc)?;
-    match made.add_both(alloc, some, others) {
-        Ok(()) => Ok(made.into_vec()),
-        Err(refused) => {
-            drop(made);
-            Err(refused)
-        }
-    }
+    made.add_both(alloc, some, others)?;
+    Ok(made.into_vec())
 }
 
 /// The principals that the bindings name, each once, after all others.

@@ -84,7 +84,6 @@ impl Targets {
         ensures { OnOk result (self.new ≡ with_target self.old target) }
     {
         if self.is_listed(alloc, &target)? {
-            drop(target);
             return Ok(());
         }
         self.push(alloc, target)
@@ -136,13 +135,8 @@ impl Targets {
         ensures { IfOk result (λ made. made ≡ open_targets) }
     {
         let mut made = Targets::new(alloc);
-        match made.push_open(alloc) {
-            Ok(()) => Ok(made),
-            Err(refused) => {
-                drop(made);
-                Err(refused)
-            }
-        }
+        made.push_open(alloc)?;
+        Ok(made)
     }
 
     /// The names that a set of rules tells apart, each once.
@@ -150,13 +144,8 @@ impl Targets {
         ensures { IfOk result (λ made. made ≡ targets_named entries.now) }
     {
         let mut made = Targets::open(alloc)?;
-        match made.add_all(alloc, entries) {
-            Ok(()) => Ok(made),
-            Err(refused) => {
-                drop(made);
-                Err(refused)
-            }
-        }
+        made.add_all(alloc, entries)?;
+        Ok(made)
     }
 
     fn add_around(
@@ -185,13 +174,8 @@ impl Targets {
             (with_target open_targets (at_prefix resource prefix.now)) entries.now) }
     {
         let mut made = Targets::open(alloc)?;
-        match made.add_around(alloc, entries, resource, prefix) {
-            Ok(()) => Ok(made),
-            Err(refused) => {
-                drop(made);
-                Err(refused)
-            }
-        }
+        made.add_around(alloc, entries, resource, prefix)?;
+        Ok(made)
     }
 
     /// The targets. Does not allocate.

@@ -124,13 +124,8 @@ fn push_log_line(
         ++ (print (log_tokens judge.now number file.now log.now) ++ codes "\n")) }
 {
     let mut writer = Writer::new(Vec::new(alloc));
-    match push_log(alloc, &mut writer, judge, number, file, log) {
-        Ok(()) => push_line(out, writer),
-        Err(refused) => {
-            drop(writer);
-            Err(refused)
-        }
-    }
+    push_log(alloc, &mut writer, judge, number, file, log)?;
+    push_line(out, writer)
 }
 
 /// Prints the answer about the text of a broker's log as an object on a line. Returns whether some

@@ -81,13 +81,8 @@ fn push_row_line(
     ensures { OnOk result (out.new.items ≡ out.old.items ++ row_line columns.now row.now) }
 {
     let mut writer = Writer::new(Vec::new(alloc));
-    match push_row(&mut writer, columns, row) {
-        Ok(()) => push_line(out, writer),
-        Err(refused) => {
-            drop(writer);
-            Err(refused)
-        }
-    }
+    push_row(&mut writer, columns, row)?;
+    push_line(out, writer)
 }
 
 /// What was written, and a line feed.
@@ -310,13 +305,8 @@ fn push_answer_line(
         ++ answer_line judge.now topics.now number query.now) }
 {
     let mut writer = Writer::new(Vec::new(alloc));
-    match push_answer(alloc, &mut writer, judge, topics, number, query) {
-        Ok(()) => push_line(out, writer),
-        Err(refused) => {
-            drop(writer);
-            Err(refused)
-        }
-    }
+    push_answer(alloc, &mut writer, judge, topics, number, query)?;
+    push_line(out, writer)
 }
 
 /// Prints each question with its answer, numbered from 1, an object on a line. The error is out of
@@ -370,11 +360,6 @@ pub fn print_json_files(alloc: Global, out: &mut Vec<u8>, files: &[Text]) -> Res
     ensures { OnOk result (out.new.items ≡ out.old.items ++ files_line files.now) }
 {
     let mut writer = Writer::new(Vec::new(alloc));
-    match push_files(&mut writer, files) {
-        Ok(()) => push_line(out, writer),
-        Err(refused) => {
-            drop(writer);
-            Err(refused)
-        }
-    }
+    push_files(&mut writer, files)?;
+    push_line(out, writer)
 }

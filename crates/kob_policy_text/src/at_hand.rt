@@ -103,13 +103,8 @@ pub fn each_once(alloc: Global, users: &[Principal]) -> Result<Vec<Principal>, A
     ensures { IfOk result (λ made. made.items ≡ each_once users.now) }
 {
     let mut made = Users::new(alloc);
-    match made.add_all(alloc, users) {
-        Ok(()) => Ok(made.into_vec()),
-        Err(refused) => {
-            drop(made);
-            Err(refused)
-        }
-    }
+    made.add_all(alloc, users)?;
+    Ok(made.into_vec())
 }
 
 /// `User:*`, which asks as all others do, and the principals that bindings name, in the order in
@@ -118,13 +113,8 @@ pub fn principals_at_hand(alloc: Global, bindings: &[Binding]) -> Result<Vec<Pri
     ensures { IfOk result (λ made. made.items ≡ principals_at_hand bindings.now) }
 {
     let mut principals = Users::new(alloc);
-    match principals.add_at_hand(alloc, bindings) {
-        Ok(()) => Ok(principals.into_vec()),
-        Err(refused) => {
-            drop(principals);
-            Err(refused)
-        }
-    }
+    principals.add_at_hand(alloc, bindings)?;
+    Ok(principals.into_vec())
 }
 
 /// The principals that bindings name.

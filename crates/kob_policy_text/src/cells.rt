@@ -155,9 +155,6 @@ pub fn cells_in(alloc: Global, line: &[u8]) -> Result<Vec<Bytes>, LineError>
     }
     match cells.spot {
         Spot::Begin | Spot::Bare | Spot::Behind => Ok(cells.into_all(alloc)?),
-        Spot::Quoted | Spot::Misquoted => {
-            drop(cells);
-            Err(LineError::Fault(FaultKind::BadLine))
-        }
+        Spot::Quoted | Spot::Misquoted => Err(LineError::Fault(FaultKind::BadLine)),
     }
 }

@@ -90,13 +90,7 @@ pub fn has_bad_heading(target: &Option<Target>) -> bool
 pub fn draft_under(alloc: Global, target: &Target, grant: Grant) -> Result<Draft, AllocError>
     ensures { IfOk result (λ draft. draft ≡ draft_under target.now grant) }
 {
-    let pattern = match target.pattern.copy(alloc) {
-        Ok(pattern) => pattern,
-        Err(refused) => {
-            drop(grant);
-            return Err(refused);
-        }
-    };
+    let pattern = target.pattern.copy(alloc)?;
     Ok(Draft {
         permission: grant.permission,
         principal: grant.principal,

@@ -53,19 +53,14 @@ impl Judge {
         ensures fault { IfErr result (λ fault. fault ≢ CreateFault.Memory alloc_error
             → open_fault policy ≡ Some fault) }
     {
-        match parts_of(alloc, &policy) {
-            Ok((named, authorizer, serials)) => Ok(Judge {
-                policy,
-                authorizer,
-                serials,
-                users: named.users,
-                patterns: named.patterns,
-            }),
-            Err(fault) => {
-                drop(policy);
-                Err(fault)
-            }
-        }
+        let (named, authorizer, serials) = parts_of(alloc, &policy)?;
+        Ok(Judge {
+            policy,
+            authorizer,
+            serials,
+            users: named.users,
+            patterns: named.patterns,
+        })
     }
 
     /// The policy that decides.
@@ -151,13 +146,8 @@ fn patterns_in(alloc: Global, policy: &Policy) -> Result<Patterns, AllocError>
     ensures { IfOk result (λ made. made ≡ taken_of policy.now) }
 {
     let mut patterns = Patterns::of(alloc, policy.bindings())?;
-    match patterns.add_all(alloc, policy.closings()) {
-        Ok(()) => Ok(patterns),
-        Err(refused) => {
-            drop(patterns);
-            Err(refused)
-        }
-    }
+    patterns.add_all(alloc, policy.closings())?;
+    Ok(patterns)
 }
 
 fn named_in(alloc: Global, policy: &Policy) -> Result<Named, AllocError>
@@ -165,13 +155,8 @@ fn named_in(alloc: Global, policy: &Policy) -> Result<Named, AllocError>
         × (made.patterns ≡ taken_of policy.now)) }
 {
     let users = principals_named(alloc, policy.bindings())?;
-    match patterns_in(alloc, policy) {
-        Ok(patterns) => Ok(Named { users, patterns }),
-        Err(refused) => {
-            drop(users);
-            Err(refused)
-        }
-    }
+    let patterns = patterns_in(alloc, policy)?;
+    Ok(Named { users, patterns })
 }
 
 fn parts_of(alloc: Global, policy: &Policy) -> Result<(Named, Authorizer, Serials), CreateFault>
@@ -183,13 +168,8 @@ fn parts_of(alloc: Global, policy: &Policy) -> Result<(Named, Authorizer, Serial
         → open_fault policy.now ≡ Some fault) }
 {
     let named = named_in(alloc, policy)?;
-    match in_force(alloc, policy) {
-        Ok((authorizer, serials)) => Ok((named, authorizer, serials)),
-        Err(fault) => {
-            drop(named);
-            Err(fault)
-        }
-    }
+    let (authorizer, serials) = in_force(alloc, policy)?;
+    Ok((named, authorizer, serials))
 }
 
 /// The authorizer with the bindings of a policy, and their serials.

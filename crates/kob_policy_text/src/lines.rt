@@ -166,10 +166,7 @@ fn rules_in(alloc: Global, request: Request) -> Result<Vec<Item>, LineError>
 {
     match request {
         Request::CreateAcls(made) => Ok(rule_items(alloc, made.drafts.into_vec())?),
-        other => {
-            drop(other);
-            Err(LineError::Fault(FaultKind::BadLine))
-        }
+        _ => Err(LineError::Fault(FaultKind::BadLine)),
     }
 }
 
@@ -187,12 +184,9 @@ pub fn only_event(mut asked: VecDeque<Event>) -> Option<Event>
     ensures { result ≡ only_event asked.items }
 {
     if asked.len() != 1 {
-        drop(asked);
         return None;
     }
-    let event = asked.pop_front();
-    drop(asked);
-    event
+    asked.pop_front()
 }
 
 #[tactic(auto, unfolding(crate::specs::Lines::words_items))]

@@ -167,10 +167,7 @@ fn holder_of(
     let user = user_in(alloc, bytes)?;
     match operation {
         Some(_) => Ok(user),
-        None => {
-            drop(user);
-            principal_of(alloc, OTHER_OPERATION)
-        }
+        None => principal_of(alloc, OTHER_OPERATION),
     }
 }
 
@@ -181,18 +178,13 @@ pub fn grant_of(alloc: Global, words: &GrantWords<'_>) -> Result<Grant, LineErro
     let permission = known(permission_named(unclosed(words.permission)))?;
     let operation = known(listed_operation(words.operation))?;
     let principal = holder_of(alloc, operation, words.principal)?;
-    match host_in(alloc, words.host) {
-        Ok(host) => Ok(Grant {
-            permission,
-            principal,
-            host,
-            operation: operation.unwrap_or(Operation::All),
-        }),
-        Err(error) => {
-            drop(principal);
-            Err(error)
-        }
-    }
+    let host = host_in(alloc, words.host)?;
+    Ok(Grant {
+        permission,
+        principal,
+        host,
+        operation: operation.unwrap_or(Operation::All),
+    })
 }
 
 fn grant_item(alloc: Global, words: &GrantWords<'_>) -> Result<Item, LineError>

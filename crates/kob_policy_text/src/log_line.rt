@@ -154,13 +154,8 @@ fn asker_in(alloc: Global, principal: &[u8], host: &[u8]) -> Result<Asker, LineE
     ensures { Gives result (asker_in principal.now host.now) }
 {
     let principal = user_in(alloc, principal)?;
-    match host_in(alloc, host) {
-        Ok(host) => Ok(Asker { principal, host }),
-        Err(error) => {
-            drop(principal);
-            Err(error)
-        }
-    }
+    let host = host_in(alloc, host)?;
+    Ok(Asker { principal, host })
 }
 
 fn recorded_by(allowed: bool, asker: Asker, right: Option<Right>) -> Option<Recorded>
@@ -182,13 +177,8 @@ fn recorded_of(alloc: Global, words: &AccessWords<'_>) -> Result<Option<Recorded
 {
     let allowed = allowed_by(words.outcome)?;
     let asker = asker_in(alloc, words.principal, words.host)?;
-    match right_in(alloc, words.operation, words.resource) {
-        Ok(right) => Ok(recorded_by(allowed, asker, right)),
-        Err(error) => {
-            drop(asker);
-            Err(error)
-        }
-    }
+    let right = right_in(alloc, words.operation, words.resource)?;
+    Ok(recorded_by(allowed, asker, right))
 }
 
 /// The access that a line records, or none if rules cannot bear on it. The fault is that the line

@@ -27,16 +27,11 @@ fn may_right(
     ensures { Gives result (may_right principal.now host.now operation.now resource.now name.now) }
 {
     let asker = asker_of(alloc, principal, host)?;
-    match right_of(alloc, operation, resource, name) {
-        Ok(right) => Ok(Access {
-            asker,
-            act: Act::Right(right),
-        }),
-        Err(error) => {
-            drop(asker);
-            Err(error)
-        }
-    }
+    let right = right_of(alloc, operation, resource, name)?;
+    Ok(Access {
+        asker,
+        act: Act::Right(right),
+    })
 }
 
 fn produces(alloc: Global, topic: Text) -> Act
@@ -62,16 +57,11 @@ fn may_produce(
     ensures { Gives result (may_produce principal.now host.now topic.now) }
 {
     let asker = asker_of(alloc, principal, host)?;
-    match text_of(alloc, topic) {
-        Ok(name) => Ok(Access {
-            asker,
-            act: produces(alloc, name),
-        }),
-        Err(error) => {
-            drop(asker);
-            Err(error)
-        }
-    }
+    let name = text_of(alloc, topic)?;
+    Ok(Access {
+        asker,
+        act: produces(alloc, name),
+    })
 }
 
 #[tactic(auto, unfolding(crate::specs::Questions::may_repeat))]
@@ -84,16 +74,11 @@ fn may_repeat(
     ensures { Gives result (may_repeat principal.now host.now topic.now) }
 {
     let asker = asker_of(alloc, principal, host)?;
-    match text_of(alloc, topic) {
-        Ok(name) => Ok(Access {
-            asker,
-            act: Act::Idempotent(name),
-        }),
-        Err(error) => {
-            drop(asker);
-            Err(error)
-        }
-    }
+    let name = text_of(alloc, topic)?;
+    Ok(Access {
+        asker,
+        act: Act::Idempotent(name),
+    })
 }
 
 #[tactic(auto, unfolding(crate::specs::Questions::may_transact))]
@@ -107,16 +92,11 @@ fn may_transact(
     ensures { Gives result (may_transact principal.now host.now topic.now id.now) }
 {
     let asker = asker_of(alloc, principal, host)?;
-    match two_texts(alloc, topic, id) {
-        Ok((name, transaction)) => Ok(Access {
-            asker,
-            act: Act::Transactional(name, transaction),
-        }),
-        Err(error) => {
-            drop(asker);
-            Err(error)
-        }
-    }
+    let (name, transaction) = two_texts(alloc, topic, id)?;
+    Ok(Access {
+        asker,
+        act: Act::Transactional(name, transaction),
+    })
 }
 
 #[tactic(auto, unfolding(crate::specs::Questions::may_consume))]
@@ -130,21 +110,16 @@ fn may_consume(
     ensures { Gives result (may_consume principal.now host.now topic.now group.now) }
 {
     let asker = asker_of(alloc, principal, host)?;
-    match two_texts(alloc, topic, group) {
-        Ok((topic, group)) => Ok(Access {
-            asker,
-            act: Act::Request(Request::OffsetCommit(OffsetCommit {
-                group,
-                topic,
-                partition: 0,
-                offset: 0,
-            })),
-        }),
-        Err(error) => {
-            drop(asker);
-            Err(error)
-        }
-    }
+    let (topic, group) = two_texts(alloc, topic, group)?;
+    Ok(Access {
+        asker,
+        act: Act::Request(Request::OffsetCommit(OffsetCommit {
+            group,
+            topic,
+            partition: 0,
+            offset: 0,
+        })),
+    })
 }
 
 /// What a request asks, unless it is said to come from `*`.
@@ -152,7 +127,6 @@ fn access_by(alloc: Global, event: Event) -> Result<Access, LineError>
     ensures { Gives result (access_by event) }
 {
     if event.host.as_str() == "*" {
-        drop(event);
         return Err(LineError::Fault(FaultKind::BadHost));
     }
     Ok(Access {

@@ -76,11 +76,6 @@ pub fn nearest_of(alloc: Global, name: &str, others: &[Text]) -> Result<Option<T
         return Ok(None);
     }
     let mut nearest = Nearest::new(name);
-    match nearest.add_all(alloc, name, others) {
-        Ok(()) => Ok(nearest.found),
-        Err(refused) => {
-            drop(nearest);
-            Err(refused)
-        }
-    }
+    nearest.add_all(alloc, name, others)?;
+    Ok(nearest.found)
 }

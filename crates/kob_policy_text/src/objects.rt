@@ -234,11 +234,10 @@ impl Objects {
     {
         let Objects {
             ended,
-            begun,
+            begun: _,
             line,
             stage,
         } = self;
-        drop(begun);
         match stage {
             Stage::Closed => Ok(ended),
             Stage::Before
@@ -249,7 +248,6 @@ impl Objects {
             | Stage::Quoted
             | Stage::Escaped
             | Stage::Wrong => {
-                drop(ended);
                 let kind = FaultKind::BadLine;
                 Err(ScriptError::Fault(Fault { line, kind }))
             }

@@ -187,10 +187,7 @@ fn added_of(command: Option<AclCommand>) -> Result<Vec<Draft>, LineError>
 {
     match command {
         Some(AclCommand::Create(drafts)) => Ok(drafts.into_vec()),
-        other => {
-            drop(other);
-            Err(LineError::Fault(FaultKind::BadLine))
-        }
+        _ => Err(LineError::Fault(FaultKind::BadLine)),
     }
 }
 
@@ -198,12 +195,9 @@ fn only_command(mut commands: Vec<AclCommand>) -> Option<AclCommand>
     ensures { result ≡ only_command commands.items }
 {
     if commands.len() != 1 {
-        drop(commands);
         return None;
     }
-    let command = commands.pop();
-    drop(commands);
-    command
+    commands.pop()
 }
 
 fn error_of(fault: &CommandFault) -> LineError
@@ -356,7 +350,5 @@ pub fn added(alloc: Global, words: &[&str]) -> Result<Vec<Item>, LineError>
 {
     let held = held_options(alloc, words)?;
     let mut answer = answer_to(alloc, &held)?;
-    let items = added_by(alloc, &mut answer);
-    drop(answer);
-    items
+    added_by(alloc, &mut answer)
 }

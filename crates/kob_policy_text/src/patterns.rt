@@ -43,13 +43,8 @@ impl Patterns {
         ensures { IfOk result (λ made. made ≡ patterns_of bindings.now) }
     {
         let mut made = Patterns::new();
-        match made.add_all(alloc, bindings) {
-            Ok(()) => Ok(made),
-            Err(refused) => {
-                drop(made);
-                Err(refused)
-            }
-        }
+        made.add_all(alloc, bindings)?;
+        Ok(made)
     }
 
     /// Adds the names of the patterns of bindings.

@@ -194,7 +194,7 @@ impl Policy {
         ensures { OnOk result (self.new ≡ with_closing self.old what closing) }
     {
         match what {
-            LeftOut::Resource => drop(closing),
+            LeftOut::Resource => {}
             LeftOut::Principal | LeftOut::Operation => self.closings.push(closing)?,
         }
         Ok(())
@@ -211,13 +211,8 @@ impl Policy {
             (with_draft_left_out self.old origin.now what draft.now) }
     {
         let closing = closing_binding(alloc, draft)?;
-        match self.add_omission(alloc, origin, what, draft.permission == Permission::Deny) {
-            Ok(()) => Ok(self.add_closing(what, closing)?),
-            Err(refused) => {
-                drop(closing);
-                Err(LineError::Memory(refused))
-            }
-        }
+        self.add_omission(alloc, origin, what, draft.permission == Permission::Deny)?;
+        Ok(self.add_closing(what, closing)?)
     }
 
     fn add_draft(&mut self, alloc: Global, origin: &Origin, draft: &Draft) -> Result<(), LineError>
@@ -237,20 +232,14 @@ impl Policy {
             (with_grant self.old origin.now self.old.heading grant) }
     {
         match &self.heading {
-            None => {
-                drop(grant);
-                Err(LineError::Fault(FaultKind::NoResource))
-            }
+            None => Err(LineError::Fault(FaultKind::NoResource)),
             Some(None) => {
                 let denies = grant.permission == Permission::Deny;
-                drop(grant);
                 Ok(self.add_omission(alloc, origin, LeftOut::Resource, denies)?)
             }
             Some(Some(target)) => {
                 let draft = draft_under(alloc, target, grant)?;
-                let added = self.add_draft(alloc, origin, &draft);
-                drop(draft);
-                added
+                self.add_draft(alloc, origin, &draft)
             }
         }
     }
@@ -268,14 +257,11 @@ impl Policy {
         match target {
             None => {
                 let denies = grant.permission == Permission::Deny;
-                drop(grant);
                 Ok(self.add_omission(alloc, origin, LeftOut::Resource, denies)?)
             }
             Some(target) => {
                 let draft = draft_under(alloc, target, grant)?;
-                let added = self.add_draft(alloc, origin, &draft);
-                drop(draft);
-                added
+                self.add_draft(alloc, origin, &draft)
             }
         }
     }
@@ -284,7 +270,6 @@ impl Policy {
         ensures { GivesSeen (λ _. self.new) result (with_heading self.old target) }
     {
         if has_bad_heading(&target) {
-            drop(target);
             return Err(LineError::Fault(FaultKind::BadName));
         }
         self.heading = Some(target);
@@ -313,11 +298,7 @@ impl Policy {
                 self.release = release;
                 Ok(())
             }
-            Item::Rule(draft) => {
-                let added = self.add_draft(alloc, origin, &draft);
-                drop(draft);
-                added
-            }
+            Item::Rule(draft) => { self.add_draft(alloc, origin, &draft) }
             Item::Resource(target) => self.add_heading(target),
             Item::Grant(grant) => self.add_grant(alloc, origin, grant),
             Item::Row(target, grant) => self.add_row(alloc, origin, &target, grant),

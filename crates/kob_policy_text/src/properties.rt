@@ -27,7 +27,6 @@ pub fn super_item(alloc: Global, bytes: &[u8]) -> Result<Item, LineError>
 {
     let user = user_in(alloc, bytes)?;
     if user.as_str() == OTHER_PRINCIPAL {
-        drop(user);
         return Ok(Item::LeftOut(LeftOut::Principal));
     }
     Ok(Item::Super(user))

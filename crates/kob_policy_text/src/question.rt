@@ -158,13 +158,8 @@ impl Questions {
             (with_question line.now self.old first.now words.now) }
     {
         let text = Bytes::copied(alloc, trimmed(line))?;
-        match question_by(alloc, first, words) {
-            Ok(question) => Ok(self.asked.push(Query { text, question })?),
-            Err(error) => {
-                drop(text);
-                Err(error)
-            }
-        }
+        let question = question_by(alloc, first, words)?;
+        Ok(self.asked.push(Query { text, question })?)
     }
 
     fn add_words(

@@ -40,13 +40,8 @@ pub fn asker_of(alloc: Global, principal: &Word<'_>, host: &Word<'_>) -> Result<
 {
     let text = lent_text_of(principal)?;
     let principal = principal_of(alloc, text)?;
-    match host_in(alloc, host) {
-        Ok(host) => Ok(Asker { principal, host }),
-        Err(error) => {
-            drop(principal);
-            Err(error)
-        }
-    }
+    let host = host_in(alloc, host)?;
+    Ok(Asker { principal, host })
 }
 
 /// The texts of two words.
@@ -55,13 +50,8 @@ pub fn two_texts(alloc: Global, one: &Word<'_>, other: &Word<'_>) -> Result<(Tex
     ensures { Gives result (two_texts one.now other.now) }
 {
     let first = text_of(alloc, one)?;
-    match text_of(alloc, other) {
-        Ok(second) => Ok((first, second)),
-        Err(error) => {
-            drop(first);
-            Err(error)
-        }
-    }
+    let second = text_of(alloc, other)?;
+    Ok((first, second))
 }
 
 /// The name, which for the cluster may be `cluster`.
@@ -162,10 +152,7 @@ fn alone(question: Question, words: &[Word<'_>]) -> Result<Question, LineError>
 {
     match words {
         [] => Ok(question),
-        _ => {
-            drop(question);
-            Err(LineError::Fault(FaultKind::BadLine))
-        }
+        _ => Err(LineError::Fault(FaultKind::BadLine)),
     }
 }
 

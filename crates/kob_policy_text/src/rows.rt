@@ -80,13 +80,8 @@ fn row_of(alloc: Global, on: &TargetWords<'_>, words: &GrantWords<'_>) -> Result
     ensures { Gives result (row_of on.now words.now) }
 {
     let grant = grant_of(alloc, words)?;
-    match target_of(alloc, on) {
-        Ok(target) => Ok(Item::Row(target, grant)),
-        Err(error) => {
-            drop(grant);
-            Err(error)
-        }
-    }
+    let target = target_of(alloc, on)?;
+    Ok(Item::Row(target, grant))
 }
 
 fn seven_cells(alloc: Global, cells: &[Bytes]) -> Result<Item, LineError>

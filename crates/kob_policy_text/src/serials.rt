@@ -33,13 +33,8 @@ impl Serials {
     pub fn of(alloc: Global, all: Vec<u64>) -> Result<Serials, AllocError>
         ensures { IfOk result (λ made. made ≡ all.items) }
     {
-        match places_in(alloc, all.as_slice()) {
-            Ok(places) => Ok(Serials { all, places }),
-            Err(refused) => {
-                drop(all);
-                Err(refused)
-            }
-        }
+        let places = places_in(alloc, all.as_slice())?;
+        Ok(Serials { all, places })
     }
 
     /// The first place where the serial stands.

@@ -193,9 +193,6 @@ pub fn shell_words(alloc: Global, line: &[u8]) -> Result<Vec<Bytes>, LineError>
     }
     match words.quoting {
         Quoting::Plain => Ok(words.into_ended(alloc)?),
-        _ => {
-            drop(words);
-            Err(LineError::Fault(FaultKind::Usage))
-        }
+        _ => Err(LineError::Fault(FaultKind::Usage)),
     }
 }

@@ -42,9 +42,7 @@ fn push_texts(out: &mut Vec<u8>, what: &str, texts: Texts) -> Result<(), AllocEr
     ensures { OnOk result
         (out.new.items ≡ out.old.items ++ count_line what.now (length texts)) }
 {
-    let count = texts.len();
-    drop(texts);
-    push_count(out, what, count)
+    push_count(out, what, texts.len())
 }
 
 #[tactic(auto, using(kob_words::proofs::Appending::appending), unfolding(crate::specs::Summary::parties_text))]

@@ -58,7 +58,6 @@ fn has_prefixes(right: Right) -> Result<Question, LineError>
     ensures { Gives result (has_prefixes right) }
 {
     if right.resource == ResourceKind::Cluster {
-        drop(right);
         return Err(LineError::Fault(FaultKind::BadWord));
     }
     Ok(Question::WhoBelow(right))
@@ -85,13 +84,8 @@ fn who_from(
     ensures { Gives result (who_from operation.now resource.now name.now host.now) }
 {
     let right = right_of(alloc, operation, resource, name)?;
-    match host_in(alloc, host) {
-        Ok(host) => Ok(Question::Who(right, Some(host))),
-        Err(error) => {
-            drop(right);
-            Err(error)
-        }
-    }
+    let host = host_in(alloc, host)?;
+    Ok(Question::Who(right, Some(host)))
 }
 
 /// The question that the words after `who` ask.

@@ -40,9 +40,7 @@ User:root h create-acl allow User:orders * Write Topic literal outbox.event.orde
 fn main(rt: HostRuntime) -> Worked<()> {
     let alloc = rt.alloc();
     let delivered = deliver(&rt, alloc)?;
-    let printed = print(&mut rt.stdout(), &delivered);
-    drop(delivered);
-    printed
+    print(&mut rt.stdout(), &delivered)
 }
 
 /// Delivers the orders over one broker: worker 1 sends, worker 2 takes in, and worker 3 administers.
@@ -60,14 +58,10 @@ fn deliver<R: Threads + Wait + Sync>(rt: &R, alloc: Global) -> Worked<Delivered>
             || administer(rt, alloc, &shared),
         ),
     );
-    let (broker, last) = shared.finish().into_parts();
-    drop(broker);
+    let (_, last) = shared.finish().into_parts();
     let ended = handed.keep(last);
     let mut taken = taken;
     let delivered = delivered(alloc, &handed, &sent, &mut taken);
-    drop(handed);
-    drop(sent);
-    drop(taken);
     begun.and(ended).and(changed).and(delivered)
 }
 
@@ -82,7 +76,6 @@ fn delivered(
         (Ok(taken), Ok(sent)) => {
             let journals = handed.in_turn(alloc)?;
             let judged = judged_in_turn(alloc, &journals, sent, taken);
-            drop(journals);
             let rows = taken.taken()?;
             Ok(Delivered { judged, rows })
         }
@@ -162,10 +155,7 @@ fn record<R: Wait, L: Line>(
     state: &str,
 ) -> Worked<()> {
     let (change, event) = order_event(alloc, id, order, state)?;
-    let recorded = service.record(rt, &change, &event);
-    drop(change);
-    drop(event);
-    recorded?;
+    service.record(rt, &change, &event)?;
     Ok(())
 }
 
@@ -196,9 +186,7 @@ fn send_one<R: Wait, L: Line>(rt: &R, alloc: Global, service: &SharedService<L>)
 }
 
 fn is_acknowledged(tick: Tick) -> bool {
-    let is_acknowledged = matches!(&tick, Tick::Moved(_));
-    drop(tick);
-    is_acknowledged
+    matches!(&tick, Tick::Moved(_))
 }
 
 /// A service with an empty outbox, whose events go to topics of one partition by the default route.
@@ -247,11 +235,11 @@ fn consumer<L: Line + Drop>(alloc: Global, line: L) -> Worked<RunningConsumer<L>
 /// Worker 3 revokes the service's right to write, and grants it again.
 fn administer<R: Wait>(rt: &R, alloc: Global, shared: &RotatingBroker) -> Worked<()> {
     let mut session = rotating_session_of(alloc, shared, 3, "User:root", "10.0.0.3")?;
-    let Script { settings, events } = script(alloc, CHANGES)?;
-    drop(settings);
-    let changed = call_all(rt, alloc, &mut session, events.as_slice());
-    drop(events);
-    changed
+    let Script {
+        settings: _,
+        events,
+    } = script(alloc, CHANGES)?;
+    call_all(rt, alloc, &mut session, events.as_slice())
 }
 
 fn call_all<R: Wait>(
@@ -262,7 +250,7 @@ fn call_all<R: Wait>(
 ) -> Worked<()> {
     for event in events {
         let request = event.request.copy(alloc)?;
-        drop(session.call(rt, alloc, request)?);
+        session.call(rt, alloc, request)?;
     }
     Ok(())
 }

@@ -48,13 +48,8 @@ pub(crate) fn order_event(
     state: &str,
 ) -> Worked<(Change, OutboxEvent)> {
     let change = Change::of(alloc, "order", order, state)?;
-    match OutboxEvent::of(alloc, Uuid::from_u128(id), &change, state) {
-        Ok(event) => Ok((change, event)),
-        Err(fault) => {
-            drop(change);
-            Err(ProgramFault::from(fault))
-        }
-    }
+    let event = OutboxEvent::of(alloc, Uuid::from_u128(id), &change, state)?;
+    Ok((change, event))
 }
 
 pub(crate) fn print<W: Write>(out: &mut W, delivered: &Delivered) -> Worked<()> {

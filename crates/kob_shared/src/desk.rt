@@ -79,25 +79,10 @@ impl<'a> Desk<'a> {
         ensures err { OnErr result (self.new ≡ self.old) }
         ensures stale { IfErr result (IsStaleOnlyBelow self.old.seat.seen) }
     {
-        if let Err(refused) = make_room(&mut self.events, &mut self.receipts) {
-            drop(request);
-            return Err(CallFault::Memory(refused));
-        }
+        make_room(&mut self.events, &mut self.receipts)?;
         let event = self.session.event(alloc, request)?;
-        let noted = match event.copy(alloc) {
-            Ok(noted) => noted,
-            Err(refused) => {
-                drop(event);
-                return Err(CallFault::Memory(refused));
-            }
-        };
-        let receipt = match self.session.send(rt, alloc, event) {
-            Ok(receipt) => receipt,
-            Err(fault) => {
-                drop(noted);
-                return Err(fault);
-            }
-        };
+        let noted = event.copy(alloc)?;
+        let receipt = self.session.send(rt, alloc, event)?;
         self.events.push_reserved(noted);
         self.receipts.push_reserved(receipt);
         Ok(())

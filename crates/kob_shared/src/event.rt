@@ -16,17 +16,12 @@ pub fn event_of(
 ) -> Result<Event, AllocError>
     ensures { IfOk result (λ event. event ≡ event_by principal.now host.now request) }
 {
-    match asker_of(alloc, principal, host) {
-        Ok((principal, host)) => Ok(Event {
-            principal,
-            host,
-            request,
-        }),
-        Err(refused) => {
-            drop(request);
-            Err(refused)
-        }
-    }
+    let (principal, host) = asker_of(alloc, principal, host)?;
+    Ok(Event {
+        principal,
+        host,
+        request,
+    })
 }
 
 /// Copies of the principal and the host that ask.

@@ -37,10 +37,7 @@ impl Work for Script {
                 Ok(request) => desk.call(rt, alloc, request),
                 Err(fault) => Err(fault.into()),
             };
-            if let Err(fault) = called {
-                drop(desk);
-                return Err(fault);
-            }
+            called?;
         }
         gate.before(worker, desk.len() + 1);
         Ok(Done {

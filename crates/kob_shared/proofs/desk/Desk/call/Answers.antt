@@ -6,9 +6,9 @@ pub invariant_of-self-2 : goal.invariant_of-self-2
 invariant_of-self-2 g c =
     let was = c.self.invariant in
     let old = c.self.inside in
-    let event = c.in-Ok.noted in
-    let receipt = c.in-Ok-send.receipt in
-    let served = c.in-Ok-send.ensures.ok in
+    let event = c.in_ok-noted.noted in
+    let receipt = c.in_ok-receipt.receipt in
+    let served = c.in_ok-receipt.ensures.ok in
     let events : c.push_reserved.new.self.items ≡ old.events.items ++ event ∷ [] =
     c.push_reserved.ensures.items ∙ ap (λ es. es ++ event ∷ []) c.make_room.ensures.events in
     let told : c.push_reserved-2.new.self.items ≡ old.receipts.items ++ receipt ∷ [] =
