@@ -77,15 +77,22 @@ def changes(text: str) -> Iterator[Change]:
 
 
 def owner_name(head: str) -> str:
-    """How the prover calls what an impl is of: `Tree`, `Tree+Item` of a `Tree<Item>`, `IterIterator` of an
-    Iterator for Iter, `FaultFromError` of a From<Error> for Fault."""
+    """How the prover calls what an impl is of: `Tree`, `Tree+Item` of a `Tree<Item>`, `Tree+Box+T` of an
+    impl<T> Tree<Box<T>>, `IterIterator` of an Iterator for Iter, `FaultFromError` of a From<Error> for Fault."""
     said = re.match(r"<((?:[^<>]|<[^<>]*>)*)>(.*)", head)
     generics, rest = (said[1], said[2]) if said else ("", head)
     of_trait, _, of_type = rest.rpartition(" for ")
-    name, *arguments = re.findall(r"(?<!')\b\w+", of_type)
     own = set(re.findall(r"(?:^|,)\s*(\w+)", generics))
+    name, arguments, depth = "", list[str](), 0
+    for token in re.findall(r"(?<!')\b\w+|[<>]", of_type):
+        if token in "<>":
+            depth += 1 if token == "<" else -1
+        elif not name:
+            name = token
+        elif depth > 1 or token not in own:
+            arguments.append(token)
     trait = [re.findall(r"\w+", it)[-1] for it in re.findall(r"[\w:]+", of_trait)[:2]]
-    return "".join([name, *("+" + it for it in arguments if it not in own), *trait])
+    return "".join([name, *("+" + it for it in arguments), *trait])
 
 
 def function_at(file: str, text: str, place: int) -> Function | None:

@@ -60,6 +60,7 @@ class Edits(unittest.TestCase):
         for head, name in {
             " Tree": "Tree",
             " Tree<Item>": "Tree+Item",
+            "<L: Line> Reader<Lossy<L>>": "Reader+Lossy+L",
             "<'a, T> Iterator for Iter<'a, T>": "IterIterator",
             " From<AllocError> for Fault": "FaultFromAllocError",
         }.items():
