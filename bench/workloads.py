@@ -161,6 +161,12 @@ WORKLOADS = [
         lambda n: [*topics(1), *lines(1, batch(1_000, 2_097))],
         lambda n: lines(n, "fetch t000000 0 0 1000"),
     ),
+    Workload(
+        "fetch, one record of n bytes that are printed as escapes",
+        20_000,
+        lambda n: [*topics(1), *lines(1, f"produce t000000 0 - {'%00' * n}")],
+        lambda n: lines(1, "fetch t000000 0 0 1"),
+    ),
     Workload("commit, of 10 of 10,000 groups", 20_000, groups("g{i:06}"), of_groups("g{i:06}")),
     Workload("commit, first of a group", 2_500, one_topic, lambda n: commits(n, OTHERS + "{i:08}")),
     Workload(

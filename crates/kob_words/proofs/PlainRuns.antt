@@ -1,5 +1,5 @@
 -- A text begins with the bytes that stand for themselves, and these are ASCII.
-use Rattle.std.proofs.Common.{◌≡◌, ◌∙◌, ◌+◌, ◌/◌, ◌%◌, ℕ, Bool, true, false, cond, List, length, [], ◌∷◌, ◌++◌, suc, take, drop, sym, ap, refl, append_assoc, append-nil, arith, subst, if◌then◌else◌}
+use Rattle.std.proofs.Common.{◌≡◌, ◌≤◌, ◌∙◌, ◌+◌, ◌/◌, ◌%◌, ℕ, Bool, true, false, cond, List, length, zero, [], ◌∷◌, ◌++◌, suc, take, drop, sym, ap, refl, append_assoc, append-nil, arith, subst, if◌then◌else◌}
 use Rattle.std.specs.Char.{digit_char}
 use Rattle.std.specs.List.{list_all}
 use Rattle.std.specs.Str.{IsAscii}
@@ -79,7 +79,9 @@ module _ (bytes rest plain others : List ℕ) (split : bytes_text rest ≡ plain
       (IsAscii-append plain (byte_text byte ++ bytes_text after) front
       (IsAscii-append (byte_text byte) (bytes_text after) here more)))
 
--- the plain front of plain bytes is all of them
-pub all_plain : (bytes : List ℕ) → list_all is_plain bytes ≡ true → length bytes ≡ plain_length bytes
-all_plain [] plain = refl
-all_plain (byte ∷ bytes) plain = grind (arith, nat_tests, all_plain bytes)
+-- bytes that are plain, and then the plain front of the others
+pub plain_passed : (bytes : List ℕ) (n : ℕ) → n ≤ length bytes → list_all is_plain (take n bytes) ≡ true
+    → plain_length bytes ≡ n + plain_length (drop n bytes)
+plain_passed bytes zero within plain = omega arith
+plain_passed [] (suc n) within plain = absurd (omega (arith, within))
+plain_passed (byte ∷ bytes) (suc n) within plain = grind (arith, nat_tests, plain_passed bytes n)

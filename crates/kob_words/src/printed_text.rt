@@ -61,17 +61,22 @@ fn plain_length(bytes: &[u8]) -> usize
     ensures length { result ≡ plain_length bytes.now }
     ensures within { result ≤ length bytes.now }
 {
-    if are_plain(bytes) {
-        return bytes.len();
+    let mut length = 0;
+    while bytes.len() - length >= 16 && are_plain(&bytes[length..length + 16]) {
+        length += 16;
     }
-    bytes.iter().take_while(|byte| is_plain(**byte)).count()
+    while length < bytes.len() && is_plain(bytes[length]) {
+        length += 1;
+    }
+    length
 }
 
 /// Whether all bytes are printed as they are.
+#[inline(always)]
 fn are_plain(bytes: &[u8]) -> bool
     ensures { result ≡ list_all is_plain bytes.now }
 {
-    // No early exit, so that the loop tests many bytes at a time.
+    // No early exit, so that all bytes are tested at once.
     let mut plain = true;
     for byte in bytes {
         plain &= is_plain(*byte);
