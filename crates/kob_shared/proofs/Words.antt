@@ -11,7 +11,7 @@ pub use Rattle.kob_rights.specs.declared.event.Event.{Event}
 pub use Rattle.kob_rights.specs.declared.reply.Reply.{Reply}
 pub use Rattle.kob_shared.specs.Fleets.{BeginsWith, DifferAt, EachIsAnswered, Follows, IsAnswered, IsDifference, IsFirstDifference, IsFleet, IsKept, IsRising, IsTornAt, RisesWithin, asked_of_all, claims, claims_of, entries_asked, entries_told, events_of_script, mine, mine_from}
 pub use Rattle.kob_shared.specs.Runs.{IsAsNoted, IsFirstFault, IsFullOnlyPast, IsNamedWithin, IsTaken, IsTear, IsTornOnlyWhere, NamesFirstFault, NamesOneOf, NamesWorkerWithin, events_in, notes_of, told_in}
-pub use Rattle.kob_shared.specs.Journals.{Continuation, EachEntryIsJust, EachEntryIsOneStep, IsContinued, IsFresh, IsLegal, IsReached, IsSound, Record, after_event, begun_after, continued_by, entries_made, entry, entry_limit, events_of, opened_by, outcome_of, replayed_by, IsServed, Noted, event_by}
+pub use Rattle.kob_shared.specs.Journals.{Continuation, EachEntryIsJust, EachEntryIsOneStep, IsContinued, IsFresh, IsFromOpening, IsLegal, IsReached, IsSound, Record, after_event, begun_after, continued_by, entries_made, entry, entry_limit, events_of, opened_by, outcome_of, replayed_by, IsServed, Noted, event_by}
 pub use Rattle.kob_shared.specs.declared.compare.Difference.{Difference}
 pub use Rattle.kob_shared.specs.declared.faults.CallFault.{CallFault}
 pub use Rattle.kob_shared.specs.declared.fleet_stop.FleetStop.{FleetStop}

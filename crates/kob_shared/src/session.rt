@@ -45,25 +45,6 @@ impl SharedBroker {
         }
     }
 
-    /// Serves an event under the lock, for a worker who has seen `seen` entries.
-    fn serve<R: Wait>(
-        &self,
-        rt: &R,
-        alloc: Global,
-        worker: usize,
-        event: Event,
-        seen: usize,
-    ) -> Result<Receipt, CallFault>
-        ensures place { IfOk result (λ r. (seen ≤ r.place) × (r.place < entry_limit)) }
-        ensures served { IfOk result (λ r. IsServed event r) }
-        ensures fits { IfOk result (λ r. Fits event.request r.reply) }
-        ensures offsets { IfOk result (λ r. OffsetsWithin r.reply) }
-        ensures stale { IfErr result (IsStaleOnlyBelow seen) }
-    {
-        let mut recorded = self.recorded.lock(rt);
-        recorded.serve_after(alloc, worker, event, seen)
-    }
-
     /// Returns the broker and its journal, which replays to the broker's state. Does not wait.
     pub fn finish(self) -> Recorded
         ensures { IsSound result }
@@ -101,25 +82,6 @@ impl RotatingBroker {
             host,
             seen: 0,
         }
-    }
-
-    /// Serves an event under the lock, for a worker who has seen `seen` entries.
-    fn serve<R: Wait>(
-        &self,
-        rt: &R,
-        alloc: Global,
-        worker: usize,
-        event: Event,
-        seen: usize,
-    ) -> Result<Receipt, CallFault>
-        ensures place { IfOk result (λ r. (seen ≤ r.place) × (r.place < place_limit)) }
-        ensures served { IfOk result (λ r. IsServed event r) }
-        ensures fits { IfOk result (λ r. Fits event.request r.reply) }
-        ensures offsets { IfOk result (λ r. OffsetsWithin r.reply) }
-        ensures stale { IfErr result (IsStaleOnlyBelow seen) }
-    {
-        let mut continued = self.continued.lock(rt);
-        continued.serve_after(alloc, worker, event, seen)
     }
 
     /// Hands out the whole journal under the lock, and continues with an empty one, as
@@ -180,8 +142,14 @@ impl<'a> Shared<'a> {
         ensures stale { IfErr result (IsStaleOnlyBelow seen) }
     {
         match self {
-            Shared::Whole(shared) => shared.serve(rt, alloc, worker, event, seen),
-            Shared::Rotating(shared) => shared.serve(rt, alloc, worker, event, seen),
+            Shared::Whole(shared) => {
+                let mut recorded = shared.recorded.lock(rt);
+                recorded.serve_after(alloc, worker, event, seen)
+            }
+            Shared::Rotating(shared) => {
+                let mut continued = shared.continued.lock(rt);
+                continued.serve_after(alloc, worker, event, seen)
+            }
         }
     }
 }
