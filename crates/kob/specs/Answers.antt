@@ -61,7 +61,7 @@ heading_in form.Words names = names_text names
 heading_in form.Json names = files_line names
 heading_in form.Csv names = names_text names
 
--- a fault of a text, which stands in place of all answers; a table has none
+-- a fault of a text, which is printed in place of all answers; a table has none
 abbrev pub fault_in : AnswerForm → List ℕ → Fault → List ℕ
 fault_in form.Words name fault = name ++ codes " " ++ fault_text fault
 fault_in form.Json name fault =

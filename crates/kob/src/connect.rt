@@ -25,7 +25,7 @@ pub enum Database {
 }
 
 /// Adds the document for the service at a place, as Kafka Connect's REST interface takes it:
-/// `POST /connectors`. What a user has to fill in stands in angle brackets. A property that has
+/// `POST /connectors`. What a user has to fill in is in angle brackets. A property that has
 /// Debezium's default is left out. The error is out of memory.
 pub fn push_connector(
     out: &mut Vec<u8>,

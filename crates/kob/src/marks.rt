@@ -63,7 +63,7 @@ fn push_shown_byte(out: &mut Vec<u8>, byte: u8) -> Result<(), AllocError>
     }
 }
 
-/// The bytes of a word as they stand in the line, blanks between quotes included; a byte that no
+/// The bytes of a word as they are in the line, blanks between quotes included; a byte that no
 /// terminal shows is written `%xx`.
 fn push_shown(out: &mut Vec<u8>, word: &[u8]) -> Result<(), AllocError>
     ensures { OnOk result (out.new.items ≡ out.old.items ++ flat_map shown_byte word.now) }

@@ -29,13 +29,13 @@ kind_byte Group = 1
 kind_byte Cluster = 2
 kind_byte TransactionalId = 3
 
--- kind of resource, principal, host and name, with a byte between them that stands in no text
+-- kind of resource, principal, host and name, with a byte between them that is in no text
 unfoldable pub binding_key : Binding → List ℕ
 binding_key binding =
     kind_byte binding.resource
     ∷ (binding.principal ++ 255 ∷ (binding.host ++ 255 ∷ binding.pattern.name))
 
--- Where the serials of bindings stand in trees.
+-- Where the serials of bindings are in trees.
 
 -- a key of a tree, and one of its two lists
 pub record Place : Type 0 where

@@ -150,7 +150,7 @@ pub record SameDenial (one other : Reply) : Type 0 where
   pub denied : (code : Code) (verdicts : List Verdict)
       → (one ≡ Denied code verdicts) ↔ (other ≡ Denied code verdicts)
 
--- x stands in the list
+-- x is in the list
 abbrev pub StandsIn : {A : Type 0} → A → List A → Type 0
 StandsIn x [] = ⊥
 StandsIn x (y ∷ ys) = (x ≡ y) ⊎ StandsIn x ys

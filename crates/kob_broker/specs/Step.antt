@@ -19,7 +19,7 @@ use Rattle.kob_groups.specs.Kept as groups_kept
 use Rattle.kob_broker.specs.declared.prepared.Change.TheVariants as changes
 use Rattle.kob_rights.specs.declared.reply.Body.TheVariants as bodies
 
--- The tables tell what each kind of request does.
+-- The tables say what each kind of request does.
 
 -- a reply, and the state that it leaves
 pub record Outcome (P : Type 0) : Type 0 where
@@ -100,7 +100,7 @@ module _ {P : Type 0} (m : Meaning P) where
   abbrev pub refusal : State P → Request → Option Reason
   refusal s request = first_reason (reasons_against s (named s request) request)
 
-  -- refused for the first reason that holds, or else done; `event` tells who asks
+  -- refused for the first reason that holds, or else done; `event` says who asks
   abbrev pub effect_by : Option Reason → State P → Option P → Event → Request → Outcome P
   effect_by (Some reason) s found event request =
       record { reply = Refused (code_of reason) reason; state = s }

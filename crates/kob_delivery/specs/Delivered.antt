@@ -84,7 +84,7 @@ pub record Sends (route : Dispatching) (worker : ℕ) (row : Event) (e : Entry) 
   pub content : asked.batch.records ≡ dispatch.message ∷ []
   pub done : e.reply ≡ Done body
 
--- the row stands in the outbox past the mark
+-- the row is in the outbox past the mark
 pub record IsWaiting (outbox : Outbox) (row : Event) : Type 0 where
   pub past : outbox.mark < row.seq
   pub there : Contains outbox.events row

@@ -12,7 +12,7 @@ ghost use Rattle.kob_delivery.specs.View.{IsHistory, IsNeverDeleted, IsSoleProdu
 ghost use Rattle.kob_delivery.specs.View.{View, opening_view};
 
 /// Take a partition of a topic to which only the service sends, and that nobody deletes. No event
-/// id stands there in more records than the router was started: in one, and in one more for each
+/// id is there in more records than the router was started: in one, and in one more for each
 /// restart. So lost calls and repeated batches alone put no record there twice: the broker answers
 /// a repeat and does not append it.
 pub fn a_row_is_appended_once_a_start()

@@ -92,7 +92,7 @@ abbrev pub early_within : List Place → List OutboxEvent → ℕ × Reach → L
 early_within assignment events (assigned, reach) =
     early_on assigned events (map record_arrival (records_once assignment (assigned, reach)))
 
--- the records that stand in their partition before an event of their aggregate that was recorded
+-- the records that are in their partition before an event of their aggregate that was recorded
 -- before them and has a record there
 abbrev pub early_records : List Place → List OutboxEvent → List Reach → List EarlyRecord
 early_records assignment events reaches =

@@ -14,7 +14,7 @@ use kob_shared::Journal;
 use std::alloc::{AllocError, Global};
 
 /// The entries that deleted the topic of a partition, or put the record at an offset out of the reach
-/// of a consumer that begins by the group's commit. They are told by their places. The error is out
+/// of a consumer that begins by the group's commit. They are named by place. The error is out
 /// of memory.
 pub(crate) fn obstacles(
     alloc: Global,

@@ -1,4 +1,4 @@
-//! Which records stand in their partition before an event that was recorded before them.
+//! Which records are in their partition before an event that was recorded before them.
 
 ghost use Rattle.std.specs.Prelude.{◌≡◌, ◌++◌, IfOk, OnOk, map};
 ghost use Rattle.kob_delivery_check.specs.Order.{early_on, early_records, early_within};

@@ -56,7 +56,7 @@ pub(crate) fn is_number(event: u128, number: Option<u128>) -> bool
     }
 }
 
-/// Where an event stands in a partition, by the events of its records.
+/// Where an event is in a partition, by the events of its records.
 pub(crate) fn offset_of(event: u128, events: &[Option<u128>]) -> Option<usize>
     ensures { result ≡ position (is_number event) events.now }
 {

@@ -68,7 +68,7 @@ sending_after (sent.Stopped stops.BadTopic) = Some (Err program.BadText)
 sending_after (sent.Stopped (stops.Memory refused)) = Some (Err (program.Memory refused))
 sending_after (sent.Stopped stops.Store) = Some (Err program.Store)
 
--- a service and what its line tells, at one time
+-- a service and what its line reports, at one time
 pub record Moment : Type 0 where
   pub relayed : Relayed
   pub calls : List Call

@@ -98,7 +98,7 @@ placed_intake row = (
   },
 )
 
--- a record that stands there
+-- a record that is there
 abbrev pub arrival_from : Origin → Record → Arrival
 arrival_from from message = record {
   place = record { topic = from.topic.now; partition = from.partition };
@@ -108,7 +108,7 @@ arrival_from from message = record {
 
 -- What becomes of an error of the database.
 
--- lack of memory is told apart from all else
+-- out of memory is distinguished from all else
 abbrev pub fault_of : Error → InboxFault
 fault_of (SqliteFailure OutOfMemory) = Memory alloc_error
 fault_of _ = Store

@@ -1,4 +1,4 @@
--- The table of a consumer, how the events stand in its rows, and a database that has it.
+-- The table of a consumer, how the events are kept in its rows, and a database that has it.
 use Rattle.std.specs.Prelude.{false, List, [], ◌∷◌, ℕ, Some, codes, ◌≡◌, ◌<◌, ◌^◌, length, pos, map, Option, None}
 use Rattle.sqlite.specs.Kind.{Kind}
 use Rattle.sqlite.specs.Kind.TheVariants.{Integer, Text, Any}
@@ -42,11 +42,11 @@ inbox = table_of (codes "inbox") columns (Some 0) (0 ∷ []) ((2 ∷ []) ∷ [])
 abbrev pub inbox_schema : Schema
 inbox_schema = created no_schema inbox
 
--- the table as it stands in the schema
+-- the table as it is in the schema
 abbrev pub inbox_table : Table
 inbox_table = record inbox { tree = 0 }
 
--- ---- how the events stand in the rows of the table
+-- ---- how the events are kept in the rows of the table
 
 -- the tree of the table's rows
 abbrev pub inbox_tree : ℕ

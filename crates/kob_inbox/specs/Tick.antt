@@ -19,7 +19,7 @@ use Rattle.kob_inbox.specs.Run.Move.{Called}
 abbrev pub state_of : Fetcher → Contents → State
 state_of f inbox = record { inbox = inbox; cursors = f.cursors.items; turn = f.turn }
 
--- a consumer with its inbox, and what its line tells
+-- a consumer with its inbox, and what its line reports
 pub record Point : Type 0 where
   pub state : State
   pub calls : List Call
@@ -71,13 +71,13 @@ IsReport t Idle moves =
 IsReport t Repeat moves = (moves ≡ []) ⊎ ((request : Request) × IsCall moves request None 0)
 IsReport t (Stopped reason) moves = IsReason reason moves
 
--- how often calls were not made for lack of memory: of a tick, only a loss without a call tells so
+-- how often calls were not made for lack of memory: of a tick, only a loss without a call says so
 abbrev pub unmade_by : Tick → List Move → ℕ → ℕ
 unmade_by tick (move ∷ moves) unmade = unmade
 unmade_by Repeat [] unmade = one_more unmade
 unmade_by tick [] unmade = unmade
 
--- the one move of a tick, or none: a run, whose call the line notes and the answer tells of
+-- the one move of a tick, or none: a run, whose call the line notes and the answer reports
 pub record Ticks (t : Subscription) (old new : Point) (tick : Tick) : Type 0 where
   pub moves : List Move
   pub run : IsConsumerRun t old.state moves new.state

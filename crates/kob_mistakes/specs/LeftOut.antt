@@ -1,4 +1,4 @@
--- Words that are left out of a line of a scene, told by what stands in their places.
+-- Words that are left out of a line of a scene, known by what is in their places.
 use Rattle.std.specs.Prelude.{ℕ, ◌-◌, ◌==◌, ◌&&◌, ◌||◌, nat_lt, not, Bool, List, Option, Some, None, codes, length, if◌then◌else◌}
 use Rattle.std.specs.Str.{bytes_eq}
 use Rattle.kob_mistakes.specs.Commands.{is_command}

@@ -1,4 +1,4 @@
--- What a person is told of a fault of this kind, on the line of a number of a text.
+-- What is reported of a fault of this kind, on the line of a number of a text.
 use Rattle.std.specs.Prelude.{ℕ, List, Option, Some, None, length}
 use Rattle.std.specs.Option.{option_or}
 use Rattle.kob_mistakes.specs.Forms.{form_by}
@@ -54,7 +54,7 @@ abbrev pub form_at : List ℕ → ℕ → SceneFaultKind → ℕ → List ℕ
 form_at text line kind place =
     form_by kind (stepping_on text line place) (raw_words (line_of text line))
 
--- the words of a line, as they stand in it
+-- the words of a line, as they are written in it
 abbrev pub words_in : Lines → List ℕ → List (List ℕ)
 words_in Bindings line = raw_words line
 words_in Questions line = quoted_words line

@@ -71,7 +71,7 @@ begins_with_nothing before words kind =
     same_kind kind (Script fault.BadLine) && not (is_some (form_in line_forms (word_at words 0)))
     && not (has 58 (word_at words 0)) && not (is_some (kind_named before (word_at words 0)))
 
--- by the words of a line, as they stand in it and as they are read
+-- by the words of a line, as they are written in it and as they are read
 abbrev pub place_by : List (List ℕ) → List (List ℕ) → SceneFaultKind → Result (List Word) FaultKind → ℕ
 place_by before raw kind (Err e) = 0
 place_by before raw kind (Ok words) =

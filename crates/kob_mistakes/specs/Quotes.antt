@@ -1,4 +1,4 @@
--- The words of a question as they stand in its line: they are cut at blanks outside of quotes, which
+-- The words of a question as they are in its line: they are cut at blanks outside of quotes, which
 -- are those of a shell (POSIX, "Shell Command Language", Quoting).
 use Rattle.std.specs.Prelude.{ℕ, ◌==◌, ◌&&◌, Bool, true, false, List, [], ◌∷◌, ◌++◌, if◌then◌else◌}
 use Rattle.kob_mistakes.specs.declared.quotes.Quoting.{Quoting}

@@ -1,4 +1,4 @@
--- What is told on standard error beside the answers.
+-- What is printed on standard error beside the answers.
 use Rattle.std.specs.Prelude.{ℕ, Bool, true, false, List, [], ◌++◌, Option, Some, None, codes}
 use Rattle.std.specs.Fmt.{decimal}
 use Rattle.kob_mistakes.specs.Kinds.{is_alone, kind_form, kind_name, kind_named}
@@ -27,7 +27,7 @@ abbrev pub unquoted_text : List ℕ → List ℕ
 unquoted_text word =
     form_text (kind_named word) ++ quotes_text ++ word ++ codes " ..'\n"
 
--- a question of more words than one stands in quotes
+-- a question of more words than one is in quotes
 abbrev pub unquoted_unless : Bool → List ℕ → List ℕ
 unquoted_unless true word = []
 unquoted_unless false word = unquoted_text word

@@ -1,4 +1,4 @@
-//! Words that are left out of a line of a scene, told by what stands in their places.
+//! Words that are left out of a line of a scene, known by what is in their places.
 
 ghost use Rattle.std.specs.Prelude.{◌≡◌, map};
 ghost use Rattle.kob_mistakes.specs.LeftOut.{is_before_partition, lacks_askers_host};

@@ -1,4 +1,4 @@
-//! What a person is told of a fault in a scene or a script: the word that is wrong, what was
+//! What is reported of a fault in a scene or a script: the word that is wrong, what was
 //! expected there, and the nearest word that exists.
 #![tactic(auto)]
 

@@ -1,4 +1,4 @@
-//! A fault of a scene or a script, as a person is told of it.
+//! A fault of a scene or a script, as it is reported to a person.
 
 ghost use Rattle.std.specs.Prelude.{◌≡◌, ◌++◌, IfOk, OnOk, map, option_map, slice_get};
 ghost use Rattle.kob_scene_text.specs.Misuses.{misuse_at};
@@ -30,7 +30,7 @@ use std::alloc::{AllocError, Global};
 /// A fault with its line.
 #[derive(Drop)]
 pub struct Mistake<'a> {
-    /// The words of the line, as they stand in it.
+    /// The words of the line, as they are written in it.
     pub words: Vec<&'a [u8]>,
     /// The place of the word that is wrong, from 0; the number of words if one is missing.
     pub place: usize,
@@ -43,7 +43,7 @@ pub struct Mistake<'a> {
     pub hint: Option<&'static str>,
 }
 
-/// What a person is told of a fault of a text.
+/// What is reported of a fault of a text.
 pub fn mistake_in<'a>(
     alloc: Global,
     text: &'a [u8],

@@ -1,4 +1,4 @@
-//! A fault of a question or of a list of bindings, as a person is told of it.
+//! A fault of a question or of a list of bindings, as it is reported to a person.
 
 ghost use Rattle.std.specs.Prelude.{◌≡◌, IfOk, map};
 ghost use Rattle.kob_mistakes.specs.Lines.{line_of};
@@ -63,7 +63,7 @@ static WORDS: [&str; 32] = [
     "deny",
 ];
 
-/// What a person is told of a fault of this kind on a line of a text, counted from 1.
+/// What is reported of a fault of this kind on a line of a text, counted from 1.
 pub fn line_mistake<'a>(
     alloc: Global,
     text: &'a [u8],

@@ -157,7 +157,7 @@ fn how_row(how: &Word<'_>) -> &'static [Fit]
 }
 
 /// The row of `produce TOPIC`, `produce TOPIC idempotent` or `produce TOPIC transactional ID`, by the
-/// words behind `produce`; None if more stands there, as in a request.
+/// words behind `produce`; None if more is there, as in a request.
 fn produced_row(words: &[Word<'_>]) -> Option<&'static [Fit]>
     ensures { option_map (λ row. row.now) result ≡ produced_row words.now }
 {
@@ -332,7 +332,7 @@ fn is_cut_behind(kind: Kind, words: &[Word<'_>], place: usize) -> bool
     }
 }
 
-/// Whether a blank may cut a name in two before the place that is wrong: a word stands there that is
+/// Whether a blank may cut a name in two before the place that is wrong: a word is there that is
 /// one too many, or stands before what is asked for.
 pub(crate) fn is_cut(words: &[Word<'_>], place: usize) -> bool
     ensures { result ≡ is_cut words.now place }

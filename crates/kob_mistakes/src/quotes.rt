@@ -79,7 +79,7 @@ fn double_after(byte: u8) -> Quoting
     }
 }
 
-/// The words of a line as they stand in it.
+/// The words of a line as they are written in it.
 #[tactic(auto, using(crate::proofs::Cutting::ends, crate::proofs::Cutting::cuts, crate::proofs::Cutting::goes_on))]
 pub(crate) fn quoted_words(alloc: Global, line: &[u8]) -> Result<Vec<&[u8]>, AllocError>
     ensures { IfOk result (λ words. map (λ word. word.now) words.items ≡ quoted_words line.now) }

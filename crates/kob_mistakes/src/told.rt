@@ -1,4 +1,4 @@
-//! What is told on standard error beside the answers, as text.
+//! What is printed on standard error beside the answers, as text.
 
 ghost use Rattle.std.specs.Prelude.{◌≡◌, ◌++◌, OnOk};
 ghost use Rattle.kob_mistakes.specs.Told.{doubtful_text, expected_head, expected_text, form_text, head_text};

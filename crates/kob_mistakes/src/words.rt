@@ -23,7 +23,7 @@ pub fn lines_of(alloc: Global, text: &[u8]) -> Result<Vec<&[u8]>, AllocError>
     text.lines().collect(alloc)
 }
 
-/// The words of a line as they stand in it.
+/// The words of a line as they are written in it.
 pub(crate) fn raw_words(alloc: Global, line: &[u8]) -> Result<Vec<&[u8]>, AllocError>
     ensures { IfOk result (λ words. map (λ word. word.now) words.items ≡ raw_words line.now) }
 {

@@ -35,7 +35,7 @@ module _ {V : Type 0} where
   abbrev pub with_value_in : Slot V → V → Slot V
   with_value_in slot value = Entry (name_in slot) value
 
-  -- the entries that stand in the slots, in order
+  -- the entries that are in the slots, in order
   abbrev pub entries_in : List (Slot V) → List (List ℕ × V)
   entries_in [] = []
   entries_in (Hole ∷ slots) = entries_in slots

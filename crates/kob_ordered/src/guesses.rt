@@ -6,7 +6,7 @@ use std::alloc::{AllocError, Global};
 use std::hash::{FoldHasher, Hash, Hasher};
 
 /// Where the entry of a name may stand, by the hash of the name. Whoever asks compares the name that
-/// stands there, and searches for the name if it is another one. So no contract speaks of these
+/// is there, and searches for the name if it is another one. So no contract speaks of these
 /// places, and names with equal hashes cost one comparison. Fewer than eight slots have none, and
 /// others two to four for each slot.
 #[derive(Drop)]

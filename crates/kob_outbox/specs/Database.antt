@@ -105,7 +105,7 @@ three_tables = created two_tables mark
 abbrev pub service_schema : Schema
 service_schema = created three_tables outbox
 
--- the four tables as they stand in the schema
+-- the four tables as they are in the schema
 abbrev pub business_table : Table
 business_table = record business { tree = 0 }
 

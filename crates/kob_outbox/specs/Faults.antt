@@ -10,7 +10,7 @@ use Rattle.kob_outbox.specs.declared.fault.MarkFault.TheVariants as of_mark
 use Rattle.kob_outbox.specs.declared.fault.RecordFault.{RecordFault}
 use Rattle.kob_outbox.specs.declared.fault.RecordFault.TheVariants as of_record
 
--- lack of memory is told apart from all else
+-- out of memory is distinguished from all else
 abbrev pub fault_of : Error → OutboxFault
 fault_of (SqliteFailure OutOfMemory) = Memory alloc_error
 fault_of _ = Store

@@ -73,7 +73,7 @@ abbrev pub ServiceGoesOn : RouterTick → Type 0
 ServiceGoesOn (RouterStopped reason) = GoesOnAfter reason
 ServiceGoesOn tick = Unit {0}
 
--- the moves of a tick of the router: what it answers tells of them, and its first call has the loss
+-- the moves of a tick of the router: what it answers reports them, and its first call has the loss
 pub record IsOfServiceTick (route : Dispatching) (loss : Loss) (moves : List routers.Move)
     (served : List Served) (new : routers.State) : Type 0 where
   pub own : AllByRecursion IsOfTick moves
@@ -100,7 +100,7 @@ pub record IsServiceStep (route : Dispatching) (old : routers.State) (step : Ser
   pub own : IsOfServiceStep route old step moves served new
 
 -- The steps of a service, with what it noted, are a router's run over an outbox that was empty, and
--- this is left of the outbox. Its transcript tells which of the run's calls were served: all but
+-- this is left of the outbox. Its transcript says which of the run's calls were served: all but
 -- those that were lost before.
 pub record IsServiceRun (service : Service) (noted : Noted) (left : OutboxEnd) : Type 0 where
   pub work : HasWorked (IsServiceStep (dispatch_of service.target)) routers.start service.steps.items
@@ -115,7 +115,7 @@ abbrev pub ConsumerGoesOn : ConsumerTick → Type 0
 ConsumerGoesOn (ConsumerStopped reason) = GoesOnAfter reason
 ConsumerGoesOn tick = Unit {0}
 
--- the one move of a tick of the consumer: what it answers tells of it, and its call has the loss
+-- the one move of a tick of the consumer: what it answers reports it, and its call has the loss
 pub record IsOfConsumerTick (t : Subscription) (loss : Loss) (moves : List consumers.Move)
     (served : List Served) : Type 0 where
   pub tick : ConsumerTick
@@ -136,7 +136,7 @@ pub record IsConsumerStep (t : Subscription) (old : consumers.State) (step : Con
   pub own : IsOfConsumerStep t step moves served
 
 -- The steps of a consumer, with what it noted, are a consumer's run over an inbox that was empty,
--- and this is left of the inbox. Its transcript tells which of the run's calls were served: all but
+-- and this is left of the inbox. Its transcript says which of the run's calls were served: all but
 -- those that were lost before.
 pub record IsConsumption (consumer : ConsumerPlan) (noted : Noted) (left : InboxEnd) : Type 0 where
   pub work : HasWorked (IsConsumerStep consumer.subscription) consumers.start consumer.steps.items

@@ -29,7 +29,7 @@ without serial rules =
       entries = filter (λ (entry : ℕ × Binding). not (entry.0 == serial)) rules.entries;
     }
 
--- A mark, which stands in no text of the rules: representatives of all others end with it.
+-- A mark, which is in no text of the rules: representatives of all others end with it.
 
 abbrev pub weight : ℕ × Binding → ℕ
 weight entry = sum entry.1.principal + (sum entry.1.host + sum entry.1.pattern.name)
@@ -37,7 +37,7 @@ weight entry = sum entry.1.principal + (sum entry.1.host + sum entry.1.pattern.n
 abbrev pub spare : Contents → ℕ
 spare rules = 1 + (sum_by weight rules.entries + sum_by sum rules.supers)
 
--- it stands in no text of either
+-- it is in no text of either
 abbrev pub mark_of : Contents → Contents → ℕ
 mark_of one other = spare one + spare other
 
@@ -48,7 +48,7 @@ principals_of entries = map (λ (entry : ℕ × Binding). entry.1.principal) ent
 abbrev pub hosts_of : List (ℕ × Binding) → List (List ℕ)
 hosts_of entries = map (λ (entry : ℕ × Binding). entry.1.host) entries
 
--- a class that the rules of the one or the other tell apart
+-- a class that the rules of the one or the other distinguish
 pub record IsClassOf (one other : Contents) (class : Class) : Type 0 where
   pub principal : Contains (parties (principals_of (one.entries ++ other.entries)
       ++ (one.supers ++ other.supers))) class.principal

@@ -29,7 +29,7 @@ abbrev pub is_below : ResourceKind → List ℕ → Target → Bool
 is_below resource prefix target =
     same_resource target.resource resource && starts_with nat_eq (text_of target.names) prefix
 
--- the names that begin with a prefix, as the entries tell them apart
+-- the names that begin with a prefix, as the entries distinguish them
 abbrev pub targets_below : List (ℕ × Binding) → ResourceKind → List ℕ → List Target
 targets_below entries resource prefix =
     filter (is_below resource prefix)

@@ -71,7 +71,7 @@ is_met permission host operation entry =
     && (covers_party (codes "*") entry.1.host host
     && reaches permission entry.1.operation operation)
 
--- The classes that a set of rules tells apart.
+-- The classes that a set of rules distinguishes.
 
 abbrev pub target : ResourceKind → Names → Target
 target resource names = record { resource = resource; names = names }

@@ -57,7 +57,7 @@ pub record IsOnTarget (rules : Contents) (target : Target) (question : Question)
   pub same : (entry : ℕ × Binding) → Contains rules.entries entry
       → is_on target entry ≡ is_match question entry
 
--- each answer is the decision on its representative, and each decision is told by an answer, but
+-- each answer is the decision on its representative, and each decision is given by an answer, but
 -- for super users, to whom all is granted
 pub record ListsAnswers (rules : Contents) (operation : Operation) (target : Target)
     (found : List Answer) : Type 0 where

@@ -1,4 +1,4 @@
--- What is granted to one principal, by the names that its bindings tell apart.
+-- What is granted to one principal, by the names that its bindings distinguish.
 use Rattle.std.specs.Prelude.{◌≡◌, Bool, true, false, ◌||◌, ◌&&◌, List, [], ◌∷◌, ℕ, Option, Some, None, Contains, codes, flat_map, map}
 use Rattle.std.specs.List.{filter, list_any}
 use Rattle.kob_names.specs.Binding.{Binding}
@@ -34,7 +34,7 @@ holdings_on rules principal host target =
     filter (is_for (Some principal)) (filter (is_on target) rules.entries) in
     map (holding_from target asking) (hosts_asked host asking)
 
--- what is granted on each name that the principal's bindings tell apart
+-- what is granted on each name that the principal's bindings distinguish
 unfoldable pub holdings_of : Contents → List ℕ → Option (List ℕ) → List Holding
 holdings_of rules principal host =
     flat_map (holdings_on rules principal host) (targets_named (own_entries rules principal))

@@ -140,7 +140,7 @@ fn push_all(
     Ok(())
 }
 
-/// The names that the principal's bindings tell apart.
+/// The names that the principal's bindings distinguish.
 fn own_targets(
     alloc: Global,
     rules: &Authorizer,

@@ -239,7 +239,7 @@ fn some_open(places: &[Place]) -> bool
     places.iter().any(|place| is_open(place))
 }
 
-/// The names that begin with the prefix, as a set of rules tells them apart.
+/// The names that begin with the prefix, as a set of rules distinguishes them.
 fn places_below(
     alloc: Global,
     rules: &Authorizer,

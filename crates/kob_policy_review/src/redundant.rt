@@ -216,7 +216,7 @@ fn outside(
 
 /// The bindings without which, each taken alone, no answer at all changes: for no principal, no
 /// host, no operation and no name. By ascending serial, each with its reason. Two that stand in for
-/// each other are both listed; `removable` tells which may go together.
+/// each other are both listed; `removable` says which may go together.
 pub fn unused(alloc: Global, rules: &Authorizer) -> Result<Vec<Unneeded>, AllocError>
     ensures exact { IfOk result (λ found. ListsUnused rules.now.contents found.items) }
     ensures listed { IfOk result (λ found. found.items ≡ unused_in rules.now.contents) }

@@ -1,4 +1,4 @@
-//! The names that a set of rules tells apart, and for each binding those that it is on.
+//! The names that a set of rules distinguishes, and for each binding those that it is on.
 
 ghost use Rattle.std.specs.Prelude.{◌≡◌, Contains, IfOk, OnOk, fold, map, slice_get};
 ghost use Rattle.std.specs.List.{list_any};

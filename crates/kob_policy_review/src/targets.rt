@@ -1,4 +1,4 @@
-//! The names that a set of rules tells apart, each once.
+//! The names that a set of rules distinguishes, each once.
 
 ghost use Rattle.std.specs.Prelude.{◌≡◌, ◌++◌, ◌∷◌, [], IfOk, OnOk, filter, fold, slice_get};
 ghost use Rattle.std.specs.List.{list_any};
@@ -139,7 +139,7 @@ impl Targets {
         Ok(made)
     }
 
-    /// The names that a set of rules tells apart, each once.
+    /// The names that a set of rules distinguishes, each once.
     pub fn of(alloc: Global, entries: &[(u64, Binding)]) -> Result<Targets, AllocError>
         ensures { IfOk result (λ made. made ≡ targets_named entries.now) }
     {
@@ -163,7 +163,7 @@ impl Targets {
         self.add_all(alloc, entries)
     }
 
-    /// The names that a set of rules and one more prefix tell apart, each once.
+    /// The names that a set of rules and one more prefix distinguish, each once.
     fn around(
         alloc: Global,
         entries: &[(u64, Binding)],
@@ -260,7 +260,7 @@ fn same_target(one: &Target, other: &Target) -> bool
     one.resource == other.resource && same_names(&one.names, &other.names)
 }
 
-/// The names that a set of rules tells apart, each once.
+/// The names that a set of rules distinguishes, each once.
 pub fn targets_of(alloc: Global, entries: &[(u64, Binding)]) -> Result<Vec<Target>, AllocError>
     ensures { IfOk result (λ made. made.items ≡ targets_named entries.now) }
 {
@@ -306,7 +306,7 @@ fn only_below(
     Ok(made)
 }
 
-/// The names that begin with a prefix, as a set of rules tells them apart.
+/// The names that begin with a prefix, as a set of rules distinguishes them.
 pub fn targets_below(
     alloc: Global,
     entries: &[(u64, Binding)],

@@ -129,7 +129,7 @@ pub(crate) fn push_at(
     push_found(alloc, rows, judge, why, place, binding)
 }
 
-/// The binding with a serial, if it stands in a list.
+/// The binding with a serial, if it is in a list.
 #[tactic(auto, unfolding(crate::specs::Cells::bound_rows))]
 fn push_bound(
     alloc: Global,

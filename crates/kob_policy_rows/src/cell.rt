@@ -6,7 +6,7 @@ ghost use Rattle.kob_policy_rows.specs.Cells.{number_cell};
 use kob_names::{Items, Text};
 use std::alloc::{AllocError, Global};
 
-/// What stands in a row below the name of a column.
+/// What is in a row below the name of a column.
 #[derive(Drop)]
 pub enum Cell {
     Words(Text),

@@ -9,7 +9,7 @@ use Rattle.kob_script.specs.declared.fault.FaultKind.TheVariants.{BadText}
 use Rattle.kob_policy_text.specs.declared.encoding.Encoding.{Encoding}
 use Rattle.kob_policy_text.specs.declared.encoding.Encoding.TheVariants.{Utf8, LowFirst, HighFirst}
 
--- the encoding that a byte order mark tells
+-- the encoding that a byte order mark names
 abbrev pub encoding_of : List ℕ → Encoding
 encoding_of text =
     if starts_with nat_eq text (255 ∷ 254 ∷ []) then LowFirst
@@ -44,7 +44,7 @@ read_units low units (byte ∷ bytes) = read_units low (with_unit_byte low units
 abbrev pub is_broken : Units → Bool
 is_broken units = is_some units.first || has_unpaired_surrogate units.ended
 
--- the text as UTF-8; of one that is broken it is not told where
+-- the text as UTF-8; of one that is broken the place is not reported
 abbrev pub units_text : Units → Result (List ℕ) Fault
 units_text units =
     if is_broken units then Err (record { line = 1; kind = BadText })

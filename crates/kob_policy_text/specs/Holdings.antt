@@ -21,7 +21,7 @@ joined (first ∷ others) = operation_name first ++ flat_map behind_comma others
 abbrev pub operations_text : List Operation → List ℕ
 operations_text operations = if length operations == 10 then codes "All" else joined operations
 
--- the host that is asked about stands in the question
+-- the host that is asked about is in the question
 abbrev pub from_host : Option (List ℕ) → Holding → List ℕ
 from_host (Some host) one = []
 from_host None one = party_text (codes "* (others)") one.host ++ codes " "

@@ -113,7 +113,7 @@ is_other_resource word =
     is_spelled word (codes "DELEGATION_TOKEN")
     || (is_spelled word (codes "DelegationToken") || is_spelled word (codes "USER"))
 
--- an operation with underscores, or as it stands in scripts; nothing for one that is left out
+-- an operation with underscores, or as it is written in scripts; nothing for one that is left out
 abbrev pub listed_operation : List ℕ → Option (Option Operation)
 listed_operation word =
     if is_spelled word (codes "CLUSTER_ACTION") then Some (Some ClusterAction)
@@ -123,7 +123,7 @@ listed_operation word =
     else (if is_other_operation word then Some None
     else option_map (λ operation. Some operation) (operation_named word)))))
 
--- a kind of resource with an underscore, or as it stands in scripts;
+-- a kind of resource with an underscore, or as it is written in scripts;
 -- nothing for one that is left out
 abbrev pub listed_resource : List ℕ → Option (Option ResourceKind)
 listed_resource word =

@@ -117,7 +117,7 @@ abbrev pub event_or_bad_line : Option Event → Result Access FaultKind
 event_or_bad_line (Some event) = access_by event
 event_or_bad_line None = Err BadLine
 
--- PRINCIPAL HOST COMMAND .., as a request stands in a script; `acl` is none
+-- PRINCIPAL HOST COMMAND .., as a request is written in a script; `acl` is none
 unfoldable pub may_request : List Word → Result Access FaultKind
 may_request words = events_of None words >>= λ events. event_or_bad_line (only_event events)
 

@@ -63,7 +63,7 @@ row_item line = cells_in line >>= seven_cells
 abbrev pub member_in : List ℕ → Json → Result (List ℕ) FaultKind
 member_in name value = ok_or (option_and_then as_str (get name value)) BadWord
 
--- the host, which is every host where none is told
+-- the host, which is every host where none is given
 abbrev pub host_by : Option Json → Result (List ℕ) FaultKind
 host_by None = Ok (codes "*")
 host_by (Some told) = ok_or (as_str told) BadWord

@@ -11,7 +11,7 @@ use Rattle.kob_policy_text.specs.Policy.{Policy, contents_of, place_of}
 unfoldable pub count_line : List ℕ → ℕ → List ℕ
 count_line what count = codes "  " ++ what ++ codes " " ++ decimal count ++ codes "\n"
 
--- nothing is told of what a left out binding closes
+-- nothing is said of what a left out binding closes
 abbrev pub is_told : Policy → Unneeded → Bool
 is_told policy one = is_some (place_of policy one.serial)
 

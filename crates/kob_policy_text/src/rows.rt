@@ -133,7 +133,7 @@ fn member_in<'a>(object: &Value<'a>, name: &str) -> Result<&'a [u8], LineError>
     }
 }
 
-/// The host, or `*` where none is told.
+/// The host, or `*` where none is given.
 fn host_in<'a>(object: &Value<'a>) -> Result<&'a [u8], LineError>
     ensures { GivesSeen (λ text. text.now) result
         (host_by (get (codes "host") (value_view object.now))) }

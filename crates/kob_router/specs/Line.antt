@@ -1,4 +1,4 @@
--- What a line tells of its calls, and which of them were served.
+-- What a line reports of its calls, and which of them were served.
 use Rattle.std.specs.Prelude.{◌≡◌, ◌⊎◌, ℕ, ◌+◌, min, List, [], ◌∷◌, ◌++◌, None, Some}
 use Rattle.kob_rights.specs.declared.request.Request.{Request}
 use Rattle.kob_rights.specs.Requests.{Fits, OffsetsWithin}
@@ -11,7 +11,7 @@ use Rattle.kob_rights.specs.declared.reply.Reply.{Reply}
 abbrev pub one_more : ℕ → ℕ
 one_more count = min (count + 1) 18446744073709551615
 
--- A delivered reply stands in the call; a lost call has none, or was not made, which is counted.
+-- A delivered reply is in the call; a lost call has none, or was not made, which is counted.
 abbrev pub Adds : List Call → List Call → ℕ → ℕ → Request → Delivery → Type 0
 Adds before now unmade then_unmade request (Delivered reply) =
     (now ≡ before ++ record { request = request; heard = Some reply } ∷ []) × (then_unmade ≡ unmade)

@@ -27,7 +27,7 @@ state_of sender outbox = record {
   hand = option_map hand_of sender.hand;
 }
 
--- a router with its outbox, and what its line tells
+-- a router with its outbox, and what its line reports
 pub record Point : Type 0 where
   pub state : State
   pub calls : List Call
@@ -136,7 +136,7 @@ IsAtMostOne [] = Unit {0}
 IsAtMostOne (c ∷ []) = Unit {0}
 IsAtMostOne (c ∷ d ∷ cs) = ⊥
 
--- the moves of a tick or of a part of it: a run, whose calls the line notes and the answer tells of
+-- the moves of a tick or of a part of it: a run, whose calls the line notes and the answer reports
 pub record Ticks (shape : List Call → Type 0) (route : Dispatching) (old new : Point) (tick : Tick)
     : Type 0 where
   pub moves : List Move

@@ -1,4 +1,4 @@
--- Which words stand in a shell's line as they are, which in quotes, and which values in a property.
+-- Which words a shell's line has as they are, which in quotes, and which values in a property.
 use Rattle.std.specs.Prelude.{ℕ, Bool, not, ◌&&◌, ◌||◌, ◌==◌, List, [], ◌∷◌, ◌++◌, codes, flat_map, length, nat_le, if◌then◌else◌}
 use Rattle.std.specs.Char.{is_ascii_alphanumeric}
 use Rattle.std.specs.List.{list_all}

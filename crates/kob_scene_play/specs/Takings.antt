@@ -83,7 +83,7 @@ held_or (Fetch asked) (bodies.Records (first ∷ records)) =
     Ok (record { asked = asked; records = first ∷ records })
 held_or request body = Err body
 
--- a body is held, and told as the position behind it; or handled as the proved consumer does
+-- a body is held, and reported as the position behind it; or handled as the proved consumer does
 abbrev pub IsHandled : Result Held Body → Subscription → Request → Ahead → Ahead → Tick → Type 0
 IsHandled (Ok held) t request old new tick =
     (new ≡ record old { holding = Fetched held }) × (tick ≡ ticks.Placed (position_of held))

@@ -56,7 +56,7 @@ Finds (Ok done) fault = fault ≡ None
 Finds (Err (Memory e)) fault = fault ≡ None
 Finds (Err (Fault kind)) fault = fault ≡ Some kind
 
--- Out of memory is told only where there is no such fault.
+-- Out of memory is returned only where there is no such fault.
 abbrev pub HidesNoFault : {A : Type 0} → Result A LineError → Option FaultKind → Type 0
 HidesNoFault (Err (Memory e)) fault = fault ≡ None
 HidesNoFault result fault = Unit {0}
@@ -104,7 +104,7 @@ abbrev pub cut_at : ℕ → List ℕ → Option (List ℕ × List ℕ)
 cut_at byte word =
     option_map (λ at. (take at word, drop (at + 1) word)) (first_of (places (is_byte byte) word))
 
--- a word as it stands in the line, and the bytes that it stands for
+-- a word as it is in the line, and the bytes that it stands for
 pub record Word : Type 0 where
   pub raw : List ℕ
   pub decoded : List ℕ

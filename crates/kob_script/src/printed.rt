@@ -149,7 +149,7 @@ fn push_list<T: Item>(out: &mut Vec<u8>, word: &[u8], items: &[T]) -> Result<(),
     Ok(())
 }
 
-/// What stands in a list, behind a space, a comma or a line feed.
+/// What is in a list, behind a space, a comma or a line feed.
 trait Item {
     ghost text: { Self → List ℕ };
 

@@ -33,7 +33,7 @@ pub struct Script {
 
 /// Reads a script, of which it makes a copy, in time linear in its size. A line ends with a line
 /// feed, or with a carriage return and a line feed; the last line may have no end. The error is the
-/// first line with a fault, or `Memory`. `clap` tells what the words of an `acl` line mean, and for
+/// first line with a fault, or `Memory`. `clap` says what the words of an `acl` line mean, and for
 /// some words its port may return more than one result. A script without such lines has one reading.
 pub fn read_script(alloc: Global, text: &[u8]) -> Result<Script, ScriptError>
     ensures any { IfRead result (ReadsAs text.now) }
@@ -82,7 +82,7 @@ struct Checking {
 
 /// Checks a script in blocks of whole lines, with fewer than 2^63 bytes, in time linear in its
 /// size. The requests are counted, and the blocks are kept until they are served. The error is the
-/// first line with a fault, or `Memory`, also for 2^64 requests. `clap` tells what the words of an
+/// first line with a fault, or `Memory`, also for 2^64 requests. `clap` says what the words of an
 /// `acl` line mean, and for some words its port may return more than one result. A script without
 /// such lines has one reading.
 pub fn check_script(alloc: Global, blocks: Vec<Bytes>) -> Result<CheckedScript, ScriptError>
