@@ -237,10 +237,18 @@ abbrev pub sees_words : List Word → Result Question FaultKind
 sees_words (principal ∷ host ∷ []) = asker_of principal host >>= λ asker. Ok (Sees asker)
 sees_words _ = Err BadLine
 
--- a question of no other words
-abbrev pub alone : Question → List Word → Result Question FaultKind
-alone question [] = Ok question
-alone question _ = Err BadLine
+-- a question of one word
+abbrev pub lone_question : Word → Result Question FaultKind
+lone_question word =
+    if is_word word (codes "summary") then Ok Summary
+    else (if is_word word (codes "unused") then Ok Unused
+    else (if is_word word (codes "shadowed") then Ok Shadowed
+    else (if is_word word (codes "removable") then Ok Removable
+    else Err BadLine)))
+
+abbrev pub lone_words : Word → List Word → Result Question FaultKind
+lone_words first [] = lone_question first
+lone_words first _ = Err BadLine
 
 -- a question by its first word
 unfoldable pub question_by : Word → List Word → Result Question FaultKind
@@ -250,11 +258,7 @@ question_by first words =
     else (if is_word first (codes "who") then who_words words
     else (if is_word first (codes "rights") then rights_words words
     else (if is_word first (codes "sees") then sees_words words
-    else (if is_word first (codes "summary") then alone Summary words
-    else (if is_word first (codes "unused") then alone Unused words
-    else (if is_word first (codes "shadowed") then alone Shadowed words
-    else (if is_word first (codes "removable") then alone Removable words
-    else Err BadLine))))))))
+    else lone_words first words))))
 
 -- the names of topics that are given, and the questions in their order, each beside its text
 pub record Questions : Type 0 where

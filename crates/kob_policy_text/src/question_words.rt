@@ -1,8 +1,9 @@
 //! What the words of a question ask.
 
 ghost use Rattle.std.specs.Prelude.{◌≡◌};
-ghost use Rattle.kob_policy_text.specs.Questions.{alone, asker_of, expect_words, expected_by, expects};
-ghost use Rattle.kob_policy_text.specs.Questions.{full_name, host_in, is_word, question_by, right_of};
+ghost use Rattle.kob_policy_text.specs.Questions.{asker_of, expect_words, expected_by, expects};
+ghost use Rattle.kob_policy_text.specs.Questions.{full_name, host_in, is_word, lone_question};
+ghost use Rattle.kob_policy_text.specs.Questions.{lone_words, question_by, right_of};
 ghost use Rattle.kob_policy_text.specs.Questions.{rights_anywhere, rights_from, rights_words};
 ghost use Rattle.kob_policy_text.specs.Questions.{sees_words, two_texts};
 ghost use Rattle.kob_script.specs.Words.{Gives};
@@ -147,11 +148,28 @@ fn sees_words(alloc: Global, words: &[Word<'_>]) -> Result<Question, LineError>
     }
 }
 
-fn alone(question: Question, words: &[Word<'_>]) -> Result<Question, LineError>
-    ensures { Gives result (alone question words.now) }
+/// A question of one word.
+fn lone_question(word: &Word<'_>) -> Result<Question, LineError>
+    ensures { Gives result (lone_question word.now) }
+{
+    if is_word(word, b"summary") {
+        Ok(Question::Summary)
+    } else if is_word(word, b"unused") {
+        Ok(Question::Unused)
+    } else if is_word(word, b"shadowed") {
+        Ok(Question::Shadowed)
+    } else if is_word(word, b"removable") {
+        Ok(Question::Removable)
+    } else {
+        Err(LineError::Fault(FaultKind::BadLine))
+    }
+}
+
+fn lone_words(first: &Word<'_>, words: &[Word<'_>]) -> Result<Question, LineError>
+    ensures { Gives result (lone_words first.now words.now) }
 {
     match words {
-        [] => Ok(question),
+        [] => lone_question(first),
         _ => Err(LineError::Fault(FaultKind::BadLine)),
     }
 }
@@ -175,15 +193,7 @@ pub fn question_by(
         rights_words(alloc, words)
     } else if is_word(first, b"sees") {
         sees_words(alloc, words)
-    } else if is_word(first, b"summary") {
-        alone(Question::Summary, words)
-    } else if is_word(first, b"unused") {
-        alone(Question::Unused, words)
-    } else if is_word(first, b"shadowed") {
-        alone(Question::Shadowed, words)
-    } else if is_word(first, b"removable") {
-        alone(Question::Removable, words)
     } else {
-        Err(LineError::Fault(FaultKind::BadLine))
+        lone_words(first, words)
     }
 }
