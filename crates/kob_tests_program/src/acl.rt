@@ -1,10 +1,12 @@
 //! The administrators' command line: which word a fault names, and what is printed of bindings.
 
+use crate::spared::READY;
 use kob_acl_cli::{CommandFault, commands_of, print_list, read_line};
 use kob_broker::{Broker, Settings};
 use kob_rights::{Body, Event, Reply};
 use kob_script::{Script, read_script};
 use std::alloc::Global;
+use std::process::Abort;
 
 /// Lines of which some words are not valid, in another order than that of their options, and the
 /// first of these.
@@ -27,44 +29,38 @@ const MISREAD: [(&str, &str); 7] = [
     ("--add --operation fly --allow-host h", "fly"),
 ];
 
-/// Whether the line's fault names that word.
-fn names(alloc: Global, line: &str, word: &str) -> Option<bool> {
-    let words: Vec<&str> = line.split_ascii_whitespace().collect(alloc).ok()?;
-    let args = read_line(alloc, words.as_slice());
+/// The line's fault names that word.
+fn names(rt: &impl Abort, alloc: Global, line: &str, word: &str) {
+    let words: Vec<&str> = line
+        .split_ascii_whitespace()
+        .collect(alloc)
+        .expect(rt, READY);
+    let args = read_line(alloc, words.as_slice()).expect(rt, READY);
     drop(words);
-    let args = args.ok()?;
     let found = commands_of(alloc, &args);
     drop(args);
-    Some(matches!(&found, Err(CommandFault::BadName(found)) if found.as_str() == word))
+    let is_named = matches!(&found, Err(CommandFault::BadName(found)) if found.as_str() == word);
+    assert!(rt; is_named, "{line}");
 }
 
 #[test]
 fn the_first_misread_word_is_named(rt: HostRuntime) {
     for (line, word) in MISREAD {
-        assert!(rt; names(rt.alloc(), line, word) == Some(true));
+        names(&rt, rt.alloc(), line, word);
     }
 }
 
-fn reply_to_last(alloc: Global, settings: Settings, events: &[Event]) -> Option<Reply> {
-    let mut broker = Broker::open(alloc, settings).ok()?;
-    let replies = broker.run(alloc, events);
+fn reply_to_last(rt: &impl Abort, alloc: Global, settings: Settings, events: &[Event]) -> Reply {
+    let mut broker = Broker::open(alloc, settings).expect(rt, READY);
+    let mut replies = broker.run(alloc, events).expect(rt, READY);
     drop(broker);
-    replies.ok()?.pop()
+    replies.pop().expect(rt, "a reply")
 }
 
 /// The reply to the last event of a script.
-fn last_reply(alloc: Global, script: &str) -> Option<Reply> {
-    let Script { settings, events } = read_script(alloc, script.as_bytes()).ok()?;
-    reply_to_last(alloc, settings, events.as_slice())
-}
-
-/// Whether the bindings of a reply are printed as these lines.
-fn prints(alloc: Global, reply: &Reply, lines: &str) -> Option<bool> {
-    let Reply::Done(Body::Bindings(found)) = reply else {
-        return None;
-    };
-    let printed = print_list(alloc, found.as_slice()).ok()?;
-    Some(printed.as_str() == lines)
+fn last_reply(rt: &impl Abort, alloc: Global, script: &str) -> Reply {
+    let Script { settings, events } = read_script(alloc, script.as_bytes()).expect(rt, READY);
+    reply_to_last(rt, alloc, settings, events.as_slice())
 }
 
 const REMOVED: &str = "super User:root
@@ -78,12 +74,12 @@ binding 3 ALLOW User:a * Create Topic LITERAL t
 binding 4 ALLOW User:a * Read Topic LITERAL t
 ";
 
-fn prints_removed(alloc: Global) -> Option<bool> {
-    let reply = last_reply(alloc, REMOVED)?;
-    prints(alloc, &reply, LINES)
-}
-
 #[test]
 fn removed_bindings_are_printed(rt: HostRuntime) {
-    assert!(rt; prints_removed(rt.alloc()) == Some(true));
+    let reply = last_reply(&rt, rt.alloc(), REMOVED);
+    let Reply::Done(Body::Bindings(found)) = &reply else {
+        panic!(rt; "not bindings");
+    };
+    let printed = print_list(rt.alloc(), found.as_slice()).expect(&rt, "lines");
+    assert_eq!(rt; printed.as_str(), LINES);
 }

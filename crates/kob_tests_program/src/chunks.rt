@@ -1,15 +1,15 @@
 //! A long chunk list.
 
+use crate::spared::READY;
 use kob_chunks::ChunkList;
-use std::alloc::{AllocError, Global};
+use std::process::Abort;
 
 /// Appends the numbers below a count, in order.
-pub(crate) fn put_below(list: &mut ChunkList<u64>, count: u64) -> Result<(), AllocError> {
+pub(crate) fn put_below(rt: &impl Abort, list: &mut ChunkList<u64>, count: u64) {
     for number in 0..count {
-        list.reserve_one()?;
+        list.reserve_one().expect(rt, READY);
         list.push_reserved(number);
     }
-    Ok(())
 }
 
 /// Whether the list has the numbers below a million, read in order and at the edge of a chunk.
@@ -23,8 +23,6 @@ fn is_whole(list: &ChunkList<u64>) -> bool {
 #[test]
 fn a_million_items(rt: HostRuntime) {
     let mut list = ChunkList::new(rt.alloc());
-    let is_put = put_below(&mut list, 1_000_000).is_ok();
-    let is_whole = is_whole(&list);
-    drop(list);
-    assert!(rt; is_put && is_whole);
+    put_below(&rt, &mut list, 1_000_000);
+    assert!(rt; is_whole(&list));
 }

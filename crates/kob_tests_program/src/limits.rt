@@ -1,84 +1,63 @@
-//! Groups and topics that are refused by a rule before anything is allocated. `.ci/refuse` runs them
-//! with every allocation refused from `spare` on.
+//! Groups and topics that are refused by a rule before anything is allocated. `.ci/refuse` runs
+//! them with every allocation refused from `spare` on.
 
-use crate::spared::spare;
+use crate::spared::{READY, spare};
 use kob_catalog::{Catalog, CreateFault};
 use kob_groups::{CommitFault, GROUP_LIMIT, Groups};
 use kob_names::{Text, TopicName};
 use std::alloc::Global;
+use std::process::Abort;
 
 /// A text whose copies allocate.
 const LONG: &str = "longer-than-the-texts-that-stand-in-place";
 
-/// The name of a group.
-fn numbered(alloc: Global, number: usize) -> Option<Text> {
-    let name = format!(in alloc; "group {number}").ok()?;
-    Some(Text::from_string(name))
-}
-
 /// Commits for as many groups as there may be.
-fn fill(alloc: Global, groups: &mut Groups) -> Option<()> {
-    let topic = Text::copied(alloc, "a").ok()?;
+fn fill(rt: &impl Abort, alloc: Global, groups: &mut Groups) {
+    let topic = Text::copied(alloc, "a").expect(rt, READY);
     for number in 0..GROUP_LIMIT {
-        let group = numbered(alloc, number)?;
-        let committed = groups.commit(alloc, &group, &topic, 0, 1);
-        drop(group);
-        committed.ok()?;
+        let name = format!(in alloc; "group {number}").expect(rt, READY);
+        let group = Text::from_string(name);
+        groups.commit(alloc, &group, &topic, 0, 1).expect(rt, READY);
     }
-    Some(())
-}
-
-/// Whether one group more than the limit is refused by the rule.
-fn refuses_one_more(alloc: Global, groups: &mut Groups) -> Option<bool> {
-    fill(alloc, groups)?;
-    let name = Text::copied(alloc, LONG).ok()?;
-    spare(alloc);
-    Some(groups.commit(alloc, &name, &name, 0, 1) == Err(CommitFault::TooMany))
 }
 
 #[test]
 fn a_group_too_many_is_refused(rt: HostRuntime) {
-    let mut groups = Groups::new(rt.alloc());
-    let done = refuses_one_more(rt.alloc(), &mut groups);
-    drop(groups);
-    assert!(rt; done == Some(true));
+    let alloc = rt.alloc();
+    let mut groups = Groups::new(alloc);
+    fill(&rt, alloc, &mut groups);
+    let name = Text::copied(alloc, LONG).expect(&rt, READY);
+    spare(alloc);
+    assert_eq!(rt;
+        groups.commit(alloc, &name, &name, 0, 1),
+        Err(CommitFault::TooMany)
+    );
 }
 
-/// Whether the creation is refused for this, in two steps and in one.
-fn refuses(
+/// The creation is refused for this, in two steps and in one.
+fn is_refused(
+    rt: &impl Abort,
     alloc: Global,
     catalog: &mut Catalog,
     name: TopicName,
     partitions: u64,
     fault: CreateFault,
-) -> bool {
-    let prepared = catalog
-        .prepare_create(alloc, name.as_text(), partitions)
-        .err();
-    let created = catalog.create(alloc, name, partitions);
-    prepared == Some(fault) && created == Err(fault)
-}
-
-/// Creates a topic of one partition.
-fn create(alloc: Global, catalog: &mut Catalog, name: &str) -> Option<()> {
-    let name = TopicName::parse(alloc, name).ok()?;
-    catalog.create(alloc, name, 1).ok()
-}
-
-/// Whether creations are refused by the rules that they break.
-fn refuses_creations(alloc: Global, catalog: &mut Catalog) -> Option<bool> {
-    create(alloc, catalog, LONG)?;
-    let there = TopicName::parse(alloc, LONG).ok()?;
-    let other = TopicName::parse(alloc, "another-name-whose-copies-take-memory").ok()?;
-    spare(alloc);
-    let exists = refuses(alloc, catalog, there, 1, CreateFault::Exists);
-    Some(refuses(alloc, catalog, other, 0, CreateFault::BadPartitions) && exists)
+) {
+    let prepared = catalog.prepare_create(alloc, name.as_text(), partitions);
+    assert_eq!(rt; prepared.err(), Some(fault));
+    assert_eq!(rt; catalog.create(alloc, name, partitions), Err(fault));
 }
 
 #[test]
 fn broken_rules_are_told(rt: HostRuntime) {
-    let mut catalog = Catalog::new(rt.alloc());
-    let done = refuses_creations(rt.alloc(), &mut catalog);
-    drop(catalog);
-    assert!(rt; done == Some(true));
+    let alloc = rt.alloc();
+    let mut catalog = Catalog::new(alloc);
+    let name = TopicName::parse(alloc, LONG).expect(&rt, READY);
+    catalog.create(alloc, name, 1).expect(&rt, READY);
+    let there = TopicName::parse(alloc, LONG).expect(&rt, READY);
+    let other = TopicName::parse(alloc, "another-name-whose-copies-take-memory").expect(&rt, READY);
+    spare(alloc);
+    let (exists, bad) = (CreateFault::Exists, CreateFault::BadPartitions);
+    is_refused(&rt, alloc, &mut catalog, there, 1, exists);
+    is_refused(&rt, alloc, &mut catalog, other, 0, bad);
 }

@@ -1,9 +1,11 @@
 //! Names: the first rule that a text breaks, and texts that are stored inline and in allocations of
 //! their own.
 
+use crate::spared::READY;
 use kob_names::{PlainValue, Principal, PrincipalFault, Text, TopicName, TopicNameFault};
-use std::alloc::Global;
+use std::alloc::{AllocError, Global};
 use std::hash::{DefaultHasher, Hash, Hasher};
+use std::process::Abort;
 
 const PRINCIPALS: [(&str, PrincipalFault); 3] = [
     ("alice", PrincipalFault::NoColon),
@@ -17,30 +19,17 @@ const TOPICS: [(&str, TopicNameFault); 3] = [
     ("a b", TopicNameFault::BadByte(1)),
 ];
 
-/// Whether each of the texts is refused as a principal, for its fault.
-fn principals_are_refused(alloc: Global) -> bool {
-    for (text, fault) in PRINCIPALS {
-        if Principal::parse(alloc, text).err() != Some(fault) {
-            return false;
-        }
-    }
-    true
-}
-
-/// Whether each of the texts is refused as a topic's name, for its fault.
-fn topics_are_refused(alloc: Global) -> bool {
-    for (text, fault) in TOPICS {
-        if TopicName::parse(alloc, text).err() != Some(fault) {
-            return false;
-        }
-    }
-    true
-}
-
+// Each of the texts is refused for its fault.
 #[test]
 fn parse_rules(rt: HostRuntime) {
-    assert!(rt; principals_are_refused(rt.alloc()));
-    assert!(rt; topics_are_refused(rt.alloc()));
+    for (text, fault) in PRINCIPALS {
+        let refused = Principal::parse(rt.alloc(), text).err();
+        assert!(rt; refused == Some(fault), "{text}");
+    }
+    for (text, fault) in TOPICS {
+        let refused = TopicName::parse(rt.alloc(), text).err();
+        assert!(rt; refused == Some(fault), "{text}");
+    }
 }
 
 /// A character, and how often it is in a text: up to 30 bytes, and more.
@@ -69,45 +58,37 @@ fn are_alike(one: &Text, other: &Text, content: &str) -> bool {
 }
 
 /// A copy of a copy of the content.
-pub(crate) fn copied_twice(alloc: Global, content: &str) -> Option<Text> {
-    let text = Text::copied(alloc, content).ok()?;
-    text.copy(alloc).ok()
+pub(crate) fn copied_twice(alloc: Global, content: &str) -> Result<Text, AllocError> {
+    Text::copied(alloc, content)?.copy(alloc)
 }
 
-/// Whether a copy of a copy of the content and the string itself are alike.
-fn is_held(alloc: Global, content: &str) -> Option<bool> {
-    let taken_over = Text::from_string(String::from_str(alloc, content).ok()?);
-    let copied = copied_twice(alloc, content)?;
-    Some(are_alike(&copied, &taken_over, content))
-}
-
-/// Whether the character repeated this number of times is held.
-fn length_is_held(alloc: Global, character: &str, times: usize) -> Option<bool> {
-    let content = character.repeat(alloc, times).ok()?;
-    is_held(alloc, content.as_str())
+/// A copy of a copy of the content and the string itself are alike.
+fn is_held(rt: &impl Abort, alloc: Global, content: &str) {
+    let copied = copied_twice(alloc, content).expect(rt, "a copy");
+    let string = String::from_str(alloc, content).expect(rt, READY);
+    let taken_over = Text::from_string(string);
+    assert!(rt; are_alike(&copied, &taken_over, content), "{content}");
 }
 
 #[test]
 fn each_length_is_held(rt: HostRuntime) {
     for (character, times) in REPEATED {
-        assert!(rt; length_is_held(rt.alloc(), character, times) == Some(true));
+        let content = character.repeat(rt.alloc(), times).expect(&rt, READY);
+        is_held(&rt, rt.alloc(), content.as_str());
     }
 }
 
-/// Whether the text prints as a struct that holds a string.
-fn prints(alloc: Global, text: Text) -> Option<bool> {
-    let printed = format!(in alloc; "{text:?}").ok()?;
-    Some(printed.as_str() == "Text { content: \"a\\n\\\"b\\\"\" }")
-}
-
-fn both_print(alloc: Global) -> Option<bool> {
-    let copied = Text::copied(alloc, "a\n\"b\"").ok()?;
-    let is_printed = prints(alloc, copied)?;
-    let taken_over = Text::from_string(String::from_str(alloc, "a\n\"b\"").ok()?);
-    Some(prints(alloc, taken_over)? && is_printed)
+/// The text prints as a struct that holds a string.
+fn prints(rt: &impl Abort, alloc: Global, text: &Text) {
+    let printed = format!(in alloc; "{text:?}").expect(rt, READY);
+    assert_eq!(rt; printed.as_str(), "Text { content: \"a\\n\\\"b\\\"\" }");
 }
 
 #[test]
 fn a_text_is_printed(rt: HostRuntime) {
-    assert!(rt; both_print(rt.alloc()) == Some(true));
+    let alloc = rt.alloc();
+    let copied = Text::copied(alloc, "a\n\"b\"").expect(&rt, READY);
+    prints(&rt, alloc, &copied);
+    let taken_over = String::from_str(alloc, "a\n\"b\"").expect(&rt, READY);
+    prints(&rt, alloc, &Text::from_string(taken_over));
 }

@@ -1,8 +1,9 @@
 //! Sequences of idempotent producers where they wrap, which no script reaches.
 
+use crate::spared::READY;
 use kob_names::Idem;
 use kob_producers::{Judgement, ProducerTable, last_of, next_sequence};
-use std::alloc::AllocError;
+use std::process::Abort;
 
 /// A batch of producer 0.
 fn batch(epoch: u64, base: u64) -> Idem {
@@ -21,24 +22,9 @@ const JUDGED: [(u64, u64, u64, Judgement); 4] = [
     (1, 2, 1, Judgement::OutOfOrder),
 ];
 
-fn accept(
-    table: &mut ProducerTable,
-    idem: &Idem,
-    count: u64,
-    offset: u64,
-) -> Result<(), AllocError> {
-    table.reserve(idem)?;
+fn accept(rt: &impl Abort, table: &mut ProducerTable, idem: &Idem, count: u64, offset: u64) {
+    table.reserve(idem).expect(rt, READY);
     table.accept(idem, count, offset);
-    Ok(())
-}
-
-/// Whether the table accepts as many records as there are sequences below the greatest, and then
-/// the three that follow. After them it judges as in `JUDGED`.
-fn wraps(table: &mut ProducerTable) -> Result<bool, AllocError> {
-    accept(table, &batch(0, 0), LAST, 0)?;
-    let follows = table.judge(&batch(0, LAST), 3) == Judgement::Next;
-    accept(table, &batch(0, LAST), 3, LAST)?;
-    Ok(follows && judges(table))
 }
 
 fn judges(table: &ProducerTable) -> bool {
@@ -50,12 +36,15 @@ fn judges(table: &ProducerTable) -> bool {
     true
 }
 
+// The table accepts as many records as there are sequences below the greatest, and then the three
+// that follow.
 #[test]
 fn producer_table_wraps(rt: HostRuntime) {
     let mut table = ProducerTable::new(rt.alloc());
-    let done = wraps(&mut table);
-    drop(table);
-    assert!(rt; done == Ok(true));
+    accept(&rt, &mut table, &batch(0, 0), LAST, 0);
+    assert!(rt; table.judge(&batch(0, LAST), 3) == Judgement::Next);
+    accept(&rt, &mut table, &batch(0, LAST), 3, LAST);
+    assert!(rt; judges(&table));
 }
 
 #[test]

@@ -1,9 +1,11 @@
 //! Whole runs by readers and writers that read or write little, interrupt, and fail once.
 
+use crate::spared::READY;
 use kob_text::{Ended, RunFault, SCRIPT_LIMIT, run_text};
-use std::alloc::{AllocError, Global};
+use std::alloc::Global;
 use std::io;
 use std::io::{Error, ErrorKind, Read, Write};
+use std::process::Abort;
 
 /// Reads or writes at most `width` bytes a call, and interrupts every other call. After `calls`
 /// calls that were not interrupted the next one fails, and no other. `widest` is the most bytes
@@ -120,7 +122,7 @@ fn reads(alloc: Global, calls: usize) -> bool {
 #[test]
 fn failed_reads_write_nothing(rt: HostRuntime) {
     for calls in 0..SCRIPT.len() + 2 {
-        assert!(rt; reads(rt.alloc(), calls));
+        assert!(rt; reads(rt.alloc(), calls), "{calls} calls");
     }
 }
 
@@ -130,10 +132,8 @@ fn calls_of_a_reader_have_a_limit(rt: HostRuntime) {
     let mut reader = Shaken::new(io::repeat(b'#'), 1, 20_000_000);
     let mut written = Vec::new(rt.alloc());
     let ended = run_text(rt.alloc(), &mut reader, &mut written);
-    let left = (reader.calls, written.len());
-    drop(reader);
-    drop(written);
-    assert!(rt; (ended, left) == (Err(RunFault::ReadFailed), (10_000_000, 0)));
+    assert_eq!(rt; ended, Err(RunFault::ReadFailed));
+    assert_eq!(rt; (reader.calls, written.len()), (10_000_000, 0));
 }
 
 /// Whether a comment of this number of bytes ends so, and nothing is written.
@@ -148,27 +148,27 @@ fn scripts_have_a_limit(rt: HostRuntime) {
 }
 
 /// Begins a script that puts a record of this value into a topic.
-fn put_producing(script: &mut Vec<u8>, value: &[u8]) -> Result<(), AllocError> {
-    script.extend_from_slice(b"super User:r\nUser:r h create-topic t 1\nUser:r h produce t 0 - ")?;
-    script.extend_from_slice(value)
+fn put_producing(rt: &impl Abort, script: &mut Vec<u8>, value: &[u8]) {
+    let begin = b"super User:r\nUser:r h create-topic t 1\nUser:r h produce t 0 - ";
+    script.extend_from_slice(begin).expect(rt, READY);
+    script.extend_from_slice(value).expect(rt, READY);
 }
 
-/// Whether this is written for a record of this number of bytes.
-fn batch_writes(alloc: Global, bytes: usize, output: &str) -> Option<bool> {
-    let value = vec![in alloc; b'v'; bytes].ok()?;
+/// This is written for a record of this number of bytes.
+fn batch_writes(rt: &impl Abort, alloc: Global, bytes: usize, output: &str) {
+    let value = vec![in alloc; b'v'; bytes].expect(rt, READY);
     let mut script = Vec::new(alloc);
-    let is_put = put_producing(&mut script, &value).is_ok();
-    drop(value);
+    put_producing(rt, &mut script, &value);
     let (_, is_written) = play(alloc, script.as_slice(), output.as_bytes());
-    Some(is_put && is_written)
+    assert!(rt; is_written);
 }
 
 #[test]
 fn batches_have_a_limit(rt: HostRuntime) {
     let output = "1 ok created\n2 ok offset 0\n";
-    assert!(rt; batch_writes(rt.alloc(), 2_097_152, output) == Some(true));
+    batch_writes(&rt, rt.alloc(), 2_097_152, output);
     let output = "1 ok created\n2 refused 10 MESSAGE_TOO_LARGE TooLarge\n";
-    assert!(rt; batch_writes(rt.alloc(), 2_097_153, output) == Some(true));
+    batch_writes(&rt, rt.alloc(), 2_097_153, output);
 }
 
 /// A writer that accepts `calls` calls of `width` bytes has their bytes of the output, and the run
@@ -190,57 +190,44 @@ fn leaves_a_front(alloc: Global, width: usize, calls: usize) -> bool {
 fn failed_writes_leave_a_front(rt: HostRuntime) {
     for (width, most) in [(1, 300), (7, 40), (1_000, 3)] {
         for calls in 0..most {
-            assert!(rt; leaves_a_front(rt.alloc(), width, calls));
+            let is_front = leaves_a_front(rt.alloc(), width, calls);
+            assert!(rt; is_front, "{calls} calls of {width}");
         }
     }
 }
 
 /// Appends a reply, which ends with a value.
 fn put_reply(
+    rt: &impl Abort,
     alloc: Global,
     output: &mut Vec<u8>,
     number: u32,
     kind: &str,
     value: &[u8],
-) -> Result<(), AllocError> {
-    let reply = format!(in alloc; "{number} ok {kind}")?;
-    let put = output.extend_from_slice(reply.as_bytes());
-    drop(reply);
-    put?;
-    output.extend_from_slice(value)?;
-    output.extend_from_slice(b"\n")
+) {
+    let reply = format!(in alloc; "{number} ok {kind}").expect(rt, READY);
+    output.extend_from_slice(reply.as_bytes()).expect(rt, READY);
+    output.extend_from_slice(value).expect(rt, READY);
+    output.extend_from_slice(b"\n").expect(rt, READY);
 }
 
 /// Appends a request and its reply. Two of the numbers request a reply that is longer than a piece,
 /// all others a short one.
 fn ask(
+    rt: &impl Abort,
     alloc: Global,
-    (script, output): (&mut Vec<u8>, &mut Vec<u8>),
+    script: &mut Vec<u8>,
+    output: &mut Vec<u8>,
     number: u32,
     value: &[u8],
-) -> Result<(), AllocError> {
-    if number == 5_000 || number == 5_001 {
-        script.extend_from_slice(b"\nUser:r h fetch t 0 0 1")?;
-        put_reply(alloc, output, number, "records 0:", value)
+) {
+    let (request, kind, value) = if number == 5_000 || number == 5_001 {
+        (b"\nUser:r h fetch t 0 0 1".as_slice(), "records 0:", value)
     } else {
-        script.extend_from_slice(b"\nUser:r h groups")?;
-        put_reply(alloc, output, number, "groups", b"")
-    }
-}
-
-/// Appends a script of 10,000 short requests, between which a record of this value is fetched
-/// twice, and its output.
-fn put_requests(
-    alloc: Global,
-    (script, output): (&mut Vec<u8>, &mut Vec<u8>),
-    value: &[u8],
-) -> Result<(), AllocError> {
-    put_producing(script, value)?;
-    output.extend_from_slice(b"1 ok created\n2 ok offset 0\n")?;
-    for number in 3..10_003 {
-        ask(alloc, (&mut *script, &mut *output), number, value)?;
-    }
-    Ok(())
+        (b"\nUser:r h groups".as_slice(), "groups", b"".as_slice())
+    };
+    script.extend_from_slice(request).expect(rt, READY);
+    put_reply(rt, alloc, output, number, kind, value);
 }
 
 // The pieces: 65,536 bytes of short replies; those before the first long reply; that one; the
@@ -260,27 +247,22 @@ fn takes_pieces(alloc: Global, script: &[u8], output: &[u8], calls: usize) -> bo
     ended == end && output.starts_with(writer.inner.as_slice()) && writer.widest < 70_030
 }
 
-fn all_take_pieces(alloc: Global, script: &[u8], output: &[u8]) -> bool {
-    for calls in 0..10 {
-        if !takes_pieces(alloc, script, output, calls) {
-            return false;
-        }
-    }
-    true
-}
-
-fn is_written_in_pieces(alloc: Global) -> Option<bool> {
-    let value = vec![in alloc; b'v'; 70_000].ok()?;
-    let (mut script, mut output) = (Vec::new(alloc), Vec::new(alloc));
-    let is_put = put_requests(alloc, (&mut script, &mut output), &value).is_ok();
-    drop(value);
-    let is_taken = all_take_pieces(alloc, &script, &output);
-    Some(is_put && is_taken)
-}
-
+// A script of 10,000 short requests, between which a record is fetched twice.
 #[test]
 fn long_output_is_written_in_pieces(rt: HostRuntime) {
-    assert!(rt; is_written_in_pieces(rt.alloc()) == Some(true));
+    let alloc = rt.alloc();
+    let value = vec![in alloc; b'v'; 70_000].expect(&rt, READY);
+    let (mut script, mut output) = (Vec::new(alloc), Vec::new(alloc));
+    put_producing(&rt, &mut script, &value);
+    let first = b"1 ok created\n2 ok offset 0\n";
+    output.extend_from_slice(first).expect(&rt, READY);
+    for number in 3..10_003 {
+        ask(&rt, alloc, &mut script, &mut output, number, &value);
+    }
+    for calls in 0..10 {
+        let is_taken = takes_pieces(alloc, &script, &output, calls);
+        assert!(rt; is_taken, "{calls} calls");
+    }
 }
 
 /// Interrupts each call, and counts them.

@@ -3,56 +3,46 @@
 
 use crate::chunks::put_below;
 use crate::names::copied_twice;
-use crate::spared::spare;
+use crate::spared::{READY, spare};
 use kob_authorizer::Authorizer;
 use kob_chunks::ChunkList;
 use kob_names::{Host, Operation, Principal, ResourceKind, Verdict};
 use kob_prefix_tree::{PatternKind, PrefixTree};
-use std::alloc::{AllocError, Global};
+use std::alloc::Global;
+use std::process::Abort;
 
 /// Whether an authorizer is opened, and grants a super user at once.
-fn opens(alloc: Global, supers: Vec<Principal>, (root, from): &(Principal, Host)) -> bool {
+fn opens(alloc: Global, supers: Vec<Principal>, root: &Principal, from: &Host) -> bool {
     spare(alloc);
     let authorizer = Authorizer::open(alloc, supers, false);
-    let verdict = authorizer.authorize(root, from, Operation::Write, ResourceKind::Topic, "orders");
+    let (write, kind) = (Operation::Write, ResourceKind::Topic);
+    let verdict = authorizer.authorize(root, from, write, kind, "orders");
     let listed = authorizer.supers().len();
     drop(authorizer);
     verdict == Verdict::Super && listed == 1
 }
 
-fn super_users(alloc: Global) -> Option<Vec<Principal>> {
-    let root = Principal::parse(alloc, "User:svc").ok()?;
-    let mut supers = Vec::new(alloc);
-    supers.push(root).ok()?;
-    Some(supers)
-}
-
-/// The principal and the host that ask.
-fn asker(alloc: Global) -> Option<(Principal, Host)> {
-    let who = Principal::parse(alloc, "User:svc").ok()?;
-    Some((who, Host::parse(alloc, "h").ok()?))
-}
-
-fn opens_with_super_user(alloc: Global) -> Option<bool> {
-    let asker = asker(alloc)?;
-    let supers = super_users(alloc)?;
-    Some(opens(alloc, supers, &asker))
+fn user(rt: &impl Abort, alloc: Global) -> Principal {
+    Principal::parse(alloc, "User:svc").expect(rt, READY)
 }
 
 #[test]
 fn an_authorizer_is_opened(rt: HostRuntime) {
-    assert!(rt; opens_with_super_user(rt.alloc()) == Some(true));
+    let alloc = rt.alloc();
+    let (root, from) = (user(&rt, alloc), Host::parse(alloc, "h").expect(&rt, READY));
+    let supers = vec![in alloc; user(&rt, alloc)].expect(&rt, READY);
+    assert!(rt; opens(alloc, supers, &root, &from));
 }
 
 /// Adds a serial, and inserts two that are prepared, in another order, which splits a node.
-fn put_three(alloc: Global, tree: &mut PrefixTree) -> Result<(), AllocError> {
-    tree.add(alloc, b"abcd", PatternKind::Prefixed, 1)?;
-    let second = tree.prepare_add(alloc, b"ab", PatternKind::Prefixed, 2)?;
-    let third = tree.prepare_add(alloc, b"ab", PatternKind::Prefixed, 3)?;
+fn put_three(rt: &impl Abort, alloc: Global, tree: &mut PrefixTree) {
+    let kind = PatternKind::Prefixed;
+    tree.add(alloc, b"abcd", kind, 1).expect(rt, READY);
+    let second = tree.prepare_add(alloc, b"ab", kind, 2).expect(rt, READY);
+    let third = tree.prepare_add(alloc, b"ab", kind, 3).expect(rt, READY);
     spare(alloc);
     tree.commit_add(third);
     tree.commit_add(second);
-    Ok(())
 }
 
 /// Whether the tree has the three, and removes them.
@@ -68,47 +58,37 @@ fn lets_three_go(tree: &mut PrefixTree) -> bool {
 #[test]
 fn a_tree_is_changed(rt: HostRuntime) {
     let mut tree = PrefixTree::new();
-    let is_put = put_three(rt.alloc(), &mut tree).is_ok();
-    let is_gone = lets_three_go(&mut tree);
-    drop(tree);
-    assert!(rt; is_put && is_gone);
+    put_three(&rt, rt.alloc(), &mut tree);
+    assert!(rt; lets_three_go(&mut tree));
 }
 
 /// Whether a list of 255 items takes two more and frees its first chunk.
-fn changes_list(alloc: Global, list: &mut ChunkList<u64>) -> Result<bool, AllocError> {
-    put_below(list, 255)?;
-    list.reserve(2)?;
+fn changes_list(rt: &impl Abort, alloc: Global, list: &mut ChunkList<u64>) -> bool {
+    put_below(rt, list, 255);
+    list.reserve(2).expect(rt, READY);
     spare(alloc);
     list.push_reserved(255);
     list.push_reserved(256);
     if list.len() != 257 {
-        return Ok(false);
+        return false;
     }
     list.drop_front_chunks(1);
-    Ok(list.get(0) == Some(&256) && list.len() == 1)
+    list.get(0) == Some(&256) && list.len() == 1
 }
 
 #[test]
 fn a_list_is_changed(rt: HostRuntime) {
     let mut list = ChunkList::new(rt.alloc());
-    let done = changes_list(rt.alloc(), &mut list);
-    drop(list);
-    assert!(rt; done == Ok(true));
+    assert!(rt; changes_list(&rt, rt.alloc(), &mut list));
 }
 
-/// Whether copies of copies of texts of at most 30 bytes hold them, without an allocation.
-fn short_copies_hold(alloc: Global) -> bool {
-    spare(alloc);
-    for content in ["abcdefghijklmnopqrstuvwxyz0123", "ééééééééééééééé", ""] {
-        let copy = copied_twice(alloc, content);
-        if !matches!(&copy, Some(text) if text.as_str() == content) {
-            return false;
-        }
-    }
-    true
-}
-
+// Copies of copies of texts of at most 30 bytes hold them, without an allocation.
 #[test]
 fn short_texts_are_copied(rt: HostRuntime) {
-    assert!(rt; short_copies_hold(rt.alloc()));
+    spare(rt.alloc());
+    for content in ["abcdefghijklmnopqrstuvwxyz0123", "ééééééééééééééé", ""] {
+        let copy = copied_twice(rt.alloc(), content);
+        let is_held = matches!(&copy, Ok(text) if text.as_str() == content);
+        assert!(rt; is_held, "{content}");
+    }
 }

@@ -1,27 +1,27 @@
 //! The prefix tree: nodes that are split at each byte, many serials, a key that is longer than any
 //! stack of calls is deep, and out of memory.
 
+use crate::spared::READY;
 use kob_prefix_tree::{PatternKind, PrefixTree};
-use std::alloc::{AllocError, Global};
+use std::alloc::Global;
+use std::process::Abort;
 
 /// More bytes than two nodes hold.
 const LONG: &[u8] = b"abcdefghijklmnopqrstuvwxyzABCDEFGHIJKLMNOPQRSTUVWXYZ";
 
 /// Puts a serial on each prefix of the long key, the longest first, so that each splits a node.
-fn put_beginnings(alloc: Global, tree: &mut PrefixTree) -> Result<(), AllocError> {
+fn put_beginnings(rt: &impl Abort, alloc: Global, tree: &mut PrefixTree) {
     for length in (0..=LONG.len()).rev() {
-        let key = &LONG[..length];
-        let prepared = tree.prepare_add(alloc, key, PatternKind::Prefixed, length as u64)?;
-        tree.commit_add(prepared);
+        let (key, serial) = (&LONG[..length], length as u64);
+        let prepared = tree.prepare_add(alloc, key, PatternKind::Prefixed, serial);
+        tree.commit_add(prepared.expect(rt, READY));
     }
-    Ok(())
 }
 
 /// Whether each prefix is removed once, the shortest one first, and the longer ones stay.
 fn lets_beginnings_go(tree: &mut PrefixTree) -> bool {
     for length in 0..=LONG.len() {
-        let key = &LONG[..length];
-        let serial = length as u64;
+        let (key, serial) = (&LONG[..length], length as u64);
         let is_gone = tree.remove(key, PatternKind::Prefixed, serial);
         let again = tree.remove(key, PatternKind::Prefixed, serial);
         if !is_gone || again || !tree.walk(LONG).eq(serial + 1..53) {
@@ -31,50 +31,32 @@ fn lets_beginnings_go(tree: &mut PrefixTree) -> bool {
     tree.levels(LONG) == 1
 }
 
-/// Whether a serial on each prefix of the long key is added and removed again.
-fn begins_and_ends(alloc: Global, tree: &mut PrefixTree) -> bool {
-    put_beginnings(alloc, tree).is_ok()
-        && tree.walk(LONG).eq(0..53)
-        && tree.levels(b"abcdefgx") == 8
-        && lets_beginnings_go(tree)
-}
-
 #[test]
 fn keys_end_at_each_byte_of_a_node(rt: HostRuntime) {
     let mut tree = PrefixTree::new();
-    let done = begins_and_ends(rt.alloc(), &mut tree);
-    drop(tree);
-    assert!(rt; done);
-}
-
-/// Whether a hundred thousand serials on one key, appended one by one, are there.
-fn puts_many(alloc: Global, tree: &mut PrefixTree) -> bool {
-    for serial in 0..100_000u64 {
-        if tree
-            .add(alloc, b"events", PatternKind::Prefixed, serial)
-            .is_err()
-        {
-            return false;
-        }
-    }
-    tree.walk(b"events-of-today").eq(0..100_000)
+    put_beginnings(&rt, rt.alloc(), &mut tree);
+    assert!(rt; tree.walk(LONG).eq(0..53));
+    assert!(rt; tree.levels(b"abcdefgx") == 8);
+    assert!(rt; lets_beginnings_go(&mut tree));
 }
 
 #[test]
 fn many_serials_on_one_key(rt: HostRuntime) {
     let mut tree = PrefixTree::new();
-    let done = puts_many(rt.alloc(), &mut tree);
-    drop(tree);
-    assert!(rt; done);
+    for serial in 0..100_000u64 {
+        let added = tree.add(rt.alloc(), b"events", PatternKind::Prefixed, serial);
+        added.expect(&rt, READY);
+    }
+    assert!(rt; tree.walk(b"events-of-today").eq(0..100_000));
 }
 
 /// Puts three serials on the key, in one step and in two.
-fn put_three(alloc: Global, tree: &mut PrefixTree, key: &[u8]) -> Result<(), AllocError> {
-    tree.add(alloc, key, PatternKind::Literal, 1)?;
-    tree.add(alloc, key, PatternKind::Literal, 2)?;
-    let prepared = tree.prepare_add(alloc, key, PatternKind::Literal, 3)?;
-    tree.commit_add(prepared);
-    Ok(())
+fn put_three(rt: &impl Abort, alloc: Global, tree: &mut PrefixTree, key: &[u8]) {
+    let kind = PatternKind::Literal;
+    tree.add(alloc, key, kind, 1).expect(rt, READY);
+    tree.add(alloc, key, kind, 2).expect(rt, READY);
+    let prepared = tree.prepare_add(alloc, key, kind, 3);
+    tree.commit_add(prepared.expect(rt, READY));
 }
 
 /// Whether the tree has the three and removes them.
@@ -86,19 +68,13 @@ fn lets_three_go(tree: &mut PrefixTree, key: &[u8]) -> bool {
         && tree.levels(key) == 1
 }
 
-fn comes_and_goes(alloc: Global) -> Option<bool> {
-    let key = vec![in alloc; b'k'; 1_000_000].ok()?;
-    let mut tree = PrefixTree::new();
-    let is_put = put_three(alloc, &mut tree, &key).is_ok();
-    let is_gone = lets_three_go(&mut tree, &key);
-    drop(tree);
-    drop(key);
-    Some(is_put && is_gone)
-}
-
 #[test]
 fn a_key_of_a_million_bytes_comes_and_goes(rt: HostRuntime) {
-    assert!(rt; comes_and_goes(rt.alloc()) == Some(true));
+    let alloc = rt.alloc();
+    let key = vec![in alloc; b'k'; 1_000_000].expect(&rt, READY);
+    let mut tree = PrefixTree::new();
+    put_three(&rt, alloc, &mut tree, &key);
+    assert!(rt; lets_three_go(&mut tree, &key));
 }
 
 /// Three additions, of which the last splits a node, and which of them were made.
@@ -129,7 +105,5 @@ fn holds(tree: &PrefixTree, [first, second, third]: [bool; 3]) -> bool {
 fn refused_addition_leaves_the_tree(rt: HostRuntime) {
     let mut tree = PrefixTree::new();
     let added = adds(rt.alloc(), &mut tree);
-    let holds = holds(&tree, added);
-    drop(tree);
-    assert!(rt; holds);
+    assert!(rt; holds(&tree, added));
 }
