@@ -1,78 +1,75 @@
 //! Copies of what services, routers and consumers keep.
 
-use crate::making::{ORDERS, default_route};
+use crate::making::{ORDERS, READY, default_route};
 use kob_inbox::Subscription;
 use kob_names::PlainValue;
 use kob_outbox::{Change, OutboxEvent, Row};
 use kob_rights::{Body, Reply, Request};
 use kob_router::{Call, RouteSettings, Target};
-use std::alloc::{AllocError, Global};
+use std::alloc::Global;
+use std::process::Abort;
 use uuid::Uuid;
 
-fn copies_settings(alloc: Global) -> Result<bool, AllocError> {
-    let settings = RouteSettings::by_default(alloc)?;
-    let copy = settings.copy(alloc)?;
-    Ok(
-        copy.by == settings.by
-            && copy.replacement.same(&settings.replacement)
-            && copy.placement.same(&settings.placement),
-    )
+/// What is expected of each `copy`.
+const COPY: &str = "a copy";
+
+fn copies_settings(rt: &impl Abort, alloc: Global) {
+    let settings = RouteSettings::by_default(alloc).expect(rt, READY);
+    let copy = settings.copy(alloc).expect(rt, COPY);
+    assert!(rt; copy.by == settings.by);
+    assert!(rt; copy.replacement.same(&settings.replacement));
+    assert!(rt; copy.placement.same(&settings.placement));
 }
 
-fn copies_a_target(alloc: Global) -> Option<bool> {
+fn copies_a_target(rt: &impl Abort, alloc: Global) {
     let target = Target {
-        route: default_route(alloc).ok()?,
+        route: default_route(rt, alloc),
         partitions: 3,
     };
-    let copy = target.copy(alloc).ok()?;
-    Some(copy.partitions == 3)
+    let copy = target.copy(alloc).expect(rt, COPY);
+    assert_eq!(rt; copy.partitions, 3);
 }
 
-fn copies_a_call(alloc: Global) -> bool {
+fn copies_a_call(rt: &impl Abort, alloc: Global) {
     let call = Call {
         request: Request::InitProducerId,
         heard: Some(Reply::Done(Body::Producer { id: 7, epoch: 0 })),
     };
-    let copied = call.copy(alloc);
-    let holds = match &copied {
-        Ok(copy) => copy.request.same(&call.request) && copy.heard.same(&call.heard),
-        Err(_) => false,
-    };
-    drop(copied);
+    let copy = call.copy(alloc).expect(rt, COPY);
+    let is_same = copy.request.same(&call.request) && copy.heard.same(&call.heard);
+    drop(copy);
     drop(call);
-    holds
+    assert!(rt; is_same);
 }
 
-fn copies_a_subscription(alloc: Global) -> Result<bool, AllocError> {
-    let subscription = Subscription::of(alloc, "mail", ORDERS, 1, 10)?;
-    let copy = subscription.copy(alloc)?;
-    Ok(
-        copy.group.same(&subscription.group)
-            && copy.assignment.same(&subscription.assignment)
-            && copy.max == 10,
-    )
+fn copies_a_subscription(rt: &impl Abort, alloc: Global) {
+    let subscription = Subscription::of(alloc, "mail", ORDERS, 1, 10).expect(rt, READY);
+    let copy = subscription.copy(alloc).expect(rt, COPY);
+    assert!(rt; copy.group.same(&subscription.group));
+    assert!(rt; copy.assignment.same(&subscription.assignment));
+    assert_eq!(rt; copy.max, 10);
 }
 
-fn copies_a_row(alloc: Global) -> Result<bool, AllocError> {
-    let change = Change::of(alloc, "orders", "42", "paid")?.copy(alloc)?;
-    let event = OutboxEvent::of(alloc, Uuid::from_u128(0xA), &change, "{}")?;
-    let copy = Row { seq: 1, event }.copy(alloc)?;
+fn copies_a_row(rt: &impl Abort, alloc: Global) {
+    let change = Change::of(alloc, "orders", "42", "paid").expect(rt, READY);
+    let change = change.copy(alloc).expect(rt, COPY);
+    let event = OutboxEvent::of(alloc, Uuid::from_u128(0xA), &change, "{}").expect(rt, READY);
+    let copy = Row { seq: 1, event }.copy(alloc).expect(rt, COPY);
     let event = &copy.event;
-    Ok(
-        (copy.seq, event.id) == (1, Uuid::from_u128(0xA))
-            && event.aggregate_type == change.kind
-            && event.aggregate_id == change.id
-            && event.event_type == change.state
-            && event.payload.as_str() == "{}",
-    )
+    let is_equal = (copy.seq, event.id) == (1, Uuid::from_u128(0xA))
+        && event.aggregate_type == change.kind
+        && event.aggregate_id == change.id
+        && event.event_type == change.state
+        && event.payload.as_str() == "{}";
+    assert!(rt; is_equal);
 }
 
 #[test]
 fn copies_are_equal(rt: HostRuntime) {
     let alloc = rt.alloc();
-    assert!(rt; copies_settings(alloc) == Ok(true));
-    assert!(rt; copies_a_target(alloc) == Some(true));
-    assert!(rt; copies_a_call(alloc));
-    assert!(rt; copies_a_subscription(alloc) == Ok(true));
-    assert!(rt; copies_a_row(alloc) == Ok(true));
+    copies_settings(&rt, alloc);
+    copies_a_target(&rt, alloc);
+    copies_a_call(&rt, alloc);
+    copies_a_subscription(&rt, alloc);
+    copies_a_row(&rt, alloc);
 }

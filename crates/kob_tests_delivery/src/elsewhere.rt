@@ -1,12 +1,12 @@
 //! Calls, a service and a consumer over lines of one's own, to a broker in another thread. It keeps
 //! an entry of each request, and the entries are judged at the end.
 
-ghost use Rattle.std.specs.Prelude.{◌≡◌, [], IfSome};
+ghost use Rattle.std.specs.Prelude.{◌≡◌, []};
 
-use crate::making::{CREATE_ORDERS, ORDERS, asker, broker, event_of, order};
+use crate::making::{CREATE_ORDERS, ORDERS, READY, asker, broker, event_of, order};
 use crate::relays::service;
 use crate::remote::{Local, Remote};
-use crossbeam_channel::{Sender, bounded};
+use crossbeam_channel::bounded;
 use kob_broker::Broker;
 use kob_embedding::{
     ConsumerEnd, DeliveryFault, JudgeFault, Part, RunningConsumer, RunningService, ServiceEnd,
@@ -19,6 +19,7 @@ use kob_rights::{Event, Reply, Request};
 use kob_router::{Call, Line};
 use kob_shared::{Entry, Journal};
 use std::alloc::Global;
+use std::process::Abort;
 use std::sync::Wait;
 use std::thread::{Threads, join};
 
@@ -30,220 +31,170 @@ struct Elsewhere {
 }
 
 /// A broker without entries.
-fn other_side(alloc: Global) -> Option<Elsewhere> {
-    let broker = broker(alloc, Vec::new(alloc))?;
-    Some(Elsewhere {
-        broker,
+fn other_side(rt: &impl Abort, alloc: Global) -> Elsewhere {
+    Elsewhere {
+        broker: broker(rt, alloc, Vec::new(alloc)),
         entries: Vec::new(alloc),
-    })
+    }
 }
 
 /// Serves a worker's event and keeps an entry of it. Returns a copy of the reply.
 fn answered(
+    rt: &impl Abort,
     alloc: Global,
     elsewhere: &mut Elsewhere,
     worker: usize,
     event: Event,
-) -> Option<Reply> {
-    let Ok(reply) = elsewhere.broker.serve(alloc, &event) else {
-        drop(event);
-        return None;
-    };
-    let told = reply.copy(alloc).ok();
+) -> Reply {
+    let reply = elsewhere.broker.serve(alloc, &event).expect(rt, "a reply");
+    let told = reply.copy(alloc).expect(rt, READY);
     let entry = Entry {
         worker,
         event,
         reply,
     };
-    if elsewhere.entries.push(entry).is_ok() {
-        return told;
-    }
-    drop(told);
-    None
-}
-
-/// Serves one request, and sends the reply.
-fn serve<R: Wait>(
-    rt: &R,
-    alloc: Global,
-    elsewhere: &mut Elsewhere,
-    worker: usize,
-    request: Request,
-    replies: &Sender<Reply>,
-) -> Option<()> {
-    let Some((principal, host)) = asker(alloc, "User:root") else {
-        drop(request);
-        return None;
-    };
-    let event = Event {
-        principal,
-        host,
-        request,
-    };
-    let reply = answered(alloc, elsewhere, worker, event)?;
-    replies.send(rt, reply).ok()
+    elsewhere.entries.push(entry).expect(rt, READY);
+    told
 }
 
 /// Serves a worker's requests until its line has ended.
-fn serve_all<R: Wait>(
+fn serve_all<R: Abort + Wait>(
     rt: &R,
     alloc: Global,
     elsewhere: &mut Elsewhere,
     worker: usize,
     local: &Local,
-) -> Option<()> {
+) {
     for _ in rt.forever() {
         let Ok(request) = local.requests.recv(rt) else {
             break;
         };
-        serve(rt, alloc, elsewhere, worker, request, &local.replies)?;
+        let (principal, host) = asker(rt, alloc, "User:root");
+        let event = Event {
+            principal,
+            host,
+            request,
+        };
+        let reply = answered(rt, alloc, elsewhere, worker, event);
+        local.replies.send(rt, reply).expect(rt, "a waiting line");
     }
-    Some(())
 }
 
 /// Both ends of a way to another thread.
-fn ends<R: Wait>(rt: &R, alloc: Global) -> Option<(Remote<'_, R>, Local)> {
-    let (to, requests) = bounded(alloc, 1).ok()?;
-    let (replies, from) = bounded(alloc, 1).ok()?;
+fn ends<R: Abort + Wait>(rt: &R, alloc: Global) -> (Remote<'_, R>, Local) {
+    let (to, requests) = bounded(alloc, 1).expect(rt, READY);
+    let (replies, from) = bounded(alloc, 1).expect(rt, READY);
     let remote = Remote {
         rt,
         requests: to,
         replies: from,
     };
-    Some((remote, Local { requests, replies }))
+    (remote, Local { requests, replies })
 }
 
-/// Whether the event with this id is recorded and sent by one tick, after which none is needed.
-pub(crate) fn sends<L: Line>(alloc: Global, service: &mut RunningService<L>, id: u128) -> bool
+/// Records the event with this id and sends it by one tick, after which none is needed.
+pub(crate) fn sends<L: Line>(
+    rt: &impl Abort,
+    alloc: Global,
+    service: &mut RunningService<L>,
+    id: u128,
+)
     ensures { service.new.earlier ≡ service.old.earlier }
 {
-    let Ok((change, event)) = order(alloc, id, "paid") else {
-        return false;
-    };
-    let recorded = service.record(&change, &event);
-    drop(change);
-    drop(event);
-    let is_sent = service.send_all(alloc, 1).is_ok();
-    recorded.is_ok() && is_sent && service.send_all(alloc, 0).is_ok()
+    let (change, event) = order(alloc, id, "paid").expect(rt, READY);
+    service.record(&change, &event).expect(rt, "a number");
+    service.send_all(alloc, 1).expect(rt, "sent by one tick");
+    service.send_all(alloc, 0).expect(rt, "all is sent");
 }
 
 /// What a service leaves that sends an event over a line of one's own, as worker 1.
-fn sent_over<R: Wait>(alloc: Global, remote: Remote<'_, R>) -> Option<ServiceEnd> {
+fn sent_over<R: Abort + Wait>(rt: &R, alloc: Global, remote: Remote<'_, R>) -> ServiceEnd {
     let line = Connection::new(alloc, remote);
-    let mut service = service(alloc, line)?;
-    let sent = sends(alloc, &mut service, 7);
-    let end = service.close(1);
-    if sent {
-        return Some(end);
-    }
-    drop(end);
-    None
+    let mut service = service(rt, alloc, line);
+    sends(rt, alloc, &mut service, 7);
+    service.close(1)
 }
 
 /// A consumer with an empty inbox, which fetches one record at a time.
-pub(crate) fn consumer<L: Line + Drop>(alloc: Global, line: L) -> Option<RunningConsumer<L>>
+pub(crate) fn consumer<L: Line>(rt: &impl Abort, alloc: Global, line: L) -> RunningConsumer<L>
     requires { L.calls line ≡ [] }
-    ensures { IfSome result (λ consumer. consumer.earlier ≡ []) }
+    ensures { result.earlier ≡ [] }
 {
-    let Ok(inbox) = Inbox::open_in_memory(alloc) else {
-        drop(line);
-        return None;
-    };
-    let Ok(subscription) = Subscription::of(alloc, "g", ORDERS, 1, 1) else {
-        drop(inbox);
-        drop(line);
-        return None;
-    };
-    Some(RunningConsumer::new(alloc, inbox, subscription, line))
+    let inbox = Inbox::open_in_memory(alloc).expect(rt, READY);
+    let subscription = Subscription::of(alloc, "g", ORDERS, 1, 1).expect(rt, READY);
+    RunningConsumer::new(alloc, inbox, subscription, line)
 }
 
 /// What a consumer leaves that takes the event in over a line of one's own, as worker 2.
-fn taken_over<R: Wait>(alloc: Global, remote: Remote<'_, R>) -> Option<ConsumerEnd> {
+fn taken_over<R: Abort + Wait>(rt: &R, alloc: Global, remote: Remote<'_, R>) -> ConsumerEnd {
     let line = Connection::new(alloc, remote);
-    let mut consumer = consumer(alloc, line)?;
-    let taken = consumer.take_rows(alloc, 1, 10).is_ok();
-    let end = consumer.close(2);
-    if taken {
-        return Some(end);
-    }
-    drop(end);
-    None
+    let mut consumer = consumer(rt, alloc, line);
+    consumer.take_rows(alloc, 1, 10).expect(rt, "the event");
+    consumer.close(2)
 }
 
-fn sent<R: Threads + Wait + Sync>(
+fn sent<R: Abort + Threads + Wait + Sync>(
     rt: &R,
     alloc: Global,
     elsewhere: &mut Elsewhere,
-) -> Option<ServiceEnd> {
-    let (remote, local) = ends(rt, alloc)?;
+) -> ServiceEnd {
+    let (remote, local) = ends(rt, alloc);
     let (_, sent) = join(
         rt,
         || serve_all(rt, alloc, elsewhere, 1, &local),
-        || sent_over(alloc, remote),
+        || sent_over(rt, alloc, remote),
     );
-    drop(local);
     sent
 }
 
-fn taken<R: Threads + Wait + Sync>(
+fn taken<R: Abort + Threads + Wait + Sync>(
     rt: &R,
     alloc: Global,
     elsewhere: &mut Elsewhere,
-) -> Option<ConsumerEnd> {
-    let (remote, local) = ends(rt, alloc)?;
+) -> ConsumerEnd {
+    let (remote, local) = ends(rt, alloc);
     let (_, taken) = join(
         rt,
         || serve_all(rt, alloc, elsewhere, 2, &local),
-        || taken_over(alloc, remote),
+        || taken_over(rt, alloc, remote),
     );
-    drop(local);
     taken
 }
 
-/// What the entries of the other side say of the service and of the consumer: Ok if the event
-/// reached the inbox. `None` if out of memory, or if a reply can't be one to its request.
-fn judged(
+/// A journal of the entries, whose replies can be replies to their requests.
+fn journal_of(rt: &impl Abort, alloc: Global, entries: &[Entry]) -> Journal {
+    Journal::from_entries(alloc, entries).expect(rt, "possible replies")
+}
+
+/// All entries show that the event reached the inbox. Without the last one, which is the
+/// consumer's, a call that has a reply has no entry.
+fn are_judged(
+    rt: &impl Abort,
     alloc: Global,
     entries: &[Entry],
     sent: &ServiceEnd,
     taken: &ConsumerEnd,
-) -> Option<Result<(), JudgeFault>> {
-    let journal = Journal::from_entries(alloc, entries).ok()?;
-    let judged = judged_in_turn(alloc, &[&journal], sent, taken);
-    drop(journal);
-    Some(judged)
-}
-
-/// Whether all entries show that the event reached the inbox. Without the last one, which is the
-/// consumer's, a call that has a reply has no entry.
-fn are_judged(alloc: Global, entries: &[Entry], sent: &ServiceEnd, taken: &ConsumerEnd) -> bool {
-    let Some((_, before)) = entries.split_last() else {
-        return false;
+) {
+    let all = journal_of(rt, alloc, entries);
+    judged_in_turn(alloc, &[&all], sent, taken).expect(rt, "the event in the inbox");
+    let (_, before) = entries.split_last().expect(rt, "an entry");
+    let lacking = journal_of(rt, alloc, before);
+    let judged = judged_in_turn(alloc, &[&lacking], sent, taken);
+    let Err(JudgeFault::Delivery(DeliveryFault::Consumer(_))) = judged else {
+        panic!(rt; "the last call has an entry");
     };
-    let all = judged(alloc, entries, sent, taken);
-    let lacking = judged(alloc, before, sent, taken);
-    matches!(all, Some(Ok(())))
-        && matches!(
-            lacking,
-            Some(Err(JudgeFault::Delivery(DeliveryFault::Consumer(_))))
-        )
 }
 
-fn holds<R: Threads + Wait + Sync>(rt: &R, alloc: Global) -> Option<bool> {
-    let mut elsewhere = other_side(alloc)?;
-    if let Some(event) = event_of(alloc, CREATE_ORDERS) {
-        drop(answered(alloc, &mut elsewhere, 0, event));
-    }
+fn reaches<R: Abort + Threads + Wait + Sync>(rt: &R, alloc: Global) {
+    let mut elsewhere = other_side(rt, alloc);
+    let event = event_of(rt, alloc, CREATE_ORDERS);
+    drop(answered(rt, alloc, &mut elsewhere, 0, event));
     let sent = sent(rt, alloc, &mut elsewhere);
     let taken = taken(rt, alloc, &mut elsewhere);
-    let held = match (&sent, &taken) {
-        (Some(sent), Some(taken)) => are_judged(alloc, &elsewhere.entries, sent, taken),
-        _ => false,
-    };
+    are_judged(rt, alloc, &elsewhere.entries, &sent, &taken);
     drop(elsewhere);
     drop(sent);
     drop(taken);
-    Some(held)
 }
 
 /// The calls of a line that asks for a producer id and then for the groups.
@@ -255,49 +206,35 @@ fn calls_over<R: Wait>(alloc: Global, remote: Remote<'_, R>) -> Vec<Call> {
 }
 
 /// The calls of worker 7, which the other side serves.
-fn calls_of<R: Threads + Wait + Sync>(
+fn calls_of<R: Abort + Threads + Wait + Sync>(
     rt: &R,
     alloc: Global,
     elsewhere: &mut Elsewhere,
-) -> Option<Vec<Call>> {
-    let (remote, local) = ends(rt, alloc)?;
+) -> Vec<Call> {
+    let (remote, local) = ends(rt, alloc);
     let (_, calls) = join(
         rt,
         || serve_all(rt, alloc, elsewhere, 7, &local),
         || calls_over(alloc, remote),
     );
-    drop(local);
-    Some(calls)
+    calls
 }
 
-/// Whether both calls were heard, and are the entries of worker 7.
-fn are_heard(alloc: Global, entries: &[Entry], calls: Vec<Call>) -> Option<bool> {
-    let heard = calls.iter().filter(|call| call.heard.is_some()).count();
-    let part = Part { worker: 7, calls };
-    let made = Journal::from_entries(alloc, entries);
-    let served = match &made {
-        Ok(journal) => is_served(alloc, journal, &part).ok(),
-        Err(_) => None,
-    };
-    drop(made);
-    drop(part);
-    Some(served? && heard == 2)
-}
-
-fn calls_another_thread<R: Threads + Wait + Sync>(rt: &R, alloc: Global) -> Option<bool> {
-    let mut elsewhere = other_side(alloc)?;
-    let heard = match calls_of(rt, alloc, &mut elsewhere) {
-        Some(calls) => are_heard(alloc, &elsewhere.entries, calls),
-        None => None,
-    };
+/// Both calls are heard, and are the entries of worker 7.
+fn calls<R: Abort + Threads + Wait + Sync>(rt: &R, alloc: Global) {
+    let mut elsewhere = other_side(rt, alloc);
+    let calls = calls_of(rt, alloc, &mut elsewhere);
+    assert_eq!(rt; calls.iter().filter(|call| call.heard.is_some()).count(), 2);
+    let journal = journal_of(rt, alloc, &elsewhere.entries);
     drop(elsewhere);
-    heard
+    let part = Part { worker: 7, calls };
+    assert_eq!(rt; is_served(alloc, &journal, &part), Ok(true));
 }
 
-// A broker of any kind may be on the other side: only its entries are looked at. Each reply comes over
-// a channel, and is noted as one that was received.
+// A broker of any kind may be on the other side: only its entries are looked at. Each reply comes
+// over a channel, and is noted as one that was received.
 #[test]
 fn lines_go_to_another_thread(rt: HostRuntime) {
-    assert!(rt; calls_another_thread(&rt, rt.alloc()) == Some(true));
-    assert!(rt; holds(&rt, rt.alloc()) == Some(true));
+    calls(&rt, rt.alloc());
+    reaches(&rt, rt.alloc());
 }

@@ -1,11 +1,12 @@
 //! The rows of an inbox: which are taken, seen or refused, what they keep, and running out of
 //! memory.
 
+use crate::making::READY;
 use kob_inbox::{Inbox, InboxFault, InboxRow, TakeIn};
 use kob_names::{Bytes, Header, Items, Record, Text};
 use kob_router::event_id;
 use std::alloc::{AllocError, Global};
-use std::test::Fail;
+use std::process::Abort;
 use uuid::Uuid;
 
 /// A record with this value and these headers, in this order. If the value is empty, so is the key;
@@ -67,29 +68,12 @@ const FORMS: [Form<'_>; 11] = [
     (&[("id", NO_TEXT)], None),
 ];
 
-/// Whether a record with these headers carries this id.
-fn carries(alloc: Global, headers: &[(&str, &[u8])], id: Option<Uuid>) -> bool {
-    let message = record(alloc, VALUE, headers);
-    let carries = match &message {
-        Ok(message) => event_id(message) == id,
-        Err(_) => false,
-    };
-    drop(message);
-    carries
-}
-
-fn all_carry(alloc: Global, forms: &[Form<'_>]) -> bool {
-    for (headers, id) in forms {
-        if !carries(alloc, headers, id.map(Uuid::from_u128)) {
-            return false;
-        }
-    }
-    true
-}
-
 #[test]
 fn an_id_is_one_in_every_form(rt: HostRuntime) {
-    assert!(rt; all_carry(rt.alloc(), &FORMS));
+    for (headers, id) in FORMS {
+        let message = record(rt.alloc(), VALUE, headers).expect(&rt, READY);
+        assert_eq!(rt; event_id(&message), id.map(Uuid::from_u128), "{headers:?}");
+    }
 }
 
 /// Takes in a record of this topic and partition, with this value and these headers. It is at the
@@ -102,19 +86,22 @@ fn take(
     headers: &[(&str, &[u8])],
 ) -> Result<TakeIn, InboxFault> {
     let message = record(alloc, value, headers).map_err(InboxFault::Memory)?;
-    let taken = inbox.take_in(topic, partition, GREATEST, &message);
-    drop(message);
-    taken
+    inbox.take_in(topic, partition, GREATEST, &message)
 }
 
-/// Whether two of five records are taken in: in the greatest partition and not in the one after it,
-/// and of texts that are empty.
-fn takes_two(alloc: Global, inbox: &mut Inbox) -> bool {
-    take(alloc, inbox, ("ö", GREATEST), VALUE, &[("id", UPPER)]) == Ok(TakeIn::Taken)
-        && take(alloc, inbox, ("", 0), VALUE, &[("id", BRACED)]) == Ok(TakeIn::Seen)
-        && take(alloc, inbox, ("", 0), VALUE, &[]) == Ok(TakeIn::NoEventId)
-        && take(alloc, inbox, ("", 0), b"", &[("id", OTHER)]) == Ok(TakeIn::Taken)
-        && take(alloc, inbox, ("", GREATEST + 1), VALUE, &[("id", THIRD)]) == Err(InboxFault::Store)
+/// Two of five records are taken in: in the greatest partition and not in the one after it, and of
+/// texts that are empty.
+fn takes_two(rt: &impl Abort, alloc: Global, inbox: &mut Inbox) {
+    let taken = take(alloc, inbox, ("ö", GREATEST), VALUE, &[("id", UPPER)]);
+    assert_eq!(rt; taken, Ok(TakeIn::Taken));
+    let taken = take(alloc, inbox, ("", 0), VALUE, &[("id", BRACED)]);
+    assert_eq!(rt; taken, Ok(TakeIn::Seen));
+    let taken = take(alloc, inbox, ("", 0), VALUE, &[]);
+    assert_eq!(rt; taken, Ok(TakeIn::NoEventId));
+    let taken = take(alloc, inbox, ("", 0), b"", &[("id", OTHER)]);
+    assert_eq!(rt; taken, Ok(TakeIn::Taken));
+    let taken = take(alloc, inbox, ("", GREATEST + 1), VALUE, &[("id", THIRD)]);
+    assert_eq!(rt; taken, Err(InboxFault::Store));
 }
 
 /// Whether a row has this place, partition, offset and topic, the event id that ends in this
@@ -131,28 +118,23 @@ fn is_row(row: &InboxRow, place: (u64, u64, u64), (topic, id, value): (&str, u12
         && row.value.as_slice() == value
 }
 
-/// Whether the rows are those of the two that were taken, of which the first is copied.
-fn keeps_two(alloc: Global, inbox: &mut Inbox) -> Option<bool> {
+/// The rows are those of the two that were taken, of which the first is copied.
+fn keeps_two(rt: &impl Abort, alloc: Global, inbox: &mut Inbox) {
     inbox.is_in_order();
-    let rows = inbox.taken().ok()?;
+    let rows = inbox.taken().expect(rt, "rows");
     let [first, second] = rows.as_slice() else {
-        return Some(false);
+        panic!(rt; "not two rows");
     };
-    let copy = first.copy(alloc).ok()?;
-    Some(
-        is_row(&copy, (1, GREATEST, GREATEST), ("ö", 0xA, VALUE))
-            && is_row(second, (2, 0, GREATEST), ("", 0xB, b"")),
-    )
+    let copy = first.copy(alloc).expect(rt, "a copy");
+    assert!(rt; is_row(&copy, (1, GREATEST, GREATEST), ("ö", 0xA, VALUE)));
+    assert!(rt; is_row(second, (2, 0, GREATEST), ("", 0xB, b"")));
 }
 
 #[test]
-fn rows_are_kept(rt: HostRuntime) -> Result<(), Fail> {
-    let mut inbox = Inbox::open_in_memory(rt.alloc())?;
-    let taken = takes_two(rt.alloc(), &mut inbox);
-    let kept = keeps_two(rt.alloc(), &mut inbox);
-    drop(inbox);
-    assert!(rt; taken && kept == Some(true));
-    Ok(())
+fn rows_are_kept(rt: HostRuntime) {
+    let mut inbox = Inbox::open_in_memory(rt.alloc()).expect(&rt, READY);
+    takes_two(&rt, rt.alloc(), &mut inbox);
+    keeps_two(&rt, rt.alloc(), &mut inbox);
 }
 
 fn count_of(inbox: &mut Inbox) -> Result<usize, InboxFault> {
@@ -170,24 +152,18 @@ fn takes(alloc: Global, inbox: &mut Inbox, id: &[u8], before: usize) -> Result<T
     }
 }
 
-fn goes_on(alloc: Global, inbox: &mut Inbox) -> bool {
-    let taken = takes(alloc, inbox, ID, 0) == Ok(TakeIn::Taken)
-        && takes(alloc, inbox, OTHER, 1) == Ok(TakeIn::Taken)
-        && takes(alloc, inbox, ID, 2) == Ok(TakeIn::Seen);
-    let count = match count_of(inbox) {
-        Err(_) => count_of(inbox),
-        count => count,
-    };
-    taken && count == Ok(2)
-}
-
 /// If any one allocation is refused, the call that needed it changes nothing, and succeeds when it
 /// is repeated.
 #[test]
-fn refused_allocation_leaves_the_inbox(rt: HostRuntime) -> Result<(), Fail> {
-    let mut inbox = Inbox::open_in_memory(rt.alloc())?;
-    let done = goes_on(rt.alloc(), &mut inbox);
-    drop(inbox);
-    assert!(rt; done);
-    Ok(())
+fn refused_allocation_leaves_the_inbox(rt: HostRuntime) {
+    let alloc = rt.alloc();
+    let mut inbox = Inbox::open_in_memory(alloc).expect(&rt, READY);
+    assert_eq!(rt; takes(alloc, &mut inbox, ID, 0), Ok(TakeIn::Taken));
+    assert_eq!(rt; takes(alloc, &mut inbox, OTHER, 1), Ok(TakeIn::Taken));
+    assert_eq!(rt; takes(alloc, &mut inbox, ID, 2), Ok(TakeIn::Seen));
+    let count = match count_of(&mut inbox) {
+        Err(_) => count_of(&mut inbox),
+        count => count,
+    };
+    assert_eq!(rt; count, Ok(2));
 }

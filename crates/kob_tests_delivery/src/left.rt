@@ -77,17 +77,14 @@ pub(crate) fn each_begins(end: &PipelineEnd, least: usize) -> bool {
 
 /// Whether the group `g` has committed this on the topic.
 fn is_committed(alloc: Global, broker: &mut Broker, due: Option<u64>) -> bool {
-    let reply = answer(
+    match answer(
         alloc,
         broker,
         "User:root h committed g outbox.event.orders 0",
-    );
-    let is_due = match &reply {
-        Some(Reply::Done(Body::Commit(found))) => *found == due,
+    ) {
+        Some(Reply::Done(Body::Commit(found))) => found == due,
         _ => false,
-    };
-    drop(reply);
-    is_due
+    }
 }
 
 fn are_of(found: &[(u64, Record)], ids: &[u128]) -> bool {
@@ -101,17 +98,14 @@ fn are_of(found: &[(u64, Record)], ids: &[u128]) -> bool {
 
 /// Whether the topic holds records of these ids, in order.
 pub(crate) fn are_records(alloc: Global, broker: &mut Broker, ids: &[u128]) -> bool {
-    let reply = answer(
+    match answer(
         alloc,
         broker,
         "User:root h fetch outbox.event.orders 0 0 100",
-    );
-    let are_told = match &reply {
+    ) {
         Some(Reply::Done(Body::Records(found))) => are_of(found.as_slice(), ids),
         _ => false,
-    };
-    drop(reply);
-    are_told
+    }
 }
 
 /// Whether the service's mark is at the last event.

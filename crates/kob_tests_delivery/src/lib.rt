@@ -3,10 +3,8 @@
 //! of calls that do not allocate. The results of steps over a broker are shown by the scenes of
 //! `kob play`.
 //!
-//! They are few functions, since each costs seconds of a check. Brokers, outboxes, journals, ends
-//! of fleets and events are lent, or dropped by `drop`. If such a value is dropped at the end of a
-//! function or by `?`, the proof of the function considers each of its parts again, and costs ten
-//! times as much.
+//! A step that fails ends its test by `expect` or `assert!`, which name the line. Functions seldom
+//! return early: at a `?` the proof considers each part of each value that is dropped there.
 #![tactic(auto)]
 
 #[cfg(test)]

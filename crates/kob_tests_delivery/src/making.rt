@@ -1,6 +1,6 @@
 //! Brokers, requests, scripts, lines and outboxes that the tests share.
 
-ghost use Rattle.std.specs.Prelude.{IfOk, IfSome, ◌≤◌};
+ghost use Rattle.std.specs.Prelude.{IfOk, ◌≤◌};
 ghost use Rattle.kob_shared.specs.Journals.{IsFresh};
 
 use kob_broker::{Broker, OpenFault, Settings};
@@ -8,11 +8,15 @@ use kob_lines::BrokerLine;
 use kob_names::{Binding, Host, Items, PlainValue, Principal};
 use kob_outbox::{Change, Outbox, OutboxEvent, RecordFault};
 use kob_rights::{Body, Event, Reply, Request};
-use kob_router::{Route, RouteFault, RouteSettings};
+use kob_router::{Route, RouteSettings};
 use kob_script::read_script;
 use kob_shared::{Entry, Journal, Recorded, Script, SharedBroker};
 use std::alloc::{AllocError, Global};
+use std::process::Abort;
 use uuid::Uuid;
+
+/// What a failed step of making ready says. `.ci/refuse` knows by it that a test did not begin.
+pub(crate) const READY: &str = "making ready";
 
 /// The topic of events about orders.
 pub(crate) const ORDERS: &str = "outbox.event.orders";
@@ -43,69 +47,50 @@ pub(crate) fn spare(alloc: Global) -> bool {
 }
 
 /// The events of a script.
-pub(crate) fn events_of(alloc: Global, lines: &str) -> Option<Vec<Event>> {
-    let script = read_script(alloc, lines.as_bytes()).ok()?;
-    drop(script.settings);
-    Some(script.events.into_vec())
+pub(crate) fn events_of(rt: &impl Abort, alloc: Global, lines: &str) -> Vec<Event> {
+    let script = read_script(alloc, lines.as_bytes()).expect(rt, READY);
+    script.events.into_vec()
 }
 
 /// The one event of a script's line.
-pub(crate) fn event_of(alloc: Global, line: &str) -> Option<Event> {
-    let mut events = events_of(alloc, line)?;
-    let event = events.pop();
-    drop(events);
-    event
+pub(crate) fn event_of(rt: &impl Abort, alloc: Global, line: &str) -> Event {
+    events_of(rt, alloc, line).pop().expect(rt, READY)
 }
 
 /// The request of a script's line.
-pub(crate) fn request_of(alloc: Global, line: &str) -> Option<Request> {
-    let event = event_of(alloc, line)?;
-    Some(event.into_request())
-}
-
-fn put_times(
-    alloc: Global,
-    requests: &mut Vec<Request>,
-    request: &Request,
-    times: usize,
-) -> Option<()> {
-    for _ in 0..times {
-        let copy = request.copy(alloc).ok()?;
-        requests.push(copy).ok()?;
-    }
-    Some(())
+pub(crate) fn request_of(rt: &impl Abort, alloc: Global, line: &str) -> Request {
+    event_of(rt, alloc, line).into_request()
 }
 
 /// This number of copies of the request of a line, by the principal of the line.
-pub(crate) fn script(alloc: Global, line: &str, times: usize) -> Option<Script> {
-    let event = event_of(alloc, line)?;
-    let mut script = Script {
-        principal: event.principal.copy(alloc).ok()?,
-        host: event.host.copy(alloc).ok()?,
-        requests: Vec::new(alloc),
-    };
-    let put = put_times(alloc, &mut script.requests, &event.request, times);
-    drop(event);
-    if put.is_none() {
-        drop(script);
-        return None;
+pub(crate) fn script(rt: &impl Abort, alloc: Global, line: &str, times: usize) -> Script {
+    let event = event_of(rt, alloc, line);
+    let mut requests = Vec::new(alloc);
+    for _ in 0..times {
+        let copy = event.request.copy(alloc).expect(rt, READY);
+        requests.push(copy).expect(rt, READY);
     }
-    Some(script)
+    Script {
+        principal: event.principal.copy(alloc).expect(rt, READY),
+        host: event.host.copy(alloc).expect(rt, READY),
+        requests,
+    }
 }
 
 /// This number of such scripts.
 pub(crate) fn scripts_of(
+    rt: &impl Abort,
     alloc: Global,
     line: &str,
     workers: usize,
     times: usize,
-) -> Option<Vec<Script>> {
+) -> Vec<Script> {
     let mut scripts = Vec::new(alloc);
     for _ in 0..workers {
-        let script = script(alloc, line, times)?;
-        scripts.push(script).ok()?;
+        let script = script(rt, alloc, line, times);
+        scripts.push(script).expect(rt, READY);
     }
-    Some(scripts)
+    scripts
 }
 
 /// A new broker.
@@ -116,95 +101,84 @@ fn opened(alloc: Global, settings: Settings) -> Result<Broker, OpenFault>
 }
 
 /// A broker whose one super user is `User:root`, with these bindings in force.
-pub(crate) fn broker(alloc: Global, opening: Vec<Binding>) -> Option<Broker>
-    ensures { IfSome result IsFresh }
+pub(crate) fn broker(rt: &impl Abort, alloc: Global, opening: Vec<Binding>) -> Broker
+    ensures { IsFresh result }
 {
-    let Ok(script) = read_script(alloc, b"super User:root") else {
-        drop(opening);
-        return None;
-    };
-    drop(script.events);
+    let script = read_script(alloc, b"super User:root").expect(rt, READY);
     let mut settings = script.settings;
     settings.opening = Items::from_vec(opening);
-    opened(alloc, settings).ok()
+    opened(alloc, settings).expect(rt, READY)
 }
 
 /// Such a broker, without bindings, with a journal of at most this number of entries.
-pub(crate) fn recorded(alloc: Global, limit: usize) -> Option<Recorded>
+pub(crate) fn recorded(rt: &impl Abort, alloc: Global, limit: usize) -> Recorded
     requires { limit ≤ 1000000 }
 {
-    let broker = broker(alloc, Vec::new(alloc))?;
-    Recorded::open(alloc, broker, limit).ok()
+    let broker = broker(rt, alloc, Vec::new(alloc));
+    Recorded::open(alloc, broker, limit).expect(rt, READY)
 }
 
 /// Serves a worker's event.
 pub(crate) fn serve(
+    rt: &impl Abort,
     alloc: Global,
     recorded: &mut Recorded,
     worker: usize,
-    event: Event,
-) -> Option<()> {
-    let receipt = recorded.serve_as(alloc, worker, &event).ok();
-    drop(event);
-    drop(receipt?);
-    Some(())
+    event: &Event,
+) {
+    recorded.serve_as(alloc, worker, event).expect(rt, READY);
 }
 
 /// Serves the events of a script's lines, each with its worker.
 pub(crate) fn serve_all(
+    rt: &impl Abort,
     alloc: Global,
     recorded: &mut Recorded,
     lines: &[(usize, &str)],
-) -> Option<()> {
+) {
     for (worker, line) in lines {
-        let event = event_of(alloc, line)?;
-        serve(alloc, recorded, *worker, event)?;
+        let event = event_of(rt, alloc, line);
+        serve(rt, alloc, recorded, *worker, &event);
     }
-    Some(())
 }
 
 /// Copies of a journal's entries from a place on.
 pub(crate) fn copies(
+    rt: &impl Abort,
     alloc: Global,
     journal: &Journal,
     from: usize,
     to: usize,
-) -> Option<Vec<Entry>> {
+) -> Vec<Entry> {
     let mut entries = Vec::new(alloc);
     for place in from..to {
-        let entry = journal.get(place)?.copy(alloc).ok()?;
-        entries.push(entry).ok()?;
+        let entry = journal.get(place).expect(rt, READY);
+        let copy = entry.copy(alloc).expect(rt, READY);
+        entries.push(copy).expect(rt, READY);
     }
-    Some(entries)
+    entries
 }
 
 /// Such a broker and journal under a lock.
-pub(crate) fn shared(alloc: Global, limit: usize) -> Option<SharedBroker>
+pub(crate) fn shared(rt: &impl Abort, alloc: Global, limit: usize) -> SharedBroker
     requires { limit ≤ 1000000 }
 {
-    let recorded = recorded(alloc, limit)?;
-    Some(SharedBroker::open(recorded))
+    SharedBroker::open(recorded(rt, alloc, limit))
 }
 
 /// Such a broker with the topic of orders.
-pub(crate) fn broker_of_orders(alloc: Global) -> Option<Broker> {
-    let mut broker = broker(alloc, Vec::new(alloc))?;
-    let created = answer(alloc, &mut broker, CREATE_ORDERS);
-    let is_created = created.is_some();
-    drop(created);
-    if is_created {
-        return Some(broker);
-    }
-    drop(broker);
-    None
+pub(crate) fn broker_of_orders(rt: &impl Abort, alloc: Global) -> Broker {
+    let mut broker = broker(rt, alloc, Vec::new(alloc));
+    let event = event_of(rt, alloc, CREATE_ORDERS);
+    broker.serve(alloc, &event).expect(rt, READY);
+    broker
 }
 
 /// The reply to a line of a script, or `None` if memory is refused.
 pub(crate) fn answer(alloc: Global, broker: &mut Broker, line: &str) -> Option<Reply> {
-    let event = event_of(alloc, line)?;
-    let reply = broker.serve(alloc, &event).ok();
-    drop(event);
-    reply
+    let script = read_script(alloc, line.as_bytes()).ok()?;
+    let event = script.events.into_vec().pop()?;
+    broker.serve(alloc, &event).ok()
 }
 
 /// The offset in the reply.
@@ -216,23 +190,25 @@ pub(crate) fn offset_of(reply: &Reply) -> Option<u64> {
 }
 
 /// A principal, and the host `h`.
-pub(crate) fn asker(alloc: Global, who: &str) -> Option<(Principal, Host)> {
-    let principal = Principal::parse(alloc, who).ok()?;
-    Some((principal, Host::parse(alloc, "h").ok()?))
+pub(crate) fn asker(rt: &impl Abort, alloc: Global, who: &str) -> (Principal, Host) {
+    let principal = Principal::parse(alloc, who).expect(rt, READY);
+    (principal, Host::parse(alloc, "h").expect(rt, READY))
 }
 
 /// A line of the super user.
-pub(crate) fn line_to(alloc: Global, broker: &mut Broker) -> Option<BrokerLine<'_>> {
-    let (principal, host) = asker(alloc, "User:root")?;
-    Some(BrokerLine::open(alloc, broker, principal, host))
+pub(crate) fn line_to<'a>(
+    rt: &impl Abort,
+    alloc: Global,
+    broker: &'a mut Broker,
+) -> BrokerLine<'a> {
+    let (principal, host) = asker(rt, alloc, "User:root");
+    BrokerLine::open(alloc, broker, principal, host)
 }
 
 /// The default route.
-pub(crate) fn default_route(alloc: Global) -> Result<Route, RouteFault> {
-    let settings = RouteSettings::by_default(alloc)?;
-    let route = Route::new(alloc, &settings);
-    drop(settings);
-    route
+pub(crate) fn default_route(rt: &impl Abort, alloc: Global) -> Route {
+    let settings = RouteSettings::by_default(alloc).expect(rt, READY);
+    Route::new(alloc, &settings).expect(rt, READY)
 }
 
 /// The change that gives the order 42 this state, and its event with this id.
@@ -242,13 +218,8 @@ pub(crate) fn order(
     state: &str,
 ) -> Result<(Change, OutboxEvent), AllocError> {
     let change = Change::of(alloc, "orders", "42", state)?;
-    match OutboxEvent::of(alloc, Uuid::from_u128(id), &change, "{}") {
-        Ok(event) => Ok((change, event)),
-        Err(refused) => {
-            drop(change);
-            Err(refused)
-        }
-    }
+    let event = OutboxEvent::of(alloc, Uuid::from_u128(id), &change, "{}")?;
+    Ok((change, event))
 }
 
 /// Records that the order 42 has this state, with an event of this id.
@@ -259,23 +230,14 @@ pub(crate) fn record(
     state: &str,
 ) -> Result<u64, RecordFault> {
     let (change, event) = order(alloc, id, state).map_err(RecordFault::Memory)?;
-    let recorded = outbox.record(&change, &event);
-    drop(change);
-    drop(event);
-    recorded
+    outbox.record(&change, &event)
 }
 
 /// An outbox with this number of events about orders, whose ids are 1, 2 and so on.
-pub(crate) fn outbox(alloc: Global, count: u128) -> Option<Outbox> {
-    let mut outbox = Outbox::open_in_memory(alloc).ok()?;
-    let mut is_filled = true;
+pub(crate) fn outbox(rt: &impl Abort, alloc: Global, count: u128) -> Outbox {
+    let mut outbox = Outbox::open_in_memory(alloc).expect(rt, READY);
     for id in 0..count {
-        let recorded = record(alloc, &mut outbox, id.wrapping_add(1), "paid");
-        is_filled = is_filled && recorded.is_ok();
+        record(alloc, &mut outbox, id.wrapping_add(1), "paid").expect(rt, READY);
     }
-    if is_filled {
-        return Some(outbox);
-    }
-    drop(outbox);
-    None
+    outbox
 }

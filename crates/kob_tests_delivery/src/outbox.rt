@@ -2,11 +2,9 @@
 //! allocation refused in turn.
 
 use crate::making;
-use crate::making::record;
+use crate::making::{READY, record};
 use kob_outbox::{MarkFault, Outbox, OutboxFault, RecordFault};
 use std::alloc::Global;
-use std::ops::Range;
-use std::test::Fail;
 
 /// The number after which rows are read, the maximum number of rows, and the numbers of the rows,
 /// of three.
@@ -20,35 +18,19 @@ const AFTER: [(u64, u32, u64, u64); 7] = [
     (u64::MAX, 10, 0, 0),
 ];
 
-fn reads(outbox: &mut Outbox, seq: u64, limit: u32, expected: Range<u64>) -> Option<bool> {
-    let rows = outbox.after(seq, limit).ok()?;
-    Some(rows.iter().map(|row| row.seq).eq(expected))
-}
-
-fn reads_in_order(outbox: &mut Outbox) -> bool {
-    for (seq, limit, first, end) in AFTER {
-        if reads(outbox, seq, limit, first..end) != Some(true) {
-            return false;
-        }
-    }
-    true
-}
-
-/// Whether the mark moves neither back nor ahead of three rows.
-fn is_marked(outbox: &mut Outbox) -> bool {
-    outbox.set_mark(2) == Ok(())
-        && outbox.set_mark(1) == Err(MarkFault::Backwards)
-        && outbox.set_mark(4) == Err(MarkFault::Ahead)
-        && outbox.mark() == Ok(2)
-}
-
+/// The mark moves neither back nor ahead of three rows.
 #[test]
-fn marks_and_rows_have_limits(rt: HostRuntime) -> Result<(), Fail> {
-    let mut outbox = making::outbox(rt.alloc(), 3).ok_or("memory")?;
-    let done = is_marked(&mut outbox) && reads_in_order(&mut outbox);
-    drop(outbox);
-    assert!(rt; done);
-    Ok(())
+fn marks_and_rows_have_limits(rt: HostRuntime) {
+    let mut outbox = making::outbox(&rt, rt.alloc(), 3);
+    assert_eq!(rt; outbox.set_mark(2), Ok(()));
+    assert_eq!(rt; outbox.set_mark(1), Err(MarkFault::Backwards));
+    assert_eq!(rt; outbox.set_mark(4), Err(MarkFault::Ahead));
+    assert_eq!(rt; outbox.mark(), Ok(2));
+    for (seq, limit, first, end) in AFTER {
+        let rows = outbox.after(seq, limit).expect(&rt, "rows");
+        let numbers = rows.iter().map(|row| row.seq);
+        assert!(rt; numbers.eq(first..end), "at most {limit} after {seq}");
+    }
 }
 
 /// The mark, and the number of rows.
@@ -109,21 +91,16 @@ fn second_is_left(outbox: &mut Outbox) -> Result<bool, OutboxFault> {
     Ok(is_left && is_void)
 }
 
-fn goes_on(alloc: Global, outbox: &mut Outbox) -> bool {
-    records(alloc, outbox, (1, "paid"), (0, 0)) == Ok(1)
-        && records(alloc, outbox, (2, "void"), (0, 1)) == Ok(2)
-        && sweeps(outbox)
-        && second_is_left(outbox) == Ok(true)
-        && records(alloc, outbox, (1, "paid"), (1, 1)) == Err(RecordFault::DuplicateId)
-}
-
 /// If any one allocation is refused, the call that needed it changes nothing, and succeeds when it
 /// is repeated.
 #[test]
-fn refused_allocation_leaves_all(rt: HostRuntime) -> Result<(), Fail> {
-    let mut outbox = Outbox::open_in_memory(rt.alloc())?;
-    let done = goes_on(rt.alloc(), &mut outbox);
-    drop(outbox);
-    assert!(rt; done);
-    Ok(())
+fn refused_allocation_leaves_all(rt: HostRuntime) {
+    let alloc = rt.alloc();
+    let mut outbox = Outbox::open_in_memory(alloc).expect(&rt, READY);
+    assert_eq!(rt; records(alloc, &mut outbox, (1, "paid"), (0, 0)), Ok(1));
+    assert_eq!(rt; records(alloc, &mut outbox, (2, "void"), (0, 1)), Ok(2));
+    assert!(rt; sweeps(&mut outbox));
+    assert_eq!(rt; second_is_left(&mut outbox), Ok(true));
+    let again = records(alloc, &mut outbox, (1, "paid"), (1, 1));
+    assert_eq!(rt; again, Err(RecordFault::DuplicateId));
 }

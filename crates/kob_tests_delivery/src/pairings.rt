@@ -1,6 +1,7 @@
-//! The calls of a line that loses one before it is served and one after, beside a journal's entries.
+//! The calls of a line that loses one before it is served and one after, beside a journal's
+//! entries.
 
-use crate::making::{asker, recorded};
+use crate::making::{READY, asker, recorded};
 use kob_embedding::{Part, is_served};
 use kob_lines::{IntoCalls, Loss, Lossy, RecordedLine};
 use kob_names::PlainValue;
@@ -8,63 +9,50 @@ use kob_rights::Request;
 use kob_router::{Call, Line};
 use kob_shared::Recorded;
 use std::alloc::Global;
+use std::process::Abort;
 
 /// Makes a call that is lost so, and the same call again, which is not lost.
 fn send_twice<L: Line>(
+    rt: &impl Abort,
     alloc: Global,
     line: &mut Lossy<L>,
     loss: Loss,
     request: Request,
-) -> Option<()> {
-    let again = request.copy(alloc);
+) {
+    let again = request.copy(alloc).expect(rt, READY);
     line.lose(loss);
     drop(line.send(alloc, request));
-    drop(line.send(alloc, again.ok()?));
-    Some(())
+    drop(line.send(alloc, again));
 }
 
 /// The calls of worker 7: an introduction that was not served, one that was, and a listing that was
 /// served twice, since the first reply was lost.
-fn calls_of(alloc: Global, recorded: &mut Recorded) -> Option<Vec<Call>> {
-    let (principal, host) = asker(alloc, "User:root")?;
-    let mut line = Lossy::over(
+fn calls_of(rt: &impl Abort, alloc: Global, recorded: &mut Recorded) -> Vec<Call> {
+    let (principal, host) = asker(rt, alloc, "User:root");
+    let line = RecordedLine::open(alloc, recorded, 7, principal, host);
+    let mut line = Lossy::over(alloc, line);
+    send_twice(
+        rt,
         alloc,
-        RecordedLine::open(alloc, recorded, 7, principal, host),
+        &mut line,
+        Loss::BeforeServe,
+        Request::InitProducerId,
     );
-    let first = send_twice(alloc, &mut line, Loss::BeforeServe, Request::InitProducerId);
-    let second = send_twice(alloc, &mut line, Loss::AfterServe, Request::ListGroups);
-    let calls = line.into_calls();
-    match (first, second) {
-        (Some(()), Some(())) => Some(calls),
-        _ => {
-            drop(calls);
-            None
-        }
-    }
+    send_twice(rt, alloc, &mut line, Loss::AfterServe, Request::ListGroups);
+    line.into_calls()
 }
 
-/// Whether the journal's three entries are those of the four calls, and not of three of them.
-fn pairs(alloc: Global, recorded: &mut Recorded) -> Option<bool> {
-    let mut part = Part {
-        worker: 7,
-        calls: calls_of(alloc, recorded)?,
-    };
-    let all = is_served(alloc, recorded.journal(), &part).ok();
-    drop(part.calls.pop());
-    let without_last = is_served(alloc, recorded.journal(), &part).ok();
-    drop(part);
-    Some((all, without_last, recorded.journal().len()) == (Some(true), Some(false), 3))
-}
-
-fn are_paired(alloc: Global) -> Option<bool> {
-    let mut recorded = recorded(alloc, 10)?;
-    let paired = pairs(alloc, &mut recorded);
-    drop(recorded);
-    paired
-}
-
-// A call that was lost before it was served takes no entry from one that was served.
+// A call that was lost before it was served takes no entry from one that was served: the journal's
+// three entries are those of the four calls, and not of three of them.
 #[test]
 fn lost_calls_are_paired(rt: HostRuntime) {
-    assert!(rt; are_paired(rt.alloc()) == Some(true));
+    let alloc = rt.alloc();
+    let mut recorded = recorded(&rt, alloc, 10);
+    let calls = calls_of(&rt, alloc, &mut recorded);
+    let mut part = Part { worker: 7, calls };
+    assert_eq!(rt; recorded.journal().len(), 3);
+    assert_eq!(rt; is_served(alloc, recorded.journal(), &part), Ok(true));
+    drop(part.calls.pop());
+    assert_eq!(rt; is_served(alloc, recorded.journal(), &part), Ok(false));
+    drop(recorded);
 }

@@ -1,66 +1,30 @@
 //! Pipelines: what reaches an inbox, also if calls are lost, workers restart and rights are
 //! revoked.
 
-ghost use Rattle.std.specs.Prelude.{IfOk, IfSome};
+ghost use Rattle.std.specs.Prelude.{IfOk};
 ghost use Rattle.kob_pipeline.specs.Pipelines.{IsPipeline};
 
 use crate::gates::{Hold, Holding};
 use crate::left::{Due, breaks_no_premise, call_laws, is_due};
+use crate::making::READY;
 use crate::plans::{Act, Cast, TICK, TWO, plan};
 use kob_pipeline::{Loss, PipelineEnd, PipelineFault, Plan, pipeline};
 use std::alloc::Global;
+use std::process::Abort;
 use std::sync::Wait;
 use std::thread::Threads;
 
-/// Runs a plan. `None` if it may not be run.
-pub(crate) fn run<R: Threads + Wait + Sync>(
+/// Runs a plan.
+pub(crate) fn run<R: Abort + Threads + Wait + Sync>(
     rt: &R,
     alloc: Global,
     plan: &Plan,
     gate: &Holding<'_>,
-) -> Option<Result<PipelineEnd, PipelineFault>>
-    ensures { IfSome result (λ ran. IfOk ran (IsPipeline plan.now)) }
+) -> Result<PipelineEnd, PipelineFault>
+    ensures { IfOk result (IsPipeline plan.now) }
 {
-    if !plan.is_runnable() {
-        return None;
-    }
-    Some(pipeline(rt, alloc, plan, gate))
-}
-
-/// Whether a plan, at this gate, leaves what is expected, and the laws apply to it.
-fn is_left<R: Threads + Wait + Sync>(
-    rt: &R,
-    alloc: Global,
-    plan: &Plan,
-    gate: &Holding<'_>,
-    due: Due<'_>,
-) -> bool {
-    let ran = run(rt, alloc, plan, gate);
-    let Some(Ok(end)) = ran else {
-        drop(ran);
-        return false;
-    };
-    let applies = breaks_no_premise(plan, &end);
-    call_laws(plan, &end);
-    let mut end = end;
-    let is_due = is_due(alloc, &mut end, due);
-    drop(end);
-    applies && is_due
-}
-
-/// Whether a plan, under these holds, leaves what is expected, and no hold was given up.
-fn is_played<R: Threads + Wait + Sync>(
-    rt: &R,
-    alloc: Global,
-    cast: Cast<'_>,
-    holds: &[Hold],
-    due: Due<'_>,
-) -> Option<bool> {
-    let plan = plan(alloc, cast)?;
-    let gate = Holding::at(holds, 0);
-    let is_left = is_left(rt, alloc, &plan, &gate, due);
-    drop(plan);
-    Some(is_left && gate.all_came())
+    assert!(rt; plan.is_runnable());
+    pipeline(rt, alloc, plan, gate)
 }
 
 /// A plan, how its workers are held, and what it leaves.
@@ -230,51 +194,54 @@ const PLAYED: [Played<'_>; 6] = [
     },
 ];
 
+/// The plan leaves what is expected, the laws apply to it, and no hold is given up.
+fn play<R: Abort + Threads + Wait + Sync>(rt: &R, alloc: Global, played: Played<'_>) {
+    let name = played.name;
+    let plan = plan(rt, alloc, played.cast);
+    let gate = Holding::at(played.holds, 0);
+    let mut end = run(rt, alloc, &plan, &gate).ok().expect(rt, name);
+    assert!(rt; breaks_no_premise(&plan, &end), "{name}");
+    call_laws(&plan, &end);
+    assert!(rt; is_due(alloc, &mut end, played.due), "{name}");
+    drop(end);
+    drop(plan);
+    assert!(rt; gate.all_came(), "{name}");
+}
+
 #[test]
 fn each_plan_leaves_what_is_due(rt: HostRuntime) {
-    for Played {
-        name,
-        cast,
-        holds,
-        due,
-    } in PLAYED {
-        assert!(rt;
-            is_played(&rt, rt.alloc(), cast, holds, due) == Some(true),
-            "{name}"
-        );
+    for played in PLAYED {
+        play(&rt, rt.alloc(), played);
     }
 }
 
-/// How a plan of 500,000 sweeps and consumers for these groups is refused: 1 if the journal has no
-/// room, 2 if there are too many workers, otherwise 0.
-fn refusal<R: Threads + Wait + Sync>(
+/// Why a plan of 500,000 sweeps and consumers for these groups is refused.
+fn refusal<R: Abort + Threads + Wait + Sync>(
     rt: &R,
     alloc: Global,
     groups: &[&str],
     gate: &Holding<'_>,
-) -> Option<u8> {
-    let sweeps = vec![in alloc; Act::Sweep; 500_000].ok()?;
+) -> PipelineFault {
+    let sweeps = vec![in alloc; Act::Sweep; 500_000].expect(rt, READY);
     let cast = Cast {
         service: &sweeps,
         groups,
         revoked: false,
     };
-    let plan = plan(alloc, cast)?;
+    let plan = plan(rt, alloc, cast);
     let ran = run(rt, alloc, &plan, gate);
     drop(plan);
-    let refusal = match &ran {
-        Some(Err(PipelineFault::JournalFull)) => 1,
-        Some(Err(PipelineFault::TooManyWorkers)) => 2,
-        _ => 0,
-    };
-    drop(ran);
-    Some(refusal)
+    ran.err().expect(rt, "a refusal")
 }
 
 #[test]
 fn too_many_steps(rt: HostRuntime) {
     let gate = Holding::at(&[], 0);
-    assert!(rt; refusal(&rt, rt.alloc(), &[], &gate) == Some(1));
-    assert!(rt; refusal(&rt, rt.alloc(), &["g"; 64], &gate) == Some(2));
-    assert!(rt; gate.calls() == 0);
+    let long = refusal(&rt, rt.alloc(), &[], &gate);
+    assert!(rt; matches!(&long, PipelineFault::JournalFull));
+    drop(long);
+    let many = refusal(&rt, rt.alloc(), &["g"; 64], &gate);
+    assert!(rt; matches!(&many, PipelineFault::TooManyWorkers));
+    drop(many);
+    assert_eq!(rt; gate.calls(), 0);
 }

@@ -1,12 +1,13 @@
 //! Plans of pipelines that the tests share.
 
-use crate::making::{ORDERS, asker, default_route, script};
+use crate::making::{ORDERS, READY, asker, default_route, script};
 use kob_inbox::Subscription;
 use kob_outbox::{Change, OutboxEvent};
 use kob_pipeline::{ConsumerPlan, ConsumerStep, Loss, Plan, Service, ServiceStep};
 use kob_router::Target;
 use kob_script::read_script;
-use std::alloc::{AllocError, Global};
+use std::alloc::Global;
+use std::process::Abort;
 use uuid::Uuid;
 
 /// The settings and the first events of a plan: the topic is created, and the service and the
@@ -46,60 +47,54 @@ pub(crate) const TICK: Act = Act::Tick(Loss::None);
 pub(crate) const TWO: [Act; 4] = [Act::Note(0xA), TICK, Act::Note(0xB), TICK];
 
 /// The aggregate `42` of a type is paid, with an event of this id.
-fn recording(alloc: Global, kind: &str, id: u128) -> Result<ServiceStep, AllocError> {
-    let change = Change::of(alloc, kind, "42", "paid")?;
-    let event = OutboxEvent::of(alloc, Uuid::from_u128(id), &change, "{}")?;
-    Ok(ServiceStep::Record(change, event))
+fn recording(rt: &impl Abort, alloc: Global, kind: &str, id: u128) -> ServiceStep {
+    let change = Change::of(alloc, kind, "42", "paid").expect(rt, READY);
+    let event = OutboxEvent::of(alloc, Uuid::from_u128(id), &change, "{}").expect(rt, READY);
+    ServiceStep::Record(change, event)
 }
 
-fn step(alloc: Global, act: Act) -> Result<ServiceStep, AllocError> {
+fn step(rt: &impl Abort, alloc: Global, act: Act) -> ServiceStep {
     match act {
-        Act::Note(id) => recording(alloc, "orders", id),
-        Act::Unroutable(id) => recording(alloc, "orders and refunds", id),
-        Act::TooLong(id) => recording(alloc, "a".repeat(alloc, 256)?.as_str(), id),
-        Act::Tick(loss) => Ok(ServiceStep::Tick(loss)),
-        Act::Restart => Ok(ServiceStep::Restart),
-        Act::Sweep => Ok(ServiceStep::Sweep),
+        Act::Note(id) => recording(rt, alloc, "orders", id),
+        Act::Unroutable(id) => recording(rt, alloc, "orders and refunds", id),
+        Act::TooLong(id) => {
+            let kind = "a".repeat(alloc, 256).expect(rt, READY);
+            recording(rt, alloc, kind.as_str(), id)
+        }
+        Act::Tick(loss) => ServiceStep::Tick(loss),
+        Act::Restart => ServiceStep::Restart,
+        Act::Sweep => ServiceStep::Sweep,
     }
 }
 
-fn push_steps(alloc: Global, steps: &mut Vec<ServiceStep>, acts: &[Act]) -> Option<()> {
+fn service(rt: &impl Abort, alloc: Global, acts: &[Act]) -> Service {
+    let (principal, host) = asker(rt, alloc, "User:svc");
+    let route = default_route(rt, alloc);
+    let mut steps = Vec::new(alloc);
     for act in acts {
-        let step = step(alloc, *act).ok()?;
-        steps.push(step).ok()?;
+        let step = step(rt, alloc, *act);
+        steps.push(step).expect(rt, READY);
     }
-    Some(())
-}
-
-fn push_service(alloc: Global, services: &mut Vec<Service>, acts: &[Act]) -> Option<()> {
-    let (principal, host) = asker(alloc, "User:svc")?;
-    let route = default_route(alloc).ok()?;
-    let mut service = Service {
+    Service {
         principal,
         host,
         target: Target {
             route,
             partitions: 1,
         },
-        steps: Vec::new(alloc),
-    };
-    if push_steps(alloc, &mut service.steps, acts).is_none() {
-        drop(service);
-        return None;
+        steps,
     }
-    services.push(service).ok()
 }
 
 /// A consumer of the topic's one partition for this group, which makes three steps.
-fn consumer(alloc: Global, group: &str) -> Option<ConsumerPlan> {
-    let steps = vec![in alloc; ConsumerStep::Tick(Loss::None); 3].ok()?;
-    let (principal, host) = asker(alloc, "User:con")?;
-    Some(ConsumerPlan {
+fn consumer(rt: &impl Abort, alloc: Global, group: &str) -> ConsumerPlan {
+    let (principal, host) = asker(rt, alloc, "User:con");
+    ConsumerPlan {
         principal,
         host,
-        subscription: Subscription::of(alloc, group, ORDERS, 1, 10).ok()?,
-        steps,
-    })
+        subscription: Subscription::of(alloc, group, ORDERS, 1, 10).expect(rt, READY),
+        steps: vec![in alloc; ConsumerStep::Tick(Loss::None); 3].expect(rt, READY),
+    }
 }
 
 /// A plan with one service and, for each group, one consumer.
@@ -111,42 +106,35 @@ pub(crate) struct Cast<'t> {
     pub(crate) revoked: bool,
 }
 
-fn push_workers(alloc: Global, plan: &mut Plan, cast: Cast<'_>) -> Option<()> {
-    push_service(alloc, &mut plan.services, cast.service)?;
-    for group in cast.groups {
-        let consumer = consumer(alloc, group)?;
-        plan.consumers.push(consumer).ok()?;
-    }
-    if cast.revoked {
-        let revoker = script(alloc, REVOKE, 1)?;
-        plan.administrators.push(revoker).ok()?;
-    }
-    Some(())
-}
-
 /// The plan of a cast.
-pub(crate) fn plan(alloc: Global, cast: Cast<'_>) -> Option<Plan> {
-    let first = read_script(alloc, FIRST.as_bytes()).ok()?;
-    let mut plan = Plan {
+pub(crate) fn plan(rt: &impl Abort, alloc: Global, cast: Cast<'_>) -> Plan {
+    let first = read_script(alloc, FIRST.as_bytes()).expect(rt, READY);
+    let service = service(rt, alloc, cast.service);
+    let mut consumers = Vec::new(alloc);
+    for group in cast.groups {
+        let consumer = consumer(rt, alloc, group);
+        consumers.push(consumer).expect(rt, READY);
+    }
+    let mut administrators = Vec::new(alloc);
+    if cast.revoked {
+        let revoker = script(rt, alloc, REVOKE, 1);
+        administrators.push(revoker).expect(rt, READY);
+    }
+    Plan {
         settings: first.settings,
         first: first.events,
-        services: Vec::new(alloc),
-        consumers: Vec::new(alloc),
-        administrators: Vec::new(alloc),
-    };
-    if push_workers(alloc, &mut plan, cast).is_none() {
-        drop(plan);
-        return None;
+        services: vec![in alloc; service].expect(rt, READY),
+        consumers,
+        administrators,
     }
-    Some(plan)
 }
 
 /// A plan with a service that sends two events at once, and one consumer.
-pub(crate) fn plan_of_two(alloc: Global) -> Option<Plan> {
+pub(crate) fn plan_of_two(rt: &impl Abort, alloc: Global) -> Plan {
     let cast = Cast {
         service: &TWO,
         groups: &["g"],
         revoked: false,
     };
-    plan(alloc, cast)
+    plan(rt, alloc, cast)
 }

@@ -5,7 +5,8 @@ ghost use Rattle.std.specs.Prelude.{option_map};
 ghost use Rattle.kob_router.specs.Tick.{IsFirst, hand_of};
 
 use crate::making::{
-    ORDERS, answer, broker_of_orders, default_route, line_to, offset_of, outbox, record,
+    ORDERS, READY, answer, broker_of_orders, default_route, event_of, line_to, offset_of, outbox,
+    record,
 };
 use kob_broker::Broker;
 use kob_inbox::{Consumer, Inbox, Subscription};
@@ -13,7 +14,7 @@ use kob_lines::{BrokerLine, IntoCalls};
 use kob_outbox::Outbox;
 use kob_router::{Line, Router};
 use std::alloc::Global;
-use std::test::Fail;
+use std::process::Abort;
 
 /// The maximum number of ticks.
 const TICKS: usize = 8;
@@ -40,14 +41,12 @@ pub(crate) fn router_tick<L: Line>(
     ensures { IsFirst (option_map hand_of router.new.hand) outbox.new }
 {
     let tick = router.tick(alloc, outbox, line);
-    let came = match &tick {
+    match &tick {
         kob_router::Tick::Idle => Came::Idle,
         kob_router::Tick::Moved(_) | kob_router::Tick::Repeat => Came::On,
         kob_router::Tick::Stopped(kob_router::StopReason::Memory(_)) => Came::On,
         kob_router::Tick::Stopped(_) => Came::Stopped,
-    };
-    drop(tick);
-    came
+    }
 }
 
 fn router_ticks(
@@ -73,14 +72,12 @@ pub(crate) fn consumer_tick<L: Line>(
     line: &mut L,
 ) -> Came {
     let tick = consumer.tick(alloc, inbox, line);
-    let came = match &tick {
+    match &tick {
         kob_inbox::Tick::Idle => Came::Idle,
         kob_inbox::Tick::Stopped(kob_router::StopReason::Memory(_)) => Came::On,
         kob_inbox::Tick::Stopped(_) => Came::Stopped,
         _ => Came::On,
-    };
-    drop(tick);
-    came
+    }
 }
 
 fn consumer_ticks(
@@ -102,122 +99,90 @@ fn came_to_the_end(came: &[Came; TICKS]) -> bool {
         && (came[TICKS - 2] == Came::Idle || came[TICKS - 1] == Came::Idle)
 }
 
-/// Whether a router sends all that waits in an outbox, by a line whose calls are kept. `None` if it
-/// could not be made.
-fn sends_all(alloc: Global, outbox: &mut Outbox, broker: &mut Broker) -> Option<bool> {
-    let route = default_route(alloc).ok()?;
-    let mut line = line_to(alloc, broker)?;
+/// Whether a router sends all that waits in an outbox, by a line whose calls are kept.
+fn sends_all(rt: &impl Abort, alloc: Global, outbox: &mut Outbox, broker: &mut Broker) -> bool {
+    let route = default_route(rt, alloc);
+    let mut line = line_to(rt, alloc, broker);
     let mut router = Router::new(alloc, route, 1);
     let came = router_ticks(alloc, outbox, &mut router, &mut line);
-    drop(router);
-    let calls = line.into_calls();
-    let made = calls.len();
-    drop(calls);
-    Some(made > 0 && came_to_the_end(&came))
+    line.into_calls().len() > 0 && came_to_the_end(&came)
 }
 
-/// How many records the topic has.
+/// How many records the topic has, or `None` if memory is refused.
 fn end(alloc: Global, broker: &mut Broker) -> Option<u64> {
-    let reply = answer(
-        alloc,
-        broker,
-        "User:root h list-offsets outbox.event.orders 0 -1",
-    )?;
-    let end = offset_of(&reply);
-    drop(reply);
-    end
+    let line = "User:root h list-offsets outbox.event.orders 0 -1";
+    let reply = answer(alloc, broker, line)?;
+    offset_of(&reply)
 }
 
-/// Whether two events are in the topic and before the mark. What could not be read for lack of
-/// memory is read again.
-fn makes_up(alloc: Global, outbox: &mut Outbox) -> Option<bool> {
-    let mut broker = broker_of_orders(alloc)?;
-    let sent = sends_all(alloc, outbox, &mut broker);
+/// If any one allocation is refused, the ticks that follow finish the work: two events are in the
+/// topic and before the mark. What could not be read for lack of memory is read again.
+#[test]
+fn a_router_makes_up(rt: HostRuntime) {
+    let alloc = rt.alloc();
+    let mut outbox = outbox(&rt, alloc, 2);
+    let mut broker = broker_of_orders(&rt, alloc);
+    assert!(rt; sends_all(&rt, alloc, &mut outbox, &mut broker));
+    assert_eq!(rt; outbox.mark(), Ok(2));
     let end = match end(alloc, &mut broker) {
         None => end(alloc, &mut broker),
         end => end,
     };
     drop(broker);
-    let mark = outbox.mark();
-    Some(sent? && mark == Ok(2) && end == Some(2))
-}
-
-/// If any one allocation is refused, the ticks that follow finish the work.
-#[test]
-fn a_router_makes_up(rt: HostRuntime) -> Result<(), Fail> {
-    let mut outbox = outbox(rt.alloc(), 2).ok_or("memory")?;
-    let sent = makes_up(rt.alloc(), &mut outbox);
     drop(outbox);
-    assert!(rt; sent.ok_or("memory")?);
-    Ok(())
+    assert_eq!(rt; end, Some(2));
 }
 
-/// Whether a consumer takes in all that the topic holds. `None` if it could not be made.
-fn takes_all(alloc: Global, inbox: &mut Inbox, broker: &mut Broker) -> Option<bool> {
-    let Subscription {
-        group,
-        assignment,
-        max: _,
-    } = Subscription::of(alloc, "g", ORDERS, 1, 2).ok()?;
-    let mut line = line_to(alloc, broker)?;
-    let mut consumer = Consumer::new(alloc, group, assignment, 2);
+/// Whether a consumer takes in all that the topic holds.
+fn takes_all(rt: &impl Abort, alloc: Global, inbox: &mut Inbox, broker: &mut Broker) -> bool {
+    let reads = Subscription::of(alloc, "g", ORDERS, 1, 2).expect(rt, READY);
+    let mut line = line_to(rt, alloc, broker);
+    let mut consumer = Consumer::new(alloc, reads.group, reads.assignment, 2);
     let came = consumer_ticks(alloc, inbox, &mut consumer, &mut line);
     drop(line);
-    drop(consumer);
-    Some(came_to_the_end(&came))
+    came_to_the_end(&came)
 }
 
 /// Whether the records of the inbox's two rows stood at 0 and 2. What could not be read for lack of
 /// memory is read again.
-fn has_two(inbox: &mut Inbox) -> Option<bool> {
+fn has_two(inbox: &mut Inbox) -> bool {
     let rows = match inbox.taken() {
-        Ok(rows) => rows,
-        Err(_) => inbox.taken().ok()?,
+        Err(_) => inbox.taken(),
+        rows => rows,
     };
-    let has_two = match rows.as_slice() {
-        [one, two] => one.offset == 0 && two.offset == 2,
-        _ => false,
-    };
-    drop(rows);
-    Some(has_two)
+    match &rows {
+        Ok(rows) => matches!(rows.as_slice(), [one, two] if (one.offset, two.offset) == (0, 2)),
+        Err(_) => false,
+    }
 }
 
-/// Sends one event, appends a record without an event id, and sends another event. `None` if memory
-/// is refused.
-fn fills(alloc: Global, broker: &mut Broker) -> Option<bool> {
-    let mut outbox = outbox(alloc, 1)?;
-    let sent = sends_all(alloc, &mut outbox, broker);
-    let appended = answer(
+/// Sends one event, appends a record without an event id, and sends another event.
+fn fill(rt: &impl Abort, alloc: Global, broker: &mut Broker) {
+    let mut outbox = outbox(rt, alloc, 1);
+    assert!(rt; sends_all(rt, alloc, &mut outbox, broker));
+    let event = event_of(
+        rt,
         alloc,
-        broker,
         "User:root h produce outbox.event.orders 0 - none",
     );
-    let offset = match &appended {
-        Some(reply) => offset_of(reply),
-        None => None,
-    };
-    drop(appended);
-    let recorded = record(alloc, &mut outbox, 2, "paid").ok();
-    let sent_again = sends_all(alloc, &mut outbox, broker);
+    let appended = broker.serve(alloc, &event).expect(rt, READY);
+    assert_eq!(rt; offset_of(&appended), Some(1));
+    let recorded = record(alloc, &mut outbox, 2, "paid").expect(rt, READY);
+    assert_eq!(rt; recorded, 2);
+    assert!(rt; sends_all(rt, alloc, &mut outbox, broker));
     drop(outbox);
-    Some(sent? && offset? == 1 && recorded? == 2 && sent_again?)
 }
 
-/// Whether two events around a record without an event id are taken in, each once.
-fn fills_and_takes(alloc: Global, inbox: &mut Inbox) -> Option<bool> {
-    let mut broker = broker_of_orders(alloc)?;
-    let filled = fills(alloc, &mut broker);
-    let taken = takes_all(alloc, inbox, &mut broker);
-    drop(broker);
-    Some(filled? && taken? && has_two(inbox)?)
-}
-
-/// If any one allocation is refused, the ticks that follow finish the work.
+/// If any one allocation is refused, the ticks that follow finish the work: two events around a
+/// record without an event id are taken in, each once.
 #[test]
-fn a_consumer_makes_up(rt: HostRuntime) -> Result<(), Fail> {
-    let mut inbox = Inbox::open_in_memory(rt.alloc())?;
-    let taken = fills_and_takes(rt.alloc(), &mut inbox);
+fn a_consumer_makes_up(rt: HostRuntime) {
+    let alloc = rt.alloc();
+    let mut inbox = Inbox::open_in_memory(alloc).expect(&rt, READY);
+    let mut broker = broker_of_orders(&rt, alloc);
+    fill(&rt, alloc, &mut broker);
+    assert!(rt; takes_all(&rt, alloc, &mut inbox, &mut broker));
+    drop(broker);
+    assert!(rt; has_two(&mut inbox));
     drop(inbox);
-    assert!(rt; taken.ok_or("memory")?);
-    Ok(())
 }

@@ -10,28 +10,26 @@ use crate::making::{CREATE, METADATA, WRITE, offset_of, request_of, scripts_of, 
 use crate::pipelines::run;
 use crate::plans::plan_of_two;
 use crate::sessions::{place_of, session};
+use kob_names::PlainValue;
 use kob_pipeline::{PipelineEnd, PipelineFault};
-use kob_shared::{CallFault, FleetFault, FleetStop, Session, SharedBroker};
+use kob_rights::Request;
+use kob_shared::{CallFault, FleetFault, FleetStop, Session};
 use std::alloc::Global;
+use std::process::Abort;
 use std::sync::Wait;
-use std::test::Fail;
 use std::thread::Threads;
 
-/// Whether a write gets this offset, with an entry at this place. The error is the fault of the
-/// call, or none if there is no memory for its request.
+/// Whether a write gets this offset, with an entry at this place.
 fn write<R: Wait>(
     rt: &R,
     alloc: Global,
     session: &mut Session<'_>,
+    request: &Request,
     (offset, place): (u64, usize),
-) -> Result<bool, Option<CallFault>> {
-    let Some(request) = request_of(alloc, WRITE) else {
-        return Err(None);
-    };
-    let receipt = session.call(rt, alloc, request).map_err(Some)?;
-    let is_due = offset_of(&receipt.reply) == Some(offset) && receipt.place == place;
-    drop(receipt);
-    Ok(is_due)
+) -> Result<bool, CallFault> {
+    let request = request.copy(alloc)?;
+    let receipt = session.call(rt, alloc, request)?;
+    Ok(offset_of(&receipt.reply) == Some(offset) && receipt.place == place)
 }
 
 /// The same. If memory runs out and the session has seen nothing new, the write is made again.
@@ -39,47 +37,38 @@ fn writes<R: Wait>(
     rt: &R,
     alloc: Global,
     session: &mut Session<'_>,
+    request: &Request,
     due: (u64, usize),
-) -> Result<bool, Option<CallFault>> {
+) -> Result<bool, CallFault> {
     let seen = session.seen();
-    let written = write(rt, alloc, session, due);
-    let is_refused = matches!(written, Err(None | Some(CallFault::Memory(_))));
-    if is_refused && session.seen() == seen {
-        return write(rt, alloc, session, due);
+    let written = write(rt, alloc, session, request, due);
+    if matches!(written, Err(CallFault::Memory(_))) && session.seen() == seen {
+        return write(rt, alloc, session, request, due);
     }
     written
 }
 
-/// Whether two writes are served one after another.
-fn writes_two<R: Wait>(rt: &R, alloc: Global, shared: &SharedBroker) -> Option<bool> {
-    let mut root = session(alloc, shared, 1)?;
-    let created = place_of(rt, alloc, &mut root, CREATE);
-    let first = writes(rt, alloc, &mut root, (0, 1));
-    let second = writes(rt, alloc, &mut root, (1, 2));
-    let seen = root.seen();
-    drop(root);
-    Some(created? == 0 && first == Ok(true) && second == Ok(true) && seen == 3)
-}
-
-fn shared_takes_two<R: Wait>(rt: &R, alloc: Global) -> Option<bool> {
-    let shared = shared(alloc, 10)?;
-    let wrote = writes_two(rt, alloc, &shared);
-    drop(shared);
-    wrote
-}
-
+/// Two writes are served one after another.
 #[test]
-fn calls_of_a_session(rt: HostRuntime) -> Result<(), Fail> {
-    let holds = shared_takes_two(&rt, rt.alloc()).ok_or("memory")?;
-    assert!(rt; holds);
-    Ok(())
+fn calls_of_a_session(rt: HostRuntime) {
+    let alloc = rt.alloc();
+    let request = request_of(&rt, alloc, WRITE);
+    let shared = shared(&rt, alloc, 10);
+    let mut root = session(&rt, alloc, &shared, 1);
+    assert_eq!(rt; place_of(&rt, alloc, &mut root, CREATE), 0);
+    for due in [(0, 1), (1, 2)] {
+        assert_eq!(rt; writes(&rt, alloc, &mut root, &request, due), Ok(true));
+    }
+    assert_eq!(rt; root.seen(), 3);
+    drop(root);
+    drop(shared);
 }
 
 /// Whether two scripts are run to the right end. `None` if memory or a thread was refused.
-fn serves_two<R: Threads + Wait + Sync>(rt: &R, alloc: Global) -> Option<bool> {
-    let scripts = scripts_of(alloc, METADATA, 2, 2)?;
+fn serves_two<R: Abort + Threads + Wait + Sync>(rt: &R, alloc: Global) -> Option<bool> {
+    let scripts = scripts_of(rt, alloc, METADATA, 2, 2);
     let gate = Holding::at(&[], 0);
-    let ended = ended(rt, Vec::new(alloc), Vec::new(alloc), scripts, &gate, alloc)?;
+    let ended = ended(rt, alloc, Vec::new(alloc), Vec::new(alloc), scripts, &gate);
     let told = match &ended {
         Ok(end) => Some(tells_two_each(end, 2)),
         Err(FleetFault::Stopped(FleetStop::Memory(_) | FleetStop::NotBegun)) => None,
@@ -95,7 +84,7 @@ fn two_scripts(rt: HostRuntime) {
         None => serves_two(&rt, rt.alloc()),
         served => served,
     };
-    assert!(rt; served == Some(true));
+    assert_eq!(rt; served, Some(true));
 }
 
 /// Whether both events were sent, and each inbox begins with them. What could not be read for lack
@@ -107,14 +96,14 @@ fn is_whole(alloc: Global, end: &mut PipelineEnd) -> bool {
 }
 
 /// Whether a pipeline comes to such an end. `None` if memory or a thread was refused.
-fn delivers_two<R: Threads + Wait + Sync>(rt: &R, alloc: Global) -> Option<bool> {
-    let plan = plan_of_two(alloc)?;
+fn delivers_two<R: Abort + Threads + Wait + Sync>(rt: &R, alloc: Global) -> Option<bool> {
+    let plan = plan_of_two(rt, alloc);
     let mut ran = run(rt, alloc, &plan, &Holding::at(&[], 0));
     drop(plan);
     let delivered = match &mut ran {
-        Some(Ok(end)) => Some(is_whole(alloc, end)),
-        Some(Err(PipelineFault::Stopped(FleetStop::Memory(_) | FleetStop::NotBegun))) => None,
-        _ => Some(false),
+        Ok(end) => Some(is_whole(alloc, end)),
+        Err(PipelineFault::Stopped(FleetStop::Memory(_) | FleetStop::NotBegun)) => None,
+        Err(_) => Some(false),
     };
     drop(ran);
     delivered
@@ -126,5 +115,5 @@ fn a_pipeline(rt: HostRuntime) {
         None => delivers_two(&rt, rt.alloc()),
         delivered => delivered,
     };
-    assert!(rt; delivered == Some(true));
+    assert_eq!(rt; delivered, Some(true));
 }

@@ -1,16 +1,17 @@
 //! A service, which threads share.
 
-ghost use Rattle.std.specs.Prelude.{◌≡◌, [], IfSome};
+ghost use Rattle.std.specs.Prelude.{◌≡◌, []};
 
 use crate::left::are_records;
-use crate::making::{CREATE_ORDERS, default_route, order, shared};
+use crate::making::{CREATE_ORDERS, READY, default_route, order, shared};
 use crate::sessions::{place_of, session};
 use kob_embedding::{RunningService, ServiceEnd, SharedService, is_served};
 use kob_lines::{IntoCalls, SessionLine};
 use kob_outbox::Outbox;
 use kob_router::{Line, Tick};
-use kob_shared::{Session, SharedBroker};
+use kob_shared::SharedBroker;
 use std::alloc::Global;
+use std::process::Abort;
 use std::sync::Wait;
 use std::sync::atomic::{AtomicBool, Ordering};
 use std::thread;
@@ -19,179 +20,112 @@ use std::thread::Threads;
 /// The ids of the events, in the order in which they are recorded.
 const IDS: [u128; 12] = [7, 3, 12, 1, 9, 5, 11, 2, 8, 4, 10, 6];
 
-/// Records the event with this id, and returns its number.
-fn record<R: Wait, L: Line>(
-    rt: &R,
-    alloc: Global,
-    service: &SharedService<L>,
-    id: u128,
-) -> Option<u64> {
-    let (change, event) = order(alloc, id, "paid").ok()?;
-    let recorded = service.record(rt, &change, &event);
-    drop(change);
-    drop(event);
-    recorded.ok()
-}
-
-/// Whether the events are recorded, with the numbers 1, 2 and so on. Notes at the end that no more
-/// follow.
-fn record_all<R: Wait, L: Line>(
+/// Records the events, which get the numbers 1, 2 and so on. Notes at the end that no more follow.
+fn record_all<R: Abort + Wait, L: Line>(
     rt: &R,
     alloc: Global,
     service: &SharedService<L>,
     is_over: &AtomicBool,
-) -> bool {
-    let mut are_numbered = true;
+) {
     for (place, id) in IDS.iter().enumerate() {
-        let is_next = record(rt, alloc, service, *id) == Some(place as u64 + 1);
-        are_numbered = are_numbered && is_next;
+        let (change, event) = order(alloc, *id, "paid").expect(rt, READY);
+        assert_eq!(rt; service.record(rt, &change, &event), Ok(place as u64 + 1));
     }
     is_over.store(true, Ordering::SeqCst);
-    are_numbered
 }
 
-/// Whether a tick found no row, or none if it did not send the one that it found.
-fn is_idle<R: Wait, L: Line>(rt: &R, alloc: Global, service: &SharedService<L>) -> Option<bool> {
-    let tick = service.tick(rt, alloc);
-    let is_idle = match &tick {
-        Tick::Moved(_) => Some(false),
-        Tick::Idle => Some(true),
-        _ => None,
-    };
-    drop(tick);
-    is_idle
-}
-
-/// Whether each tick sends a row or finds none, until one finds none after the last was recorded.
-fn send_all<R: Wait, L: Line>(
+/// Each tick sends a row or finds none, until one finds none after the last was recorded.
+fn send_all<R: Abort + Wait, L: Line>(
     rt: &R,
     alloc: Global,
     service: &SharedService<L>,
     is_over: &AtomicBool,
-) -> bool {
+) {
     for _ in rt.forever() {
         let is_last = is_over.load(Ordering::SeqCst);
-        let Some(is_idle) = is_idle(rt, alloc, service) else {
-            return false;
-        };
+        let tick = service.tick(rt, alloc);
+        let is_idle = matches!(&tick, Tick::Idle);
+        assert!(rt; is_idle || matches!(&tick, Tick::Moved(_)));
+        drop(tick);
         if is_idle && is_last {
-            return true;
+            break;
         }
         thread::yield_now();
     }
-    unreachable!()
 }
 
-/// Whether one thread records what another sends at the same time.
-fn record_and_send<R: Threads + Wait + Sync, L: Line + Send>(
+/// One thread records what another sends at the same time.
+fn record_and_send<R: Abort + Threads + Wait + Sync, L: Line + Send>(
     rt: &R,
     alloc: Global,
     service: &SharedService<L>,
-) -> bool {
+) {
     let is_over = AtomicBool::new(false);
-    let (recorded, sent) = thread::join(
+    thread::join(
         rt,
         || record_all(rt, alloc, service, &is_over),
         || send_all(rt, alloc, service, &is_over),
     );
-    recorded && sent
-}
-
-/// A line over a session.
-pub(crate) fn line<'a, R: Wait>(
-    rt: &'a R,
-    alloc: Global,
-    session: Option<Session<'a>>,
-) -> Option<SessionLine<'a, R>>
-    ensures { IfSome result (λ line. line.calls.made.items ≡ []) }
-{
-    match session {
-        Some(session) => Some(SessionLine::open(rt, alloc, session)),
-        None => None,
-    }
 }
 
 /// A service with an empty outbox and the default route.
-pub(crate) fn service<L: Line + Drop>(alloc: Global, line: L) -> Option<RunningService<L>>
+pub(crate) fn service<L: Line>(rt: &impl Abort, alloc: Global, line: L) -> RunningService<L>
     requires { L.calls line ≡ [] }
-    ensures { IfSome result (λ service. service.earlier ≡ []) }
+    ensures { result.earlier ≡ [] }
 {
-    let Ok(outbox) = Outbox::open_in_memory(alloc) else {
-        drop(line);
-        return None;
-    };
-    let Ok(route) = default_route(alloc) else {
-        drop(outbox);
-        drop(line);
-        return None;
-    };
-    Some(RunningService::new(alloc, outbox, route, 1, line))
+    let outbox = Outbox::open_in_memory(alloc).expect(rt, READY);
+    let route = default_route(rt, alloc);
+    RunningService::new(alloc, outbox, route, 1, line)
 }
 
 /// What the service leaves after its events were sent and its line was changed.
-fn run<R: Threads + Wait + Sync, L: IntoCalls + Send + Drop>(
+fn run<R: Abort + Threads + Wait + Sync, L: IntoCalls + Send + Drop>(
     rt: &R,
     alloc: Global,
     service: SharedService<L>,
-    next: Option<L>,
-) -> Option<ServiceEnd>
-    requires { IfSome next (λ line. L.calls line ≡ []) }
+    next: L,
+) -> ServiceEnd
+    requires { L.calls next ≡ [] }
 {
-    let sent = record_and_send(rt, alloc, &service);
-    let mark = service.mark(rt);
-    let swept = service.sweep(rt);
-    let is_changed = match next {
-        Some(next) => service.change_line(rt, next).is_ok(),
-        None => false,
-    };
-    let (service, earlier) = service.finish();
-    let end = service.close_after(1, earlier);
+    record_and_send(rt, alloc, &service);
     let all = Ok(IDS.len() as u64);
-    if sent && mark == all && swept == all && is_changed {
-        return end.ok();
-    }
-    drop(end);
-    None
+    assert_eq!(rt; service.mark(rt), all);
+    assert_eq!(rt; service.sweep(rt), all);
+    service.change_line(rt, next).expect(rt, "another line");
+    let (service, earlier) = service.finish();
+    service
+        .close_after(1, earlier)
+        .expect(rt, "the calls of both lines")
 }
 
-fn run_over<R: Threads + Wait + Sync>(
+fn run_over<R: Abort + Threads + Wait + Sync>(
     rt: &R,
     alloc: Global,
     shared: &SharedBroker,
-) -> Option<ServiceEnd> {
-    let service = service(alloc, line(rt, alloc, session(alloc, shared, 1))?)?;
-    let service = SharedService::open(service, Vec::new(alloc));
-    let next = line(rt, alloc, session(alloc, shared, 1));
+) -> ServiceEnd {
+    let line = SessionLine::open(rt, alloc, session(rt, alloc, shared, 1));
+    let next = SessionLine::open(rt, alloc, session(rt, alloc, shared, 1));
+    let service = SharedService::open(service(rt, alloc, line), Vec::new(alloc));
     run(rt, alloc, service, next)
 }
 
 /// The place of the entry of the topic's creation.
-fn create<R: Wait>(rt: &R, alloc: Global, shared: &SharedBroker) -> Option<usize> {
-    let mut admin = session(alloc, shared, 2)?;
-    let place = place_of(rt, alloc, &mut admin, CREATE_ORDERS);
-    drop(admin);
-    place
+fn create<R: Abort + Wait>(rt: &R, alloc: Global, shared: &SharedBroker) -> usize {
+    let mut admin = session(rt, alloc, shared, 2);
+    place_of(rt, alloc, &mut admin, CREATE_ORDERS)
 }
 
-/// Whether the service's calls, over both lines, are its entries, and the topic has the events in
-/// the order of their numbers, each once.
-fn arrive<R: Threads + Wait + Sync>(rt: &R, alloc: Global) -> Option<bool> {
-    let shared = shared(alloc, IDS.len() + 2)?;
-    let created = create(rt, alloc, &shared);
-    let end = run_over(rt, alloc, &shared);
-    let (mut broker, journal) = shared.finish().into_parts();
-    let are_sent = are_records(alloc, &mut broker, &IDS);
-    drop(broker);
-    let served = match &end {
-        Some(end) => is_served(alloc, &journal, end.part()) == Ok(true),
-        None => false,
-    };
-    drop(end);
-    drop(journal);
-    Some(created == Some(0) && are_sent && served)
-}
-
+// The service's calls, over both lines, are its entries, and the topic has the events in the order
+// of their numbers, each once.
 #[test]
 fn events_are_recorded_while_others_are_sent(rt: HostRuntime) {
-    assert!(rt; arrive(&rt, rt.alloc()) == Some(true));
+    let alloc = rt.alloc();
+    let shared = shared(&rt, alloc, IDS.len() + 2);
+    assert_eq!(rt; create(&rt, alloc, &shared), 0);
+    let end = run_over(&rt, alloc, &shared);
+    let (mut broker, journal) = shared.finish().into_parts();
+    assert!(rt; are_records(alloc, &mut broker, &IDS));
+    drop(broker);
+    assert_eq!(rt; is_served(alloc, &journal, end.part()), Ok(true));
+    drop(end);
 }

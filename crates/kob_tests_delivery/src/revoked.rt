@@ -2,11 +2,12 @@
 
 use crate::fleets::run;
 use crate::gates::{Hold, Holding};
-use crate::making::{CREATE, event_of, events_of, offset_of, script};
+use crate::making::{CREATE, READY, events_of, offset_of, request_of, script};
 use kob_names::{Binding, Verdict};
 use kob_rights::{Code, Reply, Request};
-use kob_shared::{FleetEnd, Script, Transcript};
+use kob_shared::{FleetEnd, Transcript};
 use std::alloc::Global;
+use std::process::Abort;
 use std::sync::Wait;
 use std::thread::Threads;
 
@@ -20,40 +21,30 @@ const SERVICE_WRITE: &str = "User:svc h produce t 0 - v";
 const REVOKE: &str = "User:root h delete-acls - - any User:svc - Write -";
 
 /// The binding that allows `User:svc` to write.
-pub(crate) fn write_allowed(alloc: Global) -> Option<Vec<Binding>> {
-    let event = event_of(alloc, ALLOW)?;
-    let binding = match &event.request {
-        Request::CreateAcls(asked) => match asked.drafts.as_slice() {
-            [draft] => Binding::new(alloc, draft).ok(),
-            _ => None,
-        },
+pub(crate) fn write_allowed(rt: &impl Abort, alloc: Global) -> Vec<Binding> {
+    let request = request_of(rt, alloc, ALLOW);
+    let draft = match &request {
+        Request::CreateAcls(asked) => asked.drafts.as_slice().first(),
         _ => None,
     };
-    drop(event);
-    let mut bindings = Vec::new(alloc);
-    bindings.push(binding?).ok()?;
-    Some(bindings)
+    let binding = Binding::new(alloc, draft.expect(rt, READY)).expect(rt, READY);
+    drop(request);
+    vec![in alloc; binding].expect(rt, READY)
 }
 
-/// Four PRODUCE requests of `User:svc`, and one DELETE_ACLS of `User:root`.
-fn put_both(alloc: Global, scripts: &mut Vec<Script>) -> Option<()> {
-    let writer = script(alloc, SERVICE_WRITE, 4)?;
-    scripts.push(writer).ok()?;
-    let revoker = script(alloc, REVOKE, 1)?;
-    scripts.push(revoker).ok()
-}
-
-/// The end of these, if the gate admits the second.
-fn revoke_at<R: Threads + Wait + Sync>(
+/// The end of four PRODUCE requests of `User:svc` and one DELETE_ACLS of `User:root`, if the gate
+/// admits the second.
+fn revoke_at<R: Abort + Threads + Wait + Sync>(
     rt: &R,
     alloc: Global,
     gate: &Holding<'_>,
-) -> Option<FleetEnd> {
-    let mut scripts = Vec::new(alloc);
-    put_both(alloc, &mut scripts)?;
-    let opening = write_allowed(alloc)?;
-    let first = events_of(alloc, CREATE)?;
-    run(rt, opening, first, scripts, gate, alloc)
+) -> FleetEnd {
+    let writer = script(rt, alloc, SERVICE_WRITE, 4);
+    let revoker = script(rt, alloc, REVOKE, 1);
+    let scripts = vec![in alloc; writer, revoker].expect(rt, READY);
+    let opening = write_allowed(rt, alloc);
+    let first = events_of(rt, alloc, CREATE);
+    run(rt, alloc, opening, first, scripts, gate)
 }
 
 /// Whether the reply denies a topic, since nothing allows it.
@@ -95,10 +86,10 @@ fn is_revoked(end: &FleetEnd, number: usize) -> bool {
     }
 }
 
-/// Whether a right that is revoked before the service's request of this number, from 1, is gone
-/// from there on. Worker 2 is held until worker 1 has come to that request, and worker 1 there
-/// until worker 2 is done.
-fn is_gone_from<R: Threads + Wait + Sync>(rt: &R, alloc: Global, number: usize) -> Option<bool> {
+/// A right that is revoked before the service's request of this number, from 1, is gone from there
+/// on. Worker 2 is held until worker 1 has come to that request, and worker 1 there until worker 2
+/// is done.
+fn revoke_before<R: Abort + Threads + Wait + Sync>(rt: &R, alloc: Global, number: usize) {
     let holds = [
         Hold {
             worker: 2,
@@ -114,16 +105,15 @@ fn is_gone_from<R: Threads + Wait + Sync>(rt: &R, alloc: Global, number: usize) 
         },
     ];
     let gate = Holding::at(&holds, 0);
-    let end = revoke_at(rt, alloc, &gate)?;
-    let revoked = is_revoked(&end, number);
+    let end = revoke_at(rt, alloc, &gate);
+    assert!(rt; is_revoked(&end, number), "before request {number}");
     drop(end);
-    Some(revoked && gate.all_came())
+    assert!(rt; gate.all_came(), "before request {number}");
 }
 
 #[test]
 fn revoked_while_producing(rt: HostRuntime) {
     for number in 1..6 {
-        let holds = is_gone_from(&rt, rt.alloc(), number);
-        assert!(rt; holds == Some(true), "before request {number}");
+        revoke_before(&rt, rt.alloc(), number);
     }
 }

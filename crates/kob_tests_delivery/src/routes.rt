@@ -1,26 +1,28 @@
 //! The headers that a route gives to a row's record.
 
+use crate::making::READY;
 use kob_names::{Header, Record, Text};
 use kob_outbox::{Change, OutboxEvent, Row};
 use kob_router::{Route, RouteBy, RouteSettings, event_id, record_of};
 use std::alloc::Global;
+use std::process::Abort;
 use uuid::Uuid;
 
 /// A route to the topic `events.` and the aggregate's type, with this placement.
-fn route(alloc: Global, placement: &str) -> Option<Route> {
+fn route(rt: &impl Abort, alloc: Global, placement: &str) -> Route {
     let settings = RouteSettings {
         by: RouteBy::AggregateType,
-        replacement: Text::copied(alloc, "events.${routedByValue}").ok()?,
-        placement: Text::copied(alloc, placement).ok()?,
+        replacement: Text::copied(alloc, "events.${routedByValue}").expect(rt, READY),
+        placement: Text::copied(alloc, placement).expect(rt, READY),
     };
-    Route::new(alloc, &settings).ok()
+    Route::new(alloc, &settings).expect(rt, READY)
 }
 
 /// The row of the event that the customer 42 moved.
-fn row(alloc: Global) -> Option<Row> {
-    let change = Change::of(alloc, "customers", "42", "Moved").ok()?;
-    let event = OutboxEvent::of(alloc, Uuid::from_u128(0xA), &change, "{}").ok()?;
-    Some(Row { seq: 1, event })
+fn row(rt: &impl Abort, alloc: Global) -> Row {
+    let change = Change::of(alloc, "customers", "42", "Moved").expect(rt, READY);
+    let event = OutboxEvent::of(alloc, Uuid::from_u128(0xA), &change, "{}").expect(rt, READY);
+    Row { seq: 1, event }
 }
 
 /// Whether these are the headers, in their order.
@@ -45,31 +47,13 @@ fn is_due(message: &Record, headers: &[(&str, &str)]) -> bool {
         && event_id(message) == Some(Uuid::from_u128(0xA))
 }
 
-/// Whether the row goes to the topic `events.customers` by the route, and its record has these
-/// headers.
-fn sends(alloc: Global, route: &Route, row: &Row, headers: &[(&str, &str)]) -> bool {
-    let routed = record_of(alloc, route, row);
-    let is_sent = match &routed {
-        Ok(routed) => {
-            routed.topic.as_str() == "events.customers" && is_due(&routed.message, headers)
-        }
-        Err(_) => false,
-    };
-    drop(routed);
-    is_sent
-}
-
-/// Whether it does so by the route with this placement.
-fn places(alloc: Global, placement: &str, headers: &[(&str, &str)]) -> Option<bool> {
-    let row = row(alloc)?;
-    let route = route(alloc, placement);
-    let is_sent = match &route {
-        Some(route) => sends(alloc, route, &row, headers),
-        None => false,
-    };
-    drop(route);
-    drop(row);
-    Some(is_sent)
+/// The row goes to the topic `events.customers` by the route with this placement, and its record
+/// has these headers.
+fn places(rt: &impl Abort, alloc: Global, placement: &str, headers: &[(&str, &str)]) {
+    let (row, route) = (row(rt, alloc), route(rt, alloc, placement));
+    let routed = record_of(alloc, &route, &row).expect(rt, "a record");
+    let is_to = routed.topic.as_str() == "events.customers";
+    assert!(rt; is_to && is_due(&routed.message, headers), "by {placement}");
 }
 
 /// The header of the row's id.
@@ -85,16 +69,9 @@ const PLACED: [(&str, &[(&str, &str)]); 3] = [
     ("aggregatetype:header:id", &[ID, ("id", "customers")]),
 ];
 
-fn all_place(alloc: Global, placed: &[(&str, &[(&str, &str)])]) -> bool {
-    for (placement, headers) in placed {
-        if places(alloc, placement, headers) != Some(true) {
-            return false;
-        }
-    }
-    true
-}
-
 #[test]
 fn placement_headers(rt: HostRuntime) {
-    assert!(rt; all_place(rt.alloc(), &PLACED));
+    for (placement, headers) in PLACED {
+        places(&rt, rt.alloc(), placement, headers);
+    }
 }
