@@ -9,6 +9,7 @@ use Rattle.kob_mistakes.specs.Names.{nearest_at}
 use Rattle.kob_mistakes.specs.Places.{place_named, place_of}
 use Rattle.kob_mistakes.specs.Quotes.{quoted_words}
 use Rattle.kob_mistakes.specs.Records.{hint_on_record}
+use Rattle.kob_mistakes.specs.Rules.{rule_at}
 use Rattle.kob_mistakes.specs.Workers.{stepping_at}
 use Rattle.kob_mistakes.specs.declared.left_out.LeftOut.{LeftOut}
 use Rattle.kob_mistakes.specs.declared.question.Lines.{Lines}
@@ -38,8 +39,9 @@ hint_named None text line words place =
     option_or (hint_on_record words place) (hint_on text line (length words))
 
 abbrev pub hint_at : List ℕ → ℕ → SceneFaultKind → Option (List ℕ)
-hint_at text line kind = hint_named (lacking_at text line kind) text (line_of text line)
-    (raw_words (line_of text line)) (place_at text line kind)
+hint_at text line kind = option_or (hint_named (lacking_at text line kind) text (line_of text line)
+    (raw_words (line_of text line)) (place_at text line kind))
+    (rule_at kind (raw_words (line_of text line)) (place_at text line kind))
 
 -- the worker that a step at a place is not one of
 abbrev pub stepping_on : List ℕ → ℕ → ℕ → Option WorkerKind

@@ -19,6 +19,7 @@ mod quoted;
 mod quotes;
 mod record;
 mod rows;
+mod rule;
 mod spelling;
 mod told;
 mod words;

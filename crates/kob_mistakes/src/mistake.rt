@@ -19,6 +19,7 @@ use crate::left_out::{LeftOut, left_out};
 use crate::names::push_names;
 use crate::place::word_place;
 use crate::record::{before_ending, hint_on_record, word_is};
+use crate::rule::rule_at;
 use crate::spelling::{nearest, unless_same};
 use crate::words::{as_text, escape_place, line_at, lines_before, lines_of, raw_words, word_at};
 use crate::worker::{WorkerKind, declared_by, kind_named, stepping_at};
@@ -75,7 +76,9 @@ pub fn mistake_in<'a>(
     let misuse = misuse_in(alloc, before, line, place, fault.kind)?;
     Ok(Mistake {
         form: form_by(fault.kind, &words, stepping),
-        hint: hint_named(left_out, text, line, &words, place),
+        hint: hint_named(left_out, text, line, &words, place).or(rule_at(
+            fault.kind, &words, place,
+        )),
         misuse,
         words,
         place,

@@ -12,10 +12,12 @@ use crate::mistake::Mistake;
 use crate::question_form::question_form;
 use crate::question_place::{hint_on_missing, is_cut, place_by_name};
 use crate::quotes::{each_unquoted, quoted_words, read_each, unread_in, unread_place};
+use crate::rule::rule_at;
 use crate::spelling::{nearest, unless_same};
 use crate::words::{escape_place, line_at, lines_of, raw_words, word_at};
 use bstr::ByteSlice;
 use kob_names::Text;
+use kob_scene_text::SceneFaultKind;
 use kob_script::{FaultKind, LineError};
 use std::alloc::{AllocError, Global};
 
@@ -101,7 +103,9 @@ fn question_mistake<'a>(
     };
     Ok(Mistake {
         form: question_form(&words),
-        hint: hint_on_question(text, line).or(missing),
+        hint: hint_on_question(text, line)
+            .or(missing)
+            .or(rule_of(kind, &words, wrong.place)),
         words,
         place: wrong.place,
         nearest,
@@ -123,12 +127,22 @@ fn binding_mistake<'a>(
     let nearest = nearest_word(alloc, value_in(word_at(&words, place)))?;
     Ok(Mistake {
         form: "a line of kafka-acls --list or --add, create-acl or acl of scripts, or a setting",
-        hint: hint_on_list(text, &words),
+        hint: hint_on_list(text, &words).or(rule_of(kind, &words, place)),
         words,
         place,
         nearest,
         misuse: None,
     })
+}
+
+/// The rule of the word at a place of a question or of a line of a list.
+fn rule_of(kind: FaultKind, words: &[&[u8]], place: usize) -> Option<&'static str> {
+    match kind {
+        FaultKind::BadHost => Some(
+            "a host is one address, as 10.0.0.1; * stands in bindings alone",
+        ),
+        _ => rule_at(SceneFaultKind::Script(kind), words, place),
+    }
 }
 
 fn nearest_word(alloc: Global, word: &[u8]) -> Result<Option<Text>, AllocError> {
