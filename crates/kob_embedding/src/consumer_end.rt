@@ -13,10 +13,18 @@ use std::marker::Model;
 
 /// The final state of a consumer: the calls of its line as a worker, and its inbox. Its invariant:
 /// a run of the consumer leads to this state.
-#[derive(Drop)]
 pub struct ConsumerEnd {
     part: Part,
     receiver: Receiver,
+}
+
+impl Drop for ConsumerEnd {
+    fn drop(self) {
+        let ConsumerEnd {
+            part: _,
+            receiver: _,
+        } = self;
+    }
 }
 
 impl Model for ConsumerEnd {

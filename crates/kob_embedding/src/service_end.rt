@@ -12,10 +12,15 @@ use std::marker::Model;
 
 /// The final state of a service: the calls of its line as a worker, and its outbox with its router.
 /// Its invariant: a run of the router leads to this state.
-#[derive(Drop)]
 pub struct ServiceEnd {
     part: Part,
     relay: Relay,
+}
+
+impl Drop for ServiceEnd {
+    fn drop(self) {
+        let ServiceEnd { part: _, relay: _ } = self;
+    }
 }
 
 impl Model for ServiceEnd {
