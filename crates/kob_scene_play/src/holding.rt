@@ -78,7 +78,10 @@ pub(crate) fn held_of(request: Request, body: Body) -> Result<Held, Body>
             Body::Records(records) => held_records(asked, records),
             other => Err(other),
         },
-        _ => Err(body),
+        other => {
+            drop(other);
+            Err(body)
+        }
     }
 }
 
