@@ -9,6 +9,7 @@ pub mod Played
 pub mod Polling
 pub mod Running
 pub mod Services
+pub mod Stopping
 pub mod Taking
 pub mod Ticking
 mod Words

@@ -3,6 +3,7 @@ use Rattle.kob_scene_play.proofs.Words.{Appends, Appends-trans, ArePlayed, Consu
 use Rattle.kob_scene_play.proofs.Places.{put_at}
 use Rattle.kob_scene_play.specs.Expectations.{IsExpected}
 use Rattle.kob_scene_play.specs.Scenes.{EndsWhole}
+use Rattle.kob_scene_play.specs.Stops.{MayNotOpen, MayStop}
 use Rattle.kob_scene_play.specs.declared.stage.Unmet.{Unmet}
 use Rattle.kob_scene_play.specs.declared.playing.Played.TheVariants as played
 use Rattle.kob_scene_play.specs.declared.text.Ended.TheVariants as ended
@@ -75,12 +76,13 @@ pub one_step_stops : (show : Show) (all before later : List Step) (step : Step) 
     (told mid_told then_told : ℕ) (first second : Option (List ℕ)) (held mid_held then_held : List ℕ) (fault : PlayFault)
     → all ≡ before ++ step ∷ later
     → WritesSteps show before old mid told mid_told first held second mid_held
+    → MayStop step mid fault
     → Tells (Leaves step mid_told then_told) mid_held then_held
     → EndsSteps show all old new told then_told first held second then_held (Some fault)
 one_step_stops show all before later step old mid new told mid_told then_told first second held mid_held then_held fault
-    split (front, are, (ahead, is_front, appended)) (back, leaves, more) = (
+    split (front, are, (ahead, is_front, appended)) may (back, leaves, more) = (
       front ++ back,
-      (before, later, step, mid, mid_told, front, back, split, are, leaves, refl),
+      (before, later, step, mid, mid_told, front, back, split, are, may, leaves, refl),
       (
         ahead,
         sym (append_assoc held front back) ∙ ap (λ xs. xs ++ back) is_front ∙ append_assoc ahead mid_held back
@@ -109,9 +111,10 @@ step_shown show place before step old new journal told begun then_told shown_tol
 
 -- a scene whose stage was not opened
 pub scene_unopened : (shown : Shown) (scene : Scene) (told : ℕ) (first : Option (List ℕ)) (held : List ℕ)
-    (fault : PlayFault) → told ≡ 0 → held ≡ [] → Appends first first []
+    (fault : PlayFault) → MayNotOpen scene.settings fault → told ≡ 0 → held ≡ [] → Appends first first []
     → EndsScene shown scene told first first held (played.Stopped fault)
-scene_unopened shown scene told first held fault none empty nothing = ([], inl (none, refl), ([], sym empty, nothing))
+scene_unopened shown scene told first held fault may none empty nothing =
+    ([], inl (may, none, refl), ([], sym empty, nothing))
 
 -- the steps of a scene
 pub scene_whole : (shown : Shown) (scene : Scene)
@@ -145,7 +148,7 @@ scene_cut shown scene opened closed told then_told first second held then_held f
       inr (
         opened,
         ready,
-        subst (λ n. StopsIn (show_of shown scene) scene.steps.items opened n then_told text) none stops,
+        subst (λ n. StopsIn (show_of shown scene) scene.steps.items opened fault n then_told text) none stops,
       ),
       subst (λ xs. Writes first xs second then_held text) empty written,
     )

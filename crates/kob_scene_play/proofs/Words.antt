@@ -52,5 +52,5 @@ pub use Rattle.std.specs.Fmt.{decimal}
 pub use Rattle.std.specs.Io.KnownBytes.{Appends}
 pub use Rattle.std.specs.List.{enumerate_from, flat_map}
 pub use Rattle.std.specs.Option.{is_some, option_and_then}
-pub use Rattle.std.specs.Prelude.{Err, IfOk, IsErrOf, IsTrue, MatchOption, None, Ok, OnErr, OnOk, Option, Result, Some, option_map, slice_get}
+pub use Rattle.std.specs.Prelude.{Err, IfErr, IfOk, IsErrOf, IsTrue, MatchOption, None, Ok, OnErr, OnOk, Option, Result, Some, option_map, slice_get}
 pub use Rattle.std.specs.Vec.Iter.{into_iter_items}

@@ -11,4 +11,5 @@ pub mod Scenes
 pub mod Services
 pub mod Stages
 pub mod Steps
+pub mod Stops
 pub mod Takings

@@ -6,6 +6,7 @@ use Rattle.kob_scene_play.specs.Checks.{IsChecked}
 use Rattle.kob_scene_play.specs.Expectations.{IsExpected, all_met}
 use Rattle.kob_scene_play.specs.Laws.{IsAnswered}
 use Rattle.kob_scene_play.specs.Steps.{IsConsumerStep, IsServiceStep, Writes}
+use Rattle.kob_scene_play.specs.Stops.{MayNotOpen, MayStop}
 use Rattle.kob_scene_play.specs.declared.stage.PlayedConsumer.{PlayedConsumer}
 use Rattle.kob_scene_play.specs.declared.stage.PlayedService.{PlayedService}
 use Rattle.kob_scene_play.specs.declared.stage.Stage.{Stage}
@@ -138,13 +139,14 @@ abbrev pub Leaves : Step → ℕ → ℕ → List ℕ → Type 0
 Leaves step told then_told text =
     (is_run step ≡ true) ⊎ ((then_told ≡ told) × (text ≡ []))
 
--- steps were played up to one that stopped
-abbrev pub StopsIn : Show → List Step → Stage → ℕ → ℕ → List ℕ → Type 0
-StopsIn show all old told then_told text =
+-- steps were played up to one that this fault stopped
+abbrev pub StopsIn : Show → List Step → Stage → PlayFault → ℕ → ℕ → List ℕ → Type 0
+StopsIn show all old fault told then_told text =
     (done later : List Step) × (step : Step) × (mid : Stage) × (mid_told : ℕ)
     × (front back : List ℕ)
     × (all ≡ done ++ step ∷ later)
     × ArePlayed show 0 done old mid told mid_told front
+    × MayStop step mid fault
     × Leaves step mid_told then_told back
     × (text ≡ front ++ back)
 
@@ -164,11 +166,13 @@ IsPlayed show scene unmet text =
     × ArePlayed show 0 scene.steps.items opened closed 0 told text
     × (unmet ≡ closed.unmet)
 
--- a scene that stopped after so many answers: before its first step, or at one of its steps
-abbrev pub IsCut : Show → Scene → ℕ → List ℕ → Type 0
-IsCut show scene told text =
-    ((told ≡ 0) × (text ≡ []))
-    ⊎ ((opened : Stage) × IsReady scene opened × StopsIn show scene.steps.items opened 0 told text)
+-- a scene that a fault stopped after so many answers: before its first step, or at one of its steps
+abbrev pub IsCut : Show → Scene → PlayFault → ℕ → List ℕ → Type 0
+IsCut show scene fault told text =
+    (MayNotOpen scene.settings fault × (told ≡ 0) × (text ≡ []))
+    ⊎ ((opened : Stage)
+    × IsReady scene opened
+    × StopsIn show scene.steps.items opened fault 0 told text)
 
 -- What is written for the text of a scene.
 
@@ -187,7 +191,7 @@ EndsSteps show steps old new told then_told before held now then_held None =
     WritesSteps show steps old new told then_told before held now then_held
 EndsSteps show steps old new told then_told before held now then_held (Some fault) =
     (text : List ℕ)
-    × StopsIn show steps old told then_told text
+    × StopsIn show steps old fault told then_told text
     × Writes before held now then_held text
 
 abbrev pub show_by : Shown → List ℕ → Show
@@ -204,15 +208,15 @@ EndsScene shown scene told before now held (played.Whole unmet) =
     (text : List ℕ) × IsPlayed (show_of shown scene) scene unmet text
     × Writes before [] now held text
 EndsScene shown scene told before now held (played.Stopped fault) =
-    (text : List ℕ) × IsCut (show_of shown scene) scene told text × Writes before [] now held text
+    (text : List ℕ) × IsCut (show_of shown scene) scene fault told text × Writes before [] now held text
 
 -- all steps were played, and what is shown of them was written
 abbrev pub EndsWhole : Shown → Scene → Option (List ℕ) → Option (List ℕ) → Unmet → Type 0
 EndsWhole shown scene before now unmet =
     (text : List ℕ) × IsPlayed (show_of shown scene) scene unmet text × Appends before now text
 
--- How the playing of a scene ended, and what was written. Where it stopped, the answers before are
--- written, and then their number.
+-- How the playing of a scene ended, and what was written. Where it stopped, the fault is one that may
+-- stop it there, and the answers before are written, and then their number.
 abbrev pub EndsAs : Shown → Scene → Option (List ℕ) → Option (List ℕ) → Ended → Type 0
 EndsAs shown scene before now ended.Clean =
     (unmet : Unmet) × (unmet.count ≡ 0) × EndsWhole shown scene before now unmet
@@ -221,7 +225,7 @@ EndsAs shown scene before now (ended.Unmet unmet) =
 EndsAs shown scene before now (ended.Fault fault) = ⊥
 EndsAs shown scene before now (ended.Stopped fault) =
     (told : ℕ) × (text : List ℕ)
-    × IsCut (show_of shown scene) scene told text
+    × IsCut (show_of shown scene) scene fault told text
     × Appends before now (text ++ stopped_shown shown told)
 
 -- what was written for a text, by how it ended

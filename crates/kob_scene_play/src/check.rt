@@ -1,6 +1,6 @@
 //! Where each event of a service is, on its way to a consumer.
 
-ghost use Rattle.std.specs.Prelude.{◌≡◌, ◌++◌, IfOk, OnOk, map};
+ghost use Rattle.std.specs.Prelude.{◌≡◌, ◌++◌, IfErr, IfOk, OnOk, map};
 ghost use Rattle.kob_delivery_check.specs.Printed.{check_text};
 ghost use Rattle.kob_router.specs.Line.{one_more};
 ghost use Rattle.kob_scene_play.specs.Checks.{AreDoubled, AreEarly, AreFates, AreLosses};
@@ -9,6 +9,7 @@ ghost use Rattle.kob_scene_play.specs.Checks.{ahead_of};
 ghost use Rattle.kob_scene_play.specs.Checks.{early_in_topics, reaches_of, repeats_in};
 ghost use Rattle.kob_scene_play.specs.Checks.{unrecorded_by};
 ghost use Rattle.kob_scene_play.specs.Steps.{Tells};
+ghost use Rattle.kob_scene_play.specs.Stops.{StopsQuestion};
 
 use crate::consumer_worker::ConsumerWorker;
 use crate::fault::PlayFault;
@@ -42,6 +43,7 @@ pub(crate) fn show_check(
     ensures done { OnOk result (Tells (IsChecked service consumer stage.old out.old.told)
         out.old.text.items out.new.text.items) }
     ensures told { OnOk result (out.new.told ≡ one_more out.old.told) }
+    ensures stopped { IfErr result (StopsQuestion service consumer stage.old) }
 {
     let Some(sender) = stage.services.get_mut(service) else {
         return Err(PlayFault::NoWorker);
@@ -70,7 +72,7 @@ fn found_at(
     journal: &Journal,
     sender: &mut ServiceWorker<'_>,
     taker: &mut ConsumerWorker,
-) -> Result<Found, PlayFault>
+) -> Result<Found, AllocError>
     ensures sender { sender.new ≡ sender.old }
     ensures taker { taker.new ≡ taker.old }
     ensures found { IfOk result (λ found. IsFound sender.old taker.old journal.now found) }
@@ -98,29 +100,29 @@ fn losses_at(
     sender: &ServiceWorker<'_>,
     taker: &mut ConsumerWorker,
     fates: &[Fate],
-) -> Result<Vec<LostEvent>, PlayFault>
+) -> Result<Vec<LostEvent>, AllocError>
     ensures losses { IfOk result
         (λ losses. AreLosses sender.now taker.old journal.now fates.now losses.items) }
     ensures same { taker.new ≡ taker.old }
 {
     let taken = taker.rows(alloc)?;
-    Ok(losses_of(
+    losses_of(
         alloc,
         taker.subscription(),
         &taken,
         journal,
         sender.recorded(),
         fates,
-    )?)
+    )
 }
 
 /// The rows of the consumer's inbox whose event has an earlier row.
-fn doubled_at(alloc: Global, taker: &mut ConsumerWorker) -> Result<Vec<DoubledRow>, PlayFault>
+fn doubled_at(alloc: Global, taker: &mut ConsumerWorker) -> Result<Vec<DoubledRow>, AllocError>
     ensures doubled { IfOk result (λ doubled. AreDoubled taker.old doubled.items) }
     ensures same { taker.new ≡ taker.old }
 {
     let taken = taker.rows(alloc)?;
-    Ok(doubled_rows(alloc, &taken)?)
+    doubled_rows(alloc, &taken)
 }
 
 /// The events whose business row the service wrote, and that it never recorded.
@@ -139,12 +141,12 @@ pub(crate) fn early_at(
     alloc: Global,
     sender: &ServiceWorker<'_>,
     taker: &mut ConsumerWorker,
-) -> Result<Vec<Early>, PlayFault>
+) -> Result<Vec<Early>, AllocError>
     ensures early { IfOk result (λ early. AreEarly sender.now taker.old early.items) }
     ensures same { taker.new ≡ taker.old }
 {
     let taken = taker.rows(alloc)?;
-    Ok(early_rows(alloc, sender.recorded(), &taken)?)
+    early_rows(alloc, sender.recorded(), &taken)
 }
 
 /// The records in the consumer's partitions that are out of order.
@@ -168,7 +170,7 @@ pub(crate) fn fates_at(
     journal: &Journal,
     sender: &mut ServiceWorker<'_>,
     taker: &mut ConsumerWorker,
-) -> Result<Vec<Fate>, PlayFault>
+) -> Result<Vec<Fate>, AllocError>
     ensures sender { sender.new ≡ sender.old }
     ensures taker { taker.new ≡ taker.old }
     ensures fates { IfOk result (λ fates. AreFates sender.old taker.old journal.now fates.items) }
@@ -177,7 +179,7 @@ pub(crate) fn fates_at(
     let waiting = sender.rows_after(mark, u32::MAX)?;
     let taken = taker.rows(alloc)?;
     let ahead = ahead_of(alloc, journal, taker)?;
-    Ok(fates_of(alloc, sender.recorded(), &taken, &ahead, &waiting)?)
+    fates_of(alloc, sender.recorded(), &taken, &ahead, &waiting)
 }
 
 /// What a consumer has before it on each of its partitions.

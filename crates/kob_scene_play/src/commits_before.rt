@@ -11,7 +11,7 @@ ghost use Rattle.kob_scene_play.specs.Takings.{asked_next, held_or, with_held};
 ghost use Rattle.kob_scene_play.specs.declared.holding.Holding.TheVariants.{Nothing};
 
 use crate::ask::committed_by;
-use crate::fault::{PlayFault, stop_of_consumer};
+use crate::fault::{TickFault, stop_of_consumer};
 use crate::holding::{Held, Holding, held_of};
 use kob_inbox::{Consumer, Tick};
 use kob_lines::Receiver;
@@ -27,7 +27,7 @@ pub(crate) fn handle_reply(
     holding: &mut Holding,
     event: Event,
     heard: Option<Reply>,
-) -> Result<Tick, PlayFault>
+) -> Result<Tick, TickFault>
     requires within { AreWithin holding.old }
     requires asked { asked_next receiver.old.fetcher.subscription receiver.old.fetcher.cursors.items
         receiver.old.fetcher.turn holding.old ≡ Some event.request }
@@ -59,7 +59,7 @@ fn handle_body(
     holding: &mut Holding,
     request: Request,
     body: Body,
-) -> Result<Tick, PlayFault>
+) -> Result<Tick, TickFault>
     requires within { AreWithin holding.old }
     requires asked { asked_next receiver.old.fetcher.subscription receiver.old.fetcher.cursors.items
         receiver.old.fetcher.turn holding.old ≡ Some request }
@@ -88,7 +88,7 @@ fn handle_due(
     holding: &mut Holding,
     request: Request,
     body: Body,
-) -> Result<Tick, PlayFault>
+) -> Result<Tick, TickFault>
     requires nothing { holding.old ≡ Nothing }
     requires due { due_now receiver.old.fetcher.subscription receiver.old.fetcher.cursors.items
         receiver.old.fetcher.turn ≡ Some request }
@@ -115,7 +115,7 @@ pub(crate) fn take_held(
     alloc: Global,
     receiver: &mut Receiver,
     holding: &mut Holding,
-) -> Result<Tick, PlayFault>
+) -> Result<Tick, TickFault>
     requires within { AreWithin holding.old }
     requires asked { asked_next receiver.old.fetcher.subscription receiver.old.fetcher.cursors.items
         receiver.old.fetcher.turn holding.old ≡ None }
@@ -138,7 +138,7 @@ pub(crate) fn take_held(
 /// The consumer takes in what is held, as it does with the reply to its FETCH. Returns the number
 /// of records.
 #[tactic(auto, using(crate::proofs::Taking::all_taken))]
-fn take_records(alloc: Global, receiver: &mut Receiver, held: Held) -> Result<u64, PlayFault>
+fn take_records(alloc: Global, receiver: &mut Receiver, held: Held) -> Result<u64, TickFault>
     requires { BodyWithin (bodies.Records held.records) }
     ensures same { receiver.new.fetcher.subscription ≡ receiver.old.fetcher.subscription }
     ensures count { IfOk result (λ count. count ≡ length held.records) }
@@ -152,11 +152,11 @@ fn take_records(alloc: Global, receiver: &mut Receiver, held: Held) -> Result<u6
         Ok(true) => took(receiver.hear(alloc, Body::Records(records))?),
         Ok(false) => {
             drop(records);
-            Err(PlayFault::NotDue)
+            Err(TickFault::NotDue)
         }
         Err(refused) => {
             drop(records);
-            Err(PlayFault::Memory(refused))
+            Err(TickFault::Memory(refused))
         }
     }
 }
@@ -167,24 +167,32 @@ fn is_due(alloc: Global, consumer: &Consumer, asked: &Fetch) -> Result<bool, All
         consumer.now.cursors.items consumer.now.turn ≡ Some (Request.Fetch asked.now)) }
 {
     match consumer.due(alloc)? {
-        Some(Request::Fetch(due)) => Ok(due.same(asked)),
-        _ => Ok(false),
+        Some(Request::Fetch(due)) => {
+            let is = due.same(asked);
+            drop(due);
+            Ok(is)
+        }
+        Some(other) => {
+            drop(other);
+            Ok(false)
+        }
+        None => Ok(false),
     }
 }
 
 /// How many records a tick took in, which took in all.
-fn took(tick: Tick) -> Result<u64, PlayFault>
+fn took(tick: Tick) -> Result<u64, TickFault>
     ensures { IfOk result (λ count. tick ≡ Tick.Took count) }
 {
     match tick {
         Tick::Took(count) => Ok(count),
-        tick => Err(stop_of_consumer(&tick).unwrap_or(PlayFault::NotDue)),
+        tick => Err(stop_of_consumer(&tick).unwrap_or(TickFault::NotDue)),
     }
 }
 
 /// The commit that is due to the consumer counts as acknowledged.
 #[tactic(auto, using(crate::proofs::Taking::counted))]
-fn count_committed(alloc: Global, receiver: &mut Receiver) -> Result<(), PlayFault>
+fn count_committed(alloc: Global, receiver: &mut Receiver) -> Result<(), TickFault>
     ensures same { receiver.new.fetcher.subscription ≡ receiver.old.fetcher.subscription }
     ensures done { OnOk result (CountsCommitted receiver.old.fetcher.subscription
         (received_state receiver.old) (received_state receiver.new)) }
@@ -195,6 +203,10 @@ fn count_committed(alloc: Global, receiver: &mut Receiver) -> Result<(), PlayFau
             receiver.hear(alloc, Body::Committed)?;
             Ok(())
         }
-        _ => Err(PlayFault::NotDue),
+        Some(other) => {
+            drop(other);
+            Err(TickFault::NotDue)
+        }
+        None => Err(TickFault::NotDue),
     }
 }

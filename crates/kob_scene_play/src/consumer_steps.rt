@@ -1,9 +1,10 @@
 //! The steps of a consumer.
 
-ghost use Rattle.std.specs.Prelude.{◌≡◌, IfOk, OnOk};
+ghost use Rattle.std.specs.Prelude.{◌≡◌, IfErr, IfOk, OnOk};
 ghost use Rattle.kob_scene_play.specs.Steps.{IsConsumerChange, IsConsumerStep, IsReadOnce, Tells};
 ghost use Rattle.kob_scene_play.specs.Steps.{consumer_lacks, idle_with, left_after};
 ghost use Rattle.kob_scene_play.specs.Forms.{last_needs};
+ghost use Rattle.kob_scene_play.specs.Stops.{IsMemory, StopsConsumer, StopsTick};
 ghost use Rattle.kob_scene_text.specs.declared.scene.ConsumerStep.TheVariants as consumer_steps;
 
 use crate::consumer_worker::ConsumerWorker;
@@ -37,8 +38,9 @@ pub(crate) fn play_consumer(
     step: &ConsumerStep,
     out: &mut Output,
 ) -> Result<(), PlayFault>
-    ensures { OnOk result (Tells (IsConsumerStep step.now consumer.old consumer.new recorded.old
+    ensures done { OnOk result (Tells (IsConsumerStep step.now consumer.old consumer.new recorded.old
         recorded.new out.old.told out.new.told) out.old.text.items out.new.text.items) }
+    ensures stopped { IfErr result (StopsConsumer step.now) }
 {
     match step {
         ConsumerStep::Tick(loss) => {
@@ -51,6 +53,7 @@ pub(crate) fn play_consumer(
     }
 }
 
+#[tactic(auto, using(crate::proofs::Stopping::tick_stops, crate::proofs::Stopping::memory_stops_tick))]
 fn tick(
     alloc: Global,
     recorded: &mut Recorded,
@@ -58,9 +61,10 @@ fn tick(
     loss: Loss,
     out: &mut Output,
 ) -> Result<Left, PlayFault>
-    ensures { IfOk result (λ left. IsReadOnce loss left consumer.old consumer.new
+    ensures done { IfOk result (λ left. IsReadOnce loss left consumer.old consumer.new
         recorded.old recorded.new out.old.told out.new.told out.old.text.items
         out.new.text.items) }
+    ensures stopped { IfErr result StopsTick }
 {
     let before = recorded.journal().len();
     let tick = consumer.tick(alloc, recorded, loss)?;
@@ -120,9 +124,10 @@ fn run(
     consumer: &mut ConsumerWorker,
     out: &mut Output,
 ) -> Result<(), PlayFault>
-    ensures { OnOk result (Tells (IsConsumerStep consumer_steps.Run consumer.old consumer.new
+    ensures done { OnOk result (Tells (IsConsumerStep consumer_steps.Run consumer.old consumer.new
         recorded.old recorded.new out.old.told out.new.told) out.old.text.items
         out.new.text.items) }
+    ensures stopped { IfErr result StopsTick }
 {
     let partitions = consumer.subscription().assignment.len();
     let mut idle = 0;
@@ -137,8 +142,9 @@ fn run(
 }
 
 fn restart(consumer: &mut ConsumerWorker, out: &mut Output) -> Result<(), PlayFault>
-    ensures { OnOk result (Tells (IsConsumerChange consumer_steps.Restart consumer.old
+    ensures done { OnOk result (Tells (IsConsumerChange consumer_steps.Restart consumer.old
         consumer.new out.old.told out.new.told) out.old.text.items out.new.text.items) }
+    ensures stopped { IfErr result IsMemory }
 {
     consumer.restart();
     let number = out.number();
@@ -152,8 +158,9 @@ fn show_inbox(
     consumer: &mut ConsumerWorker,
     out: &mut Output,
 ) -> Result<(), PlayFault>
-    ensures { OnOk result (Tells (IsConsumerChange consumer_steps.Inbox consumer.old
+    ensures done { OnOk result (Tells (IsConsumerChange consumer_steps.Inbox consumer.old
         consumer.new out.old.told out.new.told) out.old.text.items out.new.text.items) }
+    ensures stopped { IfErr result IsMemory }
 {
     let rows = consumer.rows(alloc)?;
     let number = out.number();

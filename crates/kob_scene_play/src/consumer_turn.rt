@@ -8,7 +8,7 @@ ghost use Rattle.kob_scene_text.specs.declared.scene.Taking.TheVariants.{Commits
 use crate::ask::ask;
 use crate::commits_before::{handle_reply, take_held};
 use crate::consumer_worker::ConsumerWorker;
-use crate::fault::{PlayFault, line_fault, loses_first, stop_of_consumer, unless};
+use crate::fault::{TickFault, line_fault, loses_first, stop_of_consumer, unless};
 use crate::holding::asked_next;
 use crate::line::take_over;
 use kob_inbox::Tick;
@@ -28,7 +28,7 @@ impl ConsumerWorker {
         recorded: &mut Recorded,
         taking: Taking,
         loss: Loss,
-    ) -> Result<Tick, PlayFault>
+    ) -> Result<Tick, TickFault>
         requires { self.old.taking ≡ taking }
         ensures { IfOk result
             (IsTakingTick taking loss self.old self.new recorded.old recorded.new) }
@@ -47,7 +47,7 @@ impl ConsumerWorker {
         alloc: Global,
         recorded: &mut Recorded,
         loss: Loss,
-    ) -> Result<Tick, PlayFault>
+    ) -> Result<Tick, TickFault>
         ensures { IfOk result (IsOwnTick loss self.old self.new recorded.old recorded.new) }
     {
         let (tick, calls) = self.tick_over(alloc, recorded, loss)?;
@@ -55,7 +55,7 @@ impl ConsumerWorker {
             Ok(()) => Ok(tick),
             Err(refused) => {
                 drop(tick);
-                Err(PlayFault::Memory(refused))
+                Err(TickFault::Memory(refused))
             }
         }
     }
@@ -79,7 +79,7 @@ impl ConsumerWorker {
         alloc: Global,
         recorded: &mut Recorded,
         loss: Loss,
-    ) -> Result<(Tick, Vec<Call>), PlayFault>
+    ) -> Result<(Tick, Vec<Call>), TickFault>
         ensures called { IfOk result (λ told. IsCalled loss self.old self.new recorded.old
             recorded.new told.1.items told.0) }
         ensures inbox { self.new.inbox ≡ inbox_by self.old.taking self.new.own self.old.inbox }
@@ -119,7 +119,7 @@ impl ConsumerWorker {
         alloc: Global,
         recorded: &mut Recorded,
         loss: Loss,
-    ) -> Result<Tick, PlayFault>
+    ) -> Result<Tick, TickFault>
         requires { self.old.taking ≡ CommitsBefore }
         ensures { IfOk result (IsAheadTick loss self.old self.new recorded.old recorded.new) }
     {
@@ -132,7 +132,7 @@ impl ConsumerWorker {
             }
             Err(fault) => {
                 drop(event);
-                Err(PlayFault::from(fault))
+                Err(TickFault::from(fault))
             }
         }
     }

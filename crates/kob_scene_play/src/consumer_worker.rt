@@ -11,7 +11,7 @@ ghost use Rattle.kob_scene_play.specs.declared.holding.Holding.TheVariants.{Noth
 
 use crate::ask::{ask, committed_by};
 use crate::every::Every;
-use crate::fault::{PlayFault, has_loss};
+use crate::fault::{TickFault, has_loss};
 use crate::holding::Holding;
 use kob_delivery_check::start_due;
 use kob_inbox::{Consumer, InboxFault, InboxRow, Subscription, Tick};
@@ -69,7 +69,7 @@ impl ConsumerWorker {
         start: Start,
         taking: Taking,
         subscription: Subscription,
-    ) -> Result<ConsumerWorker, PlayFault>
+    ) -> Result<ConsumerWorker, InboxFault>
         ensures worker { IfOk result (λ w. w.worker ≡ worker) }
         ensures principal { IfOk result (λ w. w.principal ≡ principal) }
         ensures host { IfOk result (λ w. w.host ≡ host) }
@@ -136,7 +136,7 @@ impl ConsumerWorker {
         alloc: Global,
         recorded: &mut Recorded,
         loss: Loss,
-    ) -> Result<Tick, PlayFault>
+    ) -> Result<Tick, TickFault>
         ensures { IfOk result (IsConsumerTick loss self.old self.new recorded.old recorded.new) }
     {
         let before = recorded.journal().len();
@@ -146,7 +146,7 @@ impl ConsumerWorker {
             Ok(tick)
         } else {
             drop(tick);
-            Err(PlayFault::NotLost)
+            Err(TickFault::NotLost)
         }
     }
 
@@ -157,7 +157,7 @@ impl ConsumerWorker {
         alloc: Global,
         recorded: &mut Recorded,
         loss: Loss,
-    ) -> Result<Tick, PlayFault>
+    ) -> Result<Tick, TickFault>
         ensures { IfOk result (IsTickOfConsumer loss self.old self.new recorded.old recorded.new) }
     {
         let taking = self.taking();
@@ -199,20 +199,30 @@ impl ConsumerWorker {
         self.holding = Holding::Nothing;
     }
 
-    /// The rows of its inbox, in the order of their intake.
-    pub fn rows(&mut self, alloc: Global) -> Result<Vec<InboxRow>, InboxFault>
+    /// The rows of its inbox, in the order of their intake. The error is out of memory.
+    pub fn rows(&mut self, alloc: Global) -> Result<Vec<InboxRow>, AllocError>
         ensures rows { IfOk result (λ rows.
             map placed_intake rows.items ≡ enumerate_from 1 self.old.inbox) }
         ensures same { self.new ≡ self.old }
     {
         match self.taking {
-            Taking::Proved => self.receiver.taken(),
-            Taking::CommitsBefore => self.receiver.taken(),
-            Taking::NoDedup => match self.every.rows(alloc) {
-                Ok(rows) => Ok(rows),
-                Err(refused) => Err(InboxFault::Memory(refused)),
-            },
+            Taking::Proved => taken(&mut self.receiver),
+            Taking::CommitsBefore => taken(&mut self.receiver),
+            Taking::NoDedup => self.every.rows(alloc),
         }
+    }
+}
+
+/// The rows of the inbox of the consumer itself.
+fn taken(receiver: &mut Receiver) -> Result<Vec<InboxRow>, AllocError>
+    ensures rows { IfOk result (λ rows.
+        map placed_intake rows.items ≡ enumerate_from 1 receiver.old.inbox) }
+    ensures same { receiver.new ≡ receiver.old }
+{
+    match receiver.taken() {
+        Ok(rows) => Ok(rows),
+        Err(InboxFault::Memory(refused)) => Err(refused),
+        Err(InboxFault::Store) => unreachable!(),
     }
 }
 
@@ -224,7 +234,7 @@ fn begin(
     worker: usize,
     loss: Loss,
     event: &Event,
-) -> Result<Tick, PlayFault>
+) -> Result<Tick, TickFault>
     ensures { IfOk result (IsBegun loss worker event.now recorded.old recorded.new) }
 {
     let heard = ask(alloc, recorded, worker, loss, event)?;

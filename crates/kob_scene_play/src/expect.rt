@@ -1,6 +1,7 @@
 //! Whether the events of a service are where they are expected to be.
 
-ghost use Rattle.std.specs.Prelude.{◌≡◌, ◌++◌, ◌==◌, ◌||◌, IfOk, OnOk, length, map, slice_get};
+ghost use Rattle.std.specs.Prelude.{◌≡◌, ◌++◌, ◌==◌, ◌||◌, IfErr, IfOk, OnOk, length, map};
+ghost use Rattle.std.specs.Prelude.{slice_get};
 ghost use Rattle.std.specs.Fmt.{decimal};
 ghost use Rattle.std.specs.List.{list_all};
 ghost use Rattle.std.specs.Option.{option_copied};
@@ -13,6 +14,7 @@ ghost use Rattle.kob_scene_play.specs.Expectations.{IsExpected, IsMet, are_deliv
 ghost use Rattle.kob_scene_play.specs.Expectations.{expected_text, is_among, is_lost_at};
 ghost use Rattle.kob_scene_play.specs.Expectations.{is_lost_event, is_lost_fate};
 ghost use Rattle.kob_scene_play.specs.Steps.{Tells};
+ghost use Rattle.kob_scene_play.specs.Stops.{StopsQuestion};
 
 use crate::check::{early_at, fates_at, unrecorded_by};
 use crate::consumer_worker::ConsumerWorker;
@@ -46,6 +48,7 @@ pub(crate) fn show_expected(
         (IsExpected service consumer what line stage.old stage.new.unmet out.old.told)
         out.old.text.items out.new.text.items) }
     ensures told { OnOk result (out.new.told ≡ one_more out.old.told) }
+    ensures stopped { IfErr result (StopsQuestion service consumer stage.old) }
 {
     let Some(sender) = stage.services.get_mut(service) else {
         return Err(PlayFault::NoWorker);
@@ -73,7 +76,7 @@ fn is_met(
     journal: &Journal,
     sender: &mut ServiceWorker<'_>,
     taker: &mut ConsumerWorker,
-) -> Result<bool, PlayFault>
+) -> Result<bool, AllocError>
     ensures sender { sender.new ≡ sender.old }
     ensures taker { taker.new ≡ taker.old }
     ensures met { IfOk result (IsMet what sender.old taker.old journal.now) }

@@ -12,7 +12,8 @@ use kob_shared::CallFault;
 use std::alloc::{AllocError, AllocFailed};
 use thiserror::Error;
 
-/// Why a step could not be made, or its result not printed. What it had done by then is kept.
+/// Why a step of a scene could not be made, or its result not printed. What it had done by then is
+/// kept.
 #[derive(Clone, Copy, Debug, Error)]
 pub enum PlayFault {
     #[error("out of memory")]
@@ -39,6 +40,42 @@ pub enum PlayFault {
     WriteFailed,
 }
 
+/// Why a tick has no result. What it had done by then is kept.
+#[derive(Clone, Copy, Debug, Error)]
+pub enum TickFault {
+    #[error("out of memory")]
+    Memory(AllocError),
+    /// As [`PlayFault::JournalFull`].
+    #[error("the journal is full")]
+    JournalFull,
+    /// As [`PlayFault::Store`].
+    #[error("a database failed")]
+    Store,
+    /// As [`PlayFault::NotLost`].
+    #[error("a call was not lost as it was to be")]
+    NotLost,
+    /// As [`PlayFault::NotDue`].
+    #[error("what a consumer holds is not due to it")]
+    NotDue,
+}
+
+impl From<TickFault> for PlayFault {
+    ghost use Rattle.std.specs.Prelude.{◌≡◌};
+    ghost use Rattle.kob_scene_play.specs.Faults.{fault_of_tick};
+
+    ghost from_gives = { λ fault made. made ≡ fault_of_tick fault };
+
+    fn from(fault: TickFault) -> PlayFault {
+        match fault {
+            TickFault::Memory(refused) => PlayFault::Memory(refused),
+            TickFault::JournalFull => PlayFault::JournalFull,
+            TickFault::Store => PlayFault::Store,
+            TickFault::NotLost => PlayFault::NotLost,
+            TickFault::NotDue => PlayFault::NotDue,
+        }
+    }
+}
+
 impl From<AllocError> for PlayFault {
     ghost use Rattle.std.specs.Prelude.{◌≡◌, alloc_error};
     ghost use Rattle.kob_scene_play.specs.declared.fault.PlayFault.TheVariants.{Memory};
@@ -63,29 +100,23 @@ impl<T: Drop> From<AllocFailed<T>> for PlayFault {
 
 impl From<CallFault> for PlayFault {
     ghost use Rattle.std.specs.Prelude.{◌≡◌};
-    ghost use Rattle.kob_scene_play.specs.Faults.{fault_of_call};
+    ghost use Rattle.kob_scene_play.specs.Faults.{fault_of_call, fault_of_tick};
 
-    ghost from_gives = { λ fault made. made ≡ fault_of_call fault };
+    ghost from_gives = { λ fault made. made ≡ fault_of_tick (fault_of_call fault) };
 
     fn from(fault: CallFault) -> PlayFault {
-        match fault {
-            CallFault::Memory(refused) => PlayFault::Memory(refused),
-            CallFault::JournalFull | CallFault::Stale { .. } => PlayFault::JournalFull,
-        }
+        PlayFault::from(TickFault::from(fault))
     }
 }
 
 impl From<OutboxFault> for PlayFault {
     ghost use Rattle.std.specs.Prelude.{◌≡◌};
-    ghost use Rattle.kob_scene_play.specs.Faults.{fault_of_outbox};
+    ghost use Rattle.kob_scene_play.specs.Faults.{fault_of_outbox, fault_of_tick};
 
-    ghost from_gives = { λ fault made. made ≡ fault_of_outbox fault };
+    ghost from_gives = { λ fault made. made ≡ fault_of_tick (fault_of_outbox fault) };
 
     fn from(fault: OutboxFault) -> PlayFault {
-        match fault {
-            OutboxFault::Memory(refused) => PlayFault::Memory(refused),
-            OutboxFault::Store => PlayFault::Store,
-        }
+        PlayFault::from(TickFault::from(fault))
     }
 }
 
@@ -103,9 +134,48 @@ impl From<InboxFault> for PlayFault {
     }
 }
 
+impl From<AllocError> for TickFault {
+    ghost use Rattle.std.specs.Prelude.{◌≡◌, alloc_error};
+    ghost use Rattle.kob_scene_play.specs.declared.fault.TickFault.TheVariants.{Memory};
+
+    ghost from_gives = { λ _ fault. fault ≡ Memory alloc_error };
+
+    fn from(refused: AllocError) -> TickFault {
+        TickFault::Memory(refused)
+    }
+}
+
+impl From<CallFault> for TickFault {
+    ghost use Rattle.std.specs.Prelude.{◌≡◌};
+    ghost use Rattle.kob_scene_play.specs.Faults.{fault_of_call};
+
+    ghost from_gives = { λ fault made. made ≡ fault_of_call fault };
+
+    fn from(fault: CallFault) -> TickFault {
+        match fault {
+            CallFault::Memory(refused) => TickFault::Memory(refused),
+            CallFault::JournalFull | CallFault::Stale { .. } => TickFault::JournalFull,
+        }
+    }
+}
+
+impl From<OutboxFault> for TickFault {
+    ghost use Rattle.std.specs.Prelude.{◌≡◌};
+    ghost use Rattle.kob_scene_play.specs.Faults.{fault_of_outbox};
+
+    ghost from_gives = { λ fault made. made ≡ fault_of_outbox fault };
+
+    fn from(fault: OutboxFault) -> TickFault {
+        match fault {
+            OutboxFault::Memory(refused) => TickFault::Memory(refused),
+            OutboxFault::Store => TickFault::Store,
+        }
+    }
+}
+
 /// Why the last call of a line has no reply, if no loss was set for it, by what it says itself and
 /// what the line below it says.
-pub(crate) fn line_fault(own: Option<CallFault>, below: Option<CallFault>) -> Option<PlayFault>
+pub(crate) fn line_fault(own: Option<CallFault>, below: Option<CallFault>) -> Option<TickFault>
     ensures { result ≡ line_fault own below }
 {
     match own.or(below) {
@@ -142,10 +212,10 @@ pub(crate) fn has_loss(loss: Loss, is_repeat: bool, before: usize, after: usize)
 
 /// The result of a step, unless the step failed or its loss was not as it was set.
 pub(crate) fn unless<T: Drop>(
-    fault: Option<PlayFault>,
+    fault: Option<TickFault>,
     is_lost: bool,
     answer: T,
-) -> Result<T, PlayFault>
+) -> Result<T, TickFault>
     ensures whole { result ≡ unless_failed fault is_lost answer }
     ensures same { IfOk result (λ given. given ≡ answer) }
     ensures lost { OnOk result (IsTrue is_lost) }
@@ -154,7 +224,7 @@ pub(crate) fn unless<T: Drop>(
         None if is_lost => Ok(answer),
         None => {
             drop(answer);
-            Err(PlayFault::NotLost)
+            Err(TickFault::NotLost)
         }
         Some(fault) => {
             drop(answer);
@@ -166,18 +236,18 @@ pub(crate) fn unless<T: Drop>(
 ghost use Rattle.kob_scene_play.specs.Faults.{fault_of_stop, stop_of_consumer, stop_of_service};
 
 /// The fault, if a tick ran out of memory or its database failed.
-fn fault_of_stop(reason: &StopReason) -> Option<PlayFault>
+fn fault_of_stop(reason: &StopReason) -> Option<TickFault>
     ensures { result ≡ fault_of_stop reason.now }
 {
     match reason {
-        StopReason::Memory(refused) => Some(PlayFault::Memory(*refused)),
-        StopReason::Store => Some(PlayFault::Store),
+        StopReason::Memory(refused) => Some(TickFault::Memory(*refused)),
+        StopReason::Store => Some(TickFault::Store),
         _ => None,
     }
 }
 
 /// The fault of a tick of a service.
-pub(crate) fn stop_of_service(tick: &kob_router::Tick) -> Option<PlayFault>
+pub(crate) fn stop_of_service(tick: &kob_router::Tick) -> Option<TickFault>
     ensures { result ≡ stop_of_service tick.now }
 {
     match tick {
@@ -187,7 +257,7 @@ pub(crate) fn stop_of_service(tick: &kob_router::Tick) -> Option<PlayFault>
 }
 
 /// The fault of a tick of a consumer.
-pub(crate) fn stop_of_consumer(tick: &kob_inbox::Tick) -> Option<PlayFault>
+pub(crate) fn stop_of_consumer(tick: &kob_inbox::Tick) -> Option<TickFault>
     ensures { result ≡ stop_of_consumer tick.now }
 {
     match tick {

@@ -1,6 +1,6 @@
 //! Whether the laws of delivery apply to a service and a consumer, and what its inbox has.
 
-ghost use Rattle.std.specs.Prelude.{◌≡◌, ◌++◌, IfOk, OnOk, flat_map, length, slice_get};
+ghost use Rattle.std.specs.Prelude.{◌≡◌, ◌++◌, IfErr, IfOk, OnOk, flat_map, length, slice_get};
 ghost use Rattle.std.specs.Fmt.{decimal};
 ghost use Rattle.kob_router.specs.Line.{one_more};
 ghost use Rattle.std.specs.Option.{option_copied};
@@ -11,6 +11,7 @@ ghost use Rattle.kob_scene_play.specs.Laws.{coverage_text, first_at, law_text, m
 ghost use Rattle.kob_scene_play.specs.Laws.{name_text, order_text, premise_text, taken_text};
 ghost use Rattle.kob_scene_play.specs.Laws.{topic_text, unread_text};
 ghost use Rattle.kob_scene_play.specs.Steps.{Tells};
+ghost use Rattle.kob_scene_play.specs.Stops.{IsMemory, StopsQuestion};
 
 use crate::check::early_at;
 use crate::consumer_worker::ConsumerWorker;
@@ -60,6 +61,7 @@ pub(crate) fn show_law(
     ensures done { OnOk result (Tells (IsAnswered service consumer stage.old out.old.told)
         out.old.text.items out.new.text.items) }
     ensures told { OnOk result (out.new.told ≡ one_more out.old.told) }
+    ensures stopped { IfErr result (StopsQuestion service consumer stage.old) }
 {
     let Some(sender) = stage.services.get(service) else {
         return Err(PlayFault::NoWorker);
@@ -89,6 +91,7 @@ fn answer(
     ensures done { OnOk result (Tells (IsLaw sender taker.now.worker taker.now.fetcher.subscription
         journal.now coverage.now out.old.told) out.old.text.items out.new.text.items) }
     ensures told { OnOk result (out.new.told ≡ one_more out.old.told) }
+    ensures stopped { IfErr result IsMemory }
 {
     let subscription = taker.subscription();
     let assignment = subscription.assignment.as_slice();
@@ -127,7 +130,7 @@ fn coverage_of(
     journal: &Journal,
     sender: &ServiceWorker<'_>,
     taker: &mut ConsumerWorker,
-) -> Result<Coverage, PlayFault>
+) -> Result<Coverage, AllocError>
     ensures covered { IfOk result (λ coverage.
         IsCoverage sender.now taker.old journal.now coverage) }
     ensures same { taker.new ≡ taker.old }
@@ -159,12 +162,12 @@ fn taken_at(
     alloc: Global,
     sender: &ServiceWorker<'_>,
     taker: &mut ConsumerWorker,
-) -> Result<usize, PlayFault>
+) -> Result<usize, AllocError>
     ensures count { IfOk result (λ count. IsTaken sender.now taker.old count) }
     ensures same { taker.new ≡ taker.old }
 {
     let rows = taker.rows(alloc)?;
-    Ok(count_taken(alloc, sender.recorded(), &rows)?)
+    count_taken(alloc, sender.recorded(), &rows)
 }
 
 /// The first row of the inbox with another key or value than was recorded.
@@ -172,12 +175,12 @@ fn altered_at(
     alloc: Global,
     sender: &ServiceWorker<'_>,
     taker: &mut ConsumerWorker,
-) -> Result<Option<u64>, PlayFault>
+) -> Result<Option<u64>, AllocError>
     ensures altered { IfOk result (λ place. IsAltered sender.now taker.old place) }
     ensures same { taker.new ≡ taker.old }
 {
     let rows = taker.rows(alloc)?;
-    Ok(altered_row(alloc, sender.recorded(), &rows)?)
+    altered_row(alloc, sender.recorded(), &rows)
 }
 
 /// Where the first of the events came that are out of order.

@@ -32,7 +32,7 @@ mod text;
 mod variants;
 
 pub use consumer_worker::ConsumerWorker;
-pub use fault::PlayFault;
+pub use fault::{PlayFault, TickFault};
 pub use form::{Form, Shown};
 pub use json::push_json_string;
 pub use playing::play;

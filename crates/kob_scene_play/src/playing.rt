@@ -1,11 +1,13 @@
 //! The playing of a scene.
 
-ghost use Rattle.std.specs.Prelude.{◌≡◌, ◌++◌, [], IfOk, OnErr, OnOk};
+ghost use Rattle.std.specs.Prelude.{◌≡◌, ◌++◌, [], IfErr, IfOk, OnErr, OnOk};
 ghost use Rattle.kob_router.specs.Line.{one_more};
 ghost use Rattle.kob_scene_play.specs.Steps.{Tells};
 ghost use Rattle.kob_scene_play.specs.Scenes.{IsRead, IsServed, IsShown, IsStep, Leaves};
 ghost use Rattle.kob_scene_play.specs.Scenes.{OthersStay, is_run};
 ghost use Rattle.kob_scene_play.specs.Scenes.{EndsAs, EndsScene, EndsSteps, show_by};
+ghost use Rattle.kob_scene_play.specs.Stops.{MayStop, StopsConsumerAt, StopsRequest};
+ghost use Rattle.kob_scene_play.specs.Stops.{StopsServiceAt};
 ghost use Rattle.kob_script.specs.Printed.{reply_text};
 ghost use Rattle.kob_shared.specs.Journals.{after_event, outcome_of};
 
@@ -138,6 +140,7 @@ fn play_steps<'s, W: Write>(
 }
 
 /// Plays the step at this place of the scene, and shows its answers.
+#[tactic(auto, using(crate::proofs::Stopping::memory_stops))]
 fn show_step<'s>(
     alloc: Global,
     showing: Showing<'_>,
@@ -153,6 +156,7 @@ fn show_step<'s>(
         page.old.text.items page.new.text.items) }
     ensures stopped { OnErr result (Tells (Leaves step.now page.old.told page.new.told)
         page.old.text.items page.new.text.items) }
+    ensures fault { IfErr result (MayStop step.now stage.old) }
 {
     out.begin(page.told);
     let before = stage.recorded.journal().len();
@@ -187,9 +191,10 @@ fn play_step<'s>(
     line: u64,
     out: &mut Output,
 ) -> Result<(), PlayFault>
-    ensures { OnOk result (Tells
+    ensures done { OnOk result (Tells
         (IsStep step.now line stage.old stage.new out.old.told out.new.told)
         out.old.text.items out.new.text.items) }
+    ensures stopped { IfErr result (MayStop step.now stage.old) }
 {
     match step {
         Step::Request(event) => play_request(alloc, &mut stage.recorded, event, out),
@@ -220,6 +225,7 @@ fn play_service_at<'s>(
     ensures done { OnOk result (Tells (IsServed which step.now stage.old.services.items
         stage.new.services.items stage.old.recorded stage.new.recorded out.old.told
         out.new.told) out.old.text.items out.new.text.items) }
+    ensures stopped { IfErr result (StopsServiceAt which step.now stage.old) }
 {
     match stage.services.get_mut(which) {
         Some(played) => { play_service(alloc, &mut stage.recorded, &mut played.service, step, out) }
@@ -241,6 +247,7 @@ fn play_consumer_at(
     ensures done { OnOk result (Tells (IsRead which step.now stage.old.consumers.items
         stage.new.consumers.items stage.old.recorded stage.new.recorded out.old.told
         out.new.told) out.old.text.items out.new.text.items) }
+    ensures stopped { IfErr result (StopsConsumerAt which step.now stage.old) }
 {
     match stage.consumers.get_mut(which) {
         Some(played) => {
@@ -251,6 +258,7 @@ fn play_consumer_at(
 }
 
 /// Serves a request of a principal, as worker 0's, and prints the reply.
+#[tactic(auto, using(crate::proofs::Stopping::request_stops))]
 fn play_request(
     alloc: Global,
     recorded: &mut Recorded,
@@ -261,6 +269,7 @@ fn play_request(
     ensures printed { OnOk result (out.new.text.items ≡ out.old.text.items
         ++ reply_text (one_more out.old.told) (outcome_of recorded.old event.now).reply) }
     ensures told { OnOk result (out.new.told ≡ one_more out.old.told) }
+    ensures stopped { IfErr result (StopsRequest recorded.old) }
 {
     let receipt = recorded.serve_as(alloc, 0, event)?;
     let number = out.number();

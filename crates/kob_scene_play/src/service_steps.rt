@@ -1,11 +1,12 @@
 //! The steps of a service.
 
-ghost use Rattle.std.specs.Prelude.{◌≡◌, IfOk, OnOk};
+ghost use Rattle.std.specs.Prelude.{◌≡◌, IfErr, IfOk, OnOk};
 ghost use Rattle.kob_scene_play.specs.Steps.{IsPrinted};
 ghost use Rattle.kob_scene_text.specs.PrintedRows.{recorded_text};
 ghost use Rattle.kob_scene_play.specs.Steps.{IsServiceChange, IsServiceStep, IsTold, Tells};
 ghost use Rattle.kob_scene_play.specs.Steps.{goes_on_after, service_lacks};
 ghost use Rattle.kob_scene_play.specs.Forms.{last_needs};
+ghost use Rattle.kob_scene_play.specs.Stops.{IsMemory, IsMemoryOrStore, StopsService, StopsTick};
 ghost use Rattle.kob_scene_text.specs.declared.scene.Recording.TheVariants as recordings;
 ghost use Rattle.kob_scene_text.specs.declared.scene.ServiceStep.TheVariants as service_steps;
 
@@ -35,8 +36,9 @@ pub(crate) fn play_service<'s>(
     step: &'s ServiceStep,
     out: &mut Output,
 ) -> Result<(), PlayFault>
-    ensures { OnOk result (Tells (IsServiceStep step.now service.old service.new recorded.old
+    ensures done { OnOk result (Tells (IsServiceStep step.now service.old service.new recorded.old
         recorded.new out.old.told out.new.told) out.old.text.items out.new.text.items) }
+    ensures stopped { IfErr result (StopsService step.now) }
 {
     match step {
         ServiceStep::Record(change, event, recording) => {
@@ -62,9 +64,10 @@ fn record_as<'s>(
     recording: Recording,
     out: &mut Output,
 ) -> Result<(), PlayFault>
-    ensures { OnOk result (Tells (IsServiceChange
+    ensures done { OnOk result (Tells (IsServiceChange
         (service_steps.Record change.now event.now recording) service.old service.new
         out.old.told out.new.told) out.old.text.items out.new.text.items) }
+    ensures stopped { IfErr result IsMemoryOrStore }
 {
     match recording {
         Recording::Whole => record(service, change, event, out),
@@ -80,9 +83,10 @@ fn record<'s>(
     event: &'s OutboxEvent,
     out: &mut Output,
 ) -> Result<(), PlayFault>
-    ensures { OnOk result (Tells (IsServiceChange
+    ensures done { OnOk result (Tells (IsServiceChange
         (service_steps.Record change.now event.now recordings.Whole) service.old service.new
         out.old.told out.new.told) out.old.text.items out.new.text.items) }
+    ensures stopped { IfErr result IsMemoryOrStore }
 {
     let recorded = service.record(change, event);
     print_record(recorded, out)
@@ -96,9 +100,10 @@ fn record_late<'s>(
     event: &'s OutboxEvent,
     out: &mut Output,
 ) -> Result<(), PlayFault>
-    ensures { OnOk result (Tells (IsServiceChange
+    ensures done { OnOk result (Tells (IsServiceChange
         (service_steps.Record change.now event.now recordings.Late) service.old service.new
         out.old.told out.new.told) out.old.text.items out.new.text.items) }
+    ensures stopped { IfErr result IsMemoryOrStore }
 {
     let recorded = service.record(change, event);
     service.hide(&recorded)?;
@@ -107,8 +112,9 @@ fn record_late<'s>(
 
 /// Prints what a record answered, unless it failed.
 fn print_record(recorded: Result<u64, RecordFault>, out: &mut Output) -> Result<(), PlayFault>
-    ensures { OnOk result (Tells (IsPrinted (recorded_text recorded) out.old.told out.new.told)
+    ensures done { OnOk result (Tells (IsPrinted (recorded_text recorded) out.old.told out.new.told)
         out.old.text.items out.new.text.items) }
+    ensures stopped { IfErr result IsMemoryOrStore }
 {
     match recorded {
         Ok(_) => {}
@@ -131,9 +137,10 @@ fn crash<'s>(
     event: &'s OutboxEvent,
     out: &mut Output,
 ) -> Result<(), PlayFault>
-    ensures { OnOk result (Tells (IsServiceChange
+    ensures done { OnOk result (Tells (IsServiceChange
         (service_steps.Record change.now event.now recordings.Crash) service.old service.new
         out.old.told out.new.told) out.old.text.items out.new.text.items) }
+    ensures stopped { IfErr result IsMemoryOrStore }
 {
     let crashed = service.crash(change, event);
     match crashed {
@@ -151,8 +158,9 @@ fn crash<'s>(
 
 /// Makes all hidden rows visible.
 fn show_rows(service: &mut ServiceWorker<'_>, out: &mut Output) -> Result<(), PlayFault>
-    ensures { OnOk result (Tells (IsServiceChange service_steps.Visible service.old
+    ensures done { OnOk result (Tells (IsServiceChange service_steps.Visible service.old
         service.new out.old.told out.new.told) out.old.text.items out.new.text.items) }
+    ensures stopped { IfErr result IsMemory }
 {
     let count = service.show();
     let number = out.number();
@@ -162,6 +170,7 @@ fn show_rows(service: &mut ServiceWorker<'_>, out: &mut Output) -> Result<(), Pl
 }
 
 /// One tick. Returns true if the next one has something to do.
+#[tactic(auto, using(crate::proofs::Stopping::tick_stops, crate::proofs::Stopping::memory_stops_tick))]
 fn tick(
     alloc: Global,
     recorded: &mut Recorded,
@@ -169,9 +178,10 @@ fn tick(
     loss: Loss,
     out: &mut Output,
 ) -> Result<bool, PlayFault>
-    ensures { IfOk result (λ goes_on. IsTold loss goes_on service.old service.new
+    ensures done { IfOk result (λ goes_on. IsTold loss goes_on service.old service.new
         recorded.old recorded.new out.old.told out.new.told out.old.text.items
         out.new.text.items) }
+    ensures stopped { IfErr result StopsTick }
 {
     let before = recorded.journal().len();
     let tick = service.tick(alloc, recorded, loss)?;
@@ -219,9 +229,10 @@ fn run(
     service: &mut ServiceWorker<'_>,
     out: &mut Output,
 ) -> Result<(), PlayFault>
-    ensures { OnOk result (Tells (IsServiceStep service_steps.Run service.old service.new
+    ensures done { OnOk result (Tells (IsServiceStep service_steps.Run service.old service.new
         recorded.old recorded.new out.old.told out.new.told) out.old.text.items
         out.new.text.items) }
+    ensures stopped { IfErr result StopsTick }
 {
     for _ in 0..RUN_LIMIT {
         if !tick(alloc, recorded, service, Loss::None, out)? {
@@ -232,8 +243,9 @@ fn run(
 }
 
 fn restart(service: &mut ServiceWorker<'_>, out: &mut Output) -> Result<(), PlayFault>
-    ensures { OnOk result (Tells (IsServiceChange service_steps.Restart service.old
+    ensures done { OnOk result (Tells (IsServiceChange service_steps.Restart service.old
         service.new out.old.told out.new.told) out.old.text.items out.new.text.items) }
+    ensures stopped { IfErr result IsMemory }
 {
     service.restart();
     let number = out.number();
@@ -242,9 +254,11 @@ fn restart(service: &mut ServiceWorker<'_>, out: &mut Output) -> Result<(), Play
     Ok(())
 }
 
+#[tactic(auto, using(crate::proofs::Stopping::outbox_stops))]
 fn sweep(service: &mut ServiceWorker<'_>, out: &mut Output) -> Result<(), PlayFault>
-    ensures { OnOk result (Tells (IsServiceChange service_steps.Sweep service.old
+    ensures done { OnOk result (Tells (IsServiceChange service_steps.Sweep service.old
         service.new out.old.told out.new.told) out.old.text.items out.new.text.items) }
+    ensures stopped { IfErr result IsMemoryOrStore }
 {
     let count = service.sweep()?;
     let number = out.number();
@@ -255,8 +269,9 @@ fn sweep(service: &mut ServiceWorker<'_>, out: &mut Output) -> Result<(), PlayFa
 
 /// Prints the mark, and the rows after it.
 fn show_outbox(service: &mut ServiceWorker<'_>, out: &mut Output) -> Result<(), PlayFault>
-    ensures { OnOk result (Tells (IsServiceChange service_steps.Outbox service.old
+    ensures done { OnOk result (Tells (IsServiceChange service_steps.Outbox service.old
         service.new out.old.told out.new.told) out.old.text.items out.new.text.items) }
+    ensures stopped { IfErr result IsMemory }
 {
     let mark = service.mark()?;
     let rows = service.rows_after(mark, u32::MAX)?;
@@ -272,9 +287,10 @@ fn show_state(
     key: &Text,
     out: &mut Output,
 ) -> Result<(), PlayFault>
-    ensures { OnOk result (Tells (IsServiceChange (service_steps.Business kind.now key.now)
+    ensures done { OnOk result (Tells (IsServiceChange (service_steps.Business kind.now key.now)
         service.old service.new out.old.told out.new.told) out.old.text.items
         out.new.text.items) }
+    ensures stopped { IfErr result IsMemory }
 {
     let state = service.business(kind.as_str(), key.as_str())?;
     let number = out.number();

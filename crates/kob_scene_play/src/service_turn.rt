@@ -4,7 +4,7 @@ ghost use Rattle.std.specs.Prelude.{◌≡◌, IfOk, OnOk};
 ghost use Rattle.kob_scene_play.specs.Services.{GivesUp, GoesOn, IsRouterTick, Skips, StartsAgain};
 ghost use Rattle.kob_scene_play.specs.Services.{sent_as, sent_by};
 
-use crate::fault::{PlayFault, line_fault, loses_first, stop_of_service, unless};
+use crate::fault::{TickFault, line_fault, loses_first, stop_of_service, unless};
 use crate::line::send_over;
 use crate::sent_line::SentServer;
 use crate::service_worker::ServiceWorker;
@@ -24,7 +24,7 @@ impl<'s> ServiceWorker<'s> {
         recorded: &mut Recorded,
         sending: Sending,
         loss: Loss,
-    ) -> Result<Tick, PlayFault>
+    ) -> Result<Tick, TickFault>
         ensures { IfOk result (IsRouterTick (sent_by sending) loss self.old self.new recorded.old
             recorded.new) }
     {
@@ -45,7 +45,7 @@ impl<'s> ServiceWorker<'s> {
         recorded: &mut Recorded,
         is_bare: bool,
         loss: Loss,
-    ) -> Result<Tick, PlayFault>
+    ) -> Result<Tick, TickFault>
         ensures { IfOk result (IsRouterTick (sent_as is_bare) loss self.old self.new recorded.old
             recorded.new) }
     {
@@ -86,7 +86,7 @@ impl<'s> ServiceWorker<'s> {
     }
 
     /// What is done after a step of the router.
-    pub(crate) fn go_on(&mut self, sending: Sending, tick: &Tick) -> Result<(), PlayFault>
+    pub(crate) fn go_on(&mut self, sending: Sending, tick: &Tick) -> Result<(), TickFault>
         ensures { OnOk result (GoesOn sending tick.now self.old self.new) }
     {
         match sending {
@@ -100,7 +100,7 @@ impl<'s> ServiceWorker<'s> {
     }
 
     /// Restarts the router after a call that was lost.
-    fn start_again(&mut self, tick: &Tick) -> Result<(), PlayFault>
+    fn start_again(&mut self, tick: &Tick) -> Result<(), TickFault>
         ensures { OnOk result (StartsAgain tick.now self.old self.new) }
     {
         match tick {
@@ -115,7 +115,7 @@ impl<'s> ServiceWorker<'s> {
     }
 
     /// Gives a row up that was not acknowledged.
-    fn give_up(&mut self, tick: &Tick) -> Result<(), PlayFault>
+    fn give_up(&mut self, tick: &Tick) -> Result<(), TickFault>
         ensures { OnOk result (GivesUp tick.now self.old self.new) }
     {
         match tick {
@@ -127,7 +127,7 @@ impl<'s> ServiceWorker<'s> {
     }
 
     /// Restarts the router, and moves the mark past the first row after it.
-    fn skip(&mut self) -> Result<(), PlayFault>
+    fn skip(&mut self) -> Result<(), TickFault>
         ensures { OnOk result (Skips self.old self.new) }
     {
         self.relay.restart();

@@ -8,7 +8,7 @@ ghost use Rattle.kob_router.specs.Run.Move.{Recorded as RecordedMove, Restarted,
 ghost use Rattle.kob_scene_play.specs.Services.{Does, IsSeenTick, IsServiceTick};
 ghost use Rattle.kob_scene_play.specs.Services.{IsTickOfService, is_repeat};
 
-use crate::fault::{PlayFault, has_loss};
+use crate::fault::{TickFault, has_loss};
 use crate::poll::Poll;
 use kob_lines::{Loss, Relay};
 use kob_names::{Host, Principal};
@@ -16,7 +16,7 @@ use kob_outbox::{Change, OutboxEvent, OutboxFault, RecordFault, Row};
 use kob_router::{Target, Tick};
 use kob_scene_text::Sending;
 use kob_shared::Recorded;
-use std::alloc::Global;
+use std::alloc::{AllocError, Global};
 use std::marker::Model;
 
 /// A service: its number in the journal, who it is, how it sends, its router with its outbox, the
@@ -66,7 +66,7 @@ impl<'s> ServiceWorker<'s> {
         host: Host,
         sending: Sending,
         target: Target,
-    ) -> Result<ServiceWorker<'s>, PlayFault>
+    ) -> Result<ServiceWorker<'s>, OutboxFault>
         requires some { 1 ≤ target.partitions }
         requires most { target.partitions ≤ 1000 }
         ensures { IfOk result (λ w. w ≡ record {
@@ -144,7 +144,7 @@ impl<'s> ServiceWorker<'s> {
         alloc: Global,
         recorded: &mut Recorded,
         loss: Loss,
-    ) -> Result<Tick, PlayFault>
+    ) -> Result<Tick, TickFault>
         ensures { IfOk result (IsServiceTick loss self.old self.new recorded.old recorded.new) }
     {
         let before = recorded.journal().len();
@@ -154,7 +154,7 @@ impl<'s> ServiceWorker<'s> {
             Ok(tick)
         } else {
             drop(tick);
-            Err(PlayFault::NotLost)
+            Err(TickFault::NotLost)
         }
     }
 
@@ -165,7 +165,7 @@ impl<'s> ServiceWorker<'s> {
         alloc: Global,
         recorded: &mut Recorded,
         loss: Loss,
-    ) -> Result<Tick, PlayFault>
+    ) -> Result<Tick, TickFault>
         ensures { IfOk result (IsTickOfService loss self.old self.new recorded.old recorded.new) }
     {
         match self.poll()? {
@@ -184,7 +184,7 @@ impl<'s> ServiceWorker<'s> {
         alloc: Global,
         recorded: &mut Recorded,
         loss: Loss,
-    ) -> Result<Tick, PlayFault>
+    ) -> Result<Tick, TickFault>
         ensures { IfOk result (IsSeenTick loss self.old self.new recorded.old recorded.new) }
     {
         let sending = self.sending();
@@ -215,30 +215,44 @@ impl<'s> ServiceWorker<'s> {
         self.relay.sweep()
     }
 
-    /// The mark of its outbox.
-    pub fn mark(&mut self) -> Result<u64, OutboxFault>
+    /// The mark of its outbox. The error is out of memory.
+    pub fn mark(&mut self) -> Result<u64, AllocError>
         ensures value { IfOk result (λ mark. mark ≡ self.old.outbox.mark) }
         ensures same { self.new ≡ self.old }
     {
-        self.relay.mark()
+        match self.relay.mark() {
+            Ok(mark) => Ok(mark),
+            Err(OutboxFault::Memory(refused)) => Err(refused),
+            Err(OutboxFault::Store) => unreachable!(),
+        }
     }
 
-    /// The first rows after this number that were not swept, at most this many.
-    pub fn rows_after(&mut self, seq: u64, limit: u32) -> Result<Vec<Row>, OutboxFault>
+    /// The first rows after this number that were not swept, at most this many. The error is out of
+    /// memory.
+    pub fn rows_after(&mut self, seq: u64, limit: u32) -> Result<Vec<Row>, AllocError>
         ensures rows { IfOk result (λ rows. map stored_row rows.items
             ≡ first_after seq limit self.old.outbox.events) }
         ensures same { self.new ≡ self.old }
     {
-        self.relay.after(seq, limit)
+        match self.relay.after(seq, limit) {
+            Ok(rows) => Ok(rows),
+            Err(OutboxFault::Memory(refused)) => Err(refused),
+            Err(OutboxFault::Store) => unreachable!(),
+        }
     }
 
-    /// The state of its business row with this kind and id, if there is one.
-    pub fn business(&mut self, kind: &str, id: &str) -> Result<Option<String>, OutboxFault>
+    /// The state of its business row with this kind and id, if there is one. The error is out of
+    /// memory.
+    pub fn business(&mut self, kind: &str, id: &str) -> Result<Option<String>, AllocError>
         ensures value { IfOk result (λ found. option_map string_bytes found
             ≡ state_at kind.now id.now self.old.outbox.business) }
         ensures same { self.new ≡ self.old }
     {
-        self.relay.business(kind, id)
+        match self.relay.business(kind, id) {
+            Ok(found) => Ok(found),
+            Err(OutboxFault::Memory(refused)) => Err(refused),
+            Err(OutboxFault::Store) => unreachable!(),
+        }
     }
 }
 

@@ -5,13 +5,13 @@ ghost use Rattle.kob_outbox.specs.Contents.{stored_row};
 ghost use Rattle.kob_router.specs.Run.{next_row};
 ghost use Rattle.kob_scene_play.specs.Services.{past_first};
 
-use crate::fault::PlayFault;
+use crate::fault::TickFault;
 use kob_lines::Relay;
 use kob_outbox::{MarkFault, OutboxFault, Row};
 
 /// Moves the mark past the first row after it, if there is one. No row is in flight.
 #[tactic(auto, using(crate::proofs::Services::past_none, crate::proofs::Services::past_some))]
-pub(crate) fn skip_first(relay: &mut Relay) -> Result<(), PlayFault>
+pub(crate) fn skip_first(relay: &mut Relay) -> Result<(), TickFault>
     requires { relay.old.router.hand ≡ None }
     ensures { OnOk result (relay.new
         ≡ record relay.old { outbox = past_first relay.old.outbox }) }
@@ -33,14 +33,14 @@ fn next_row(relay: &mut Relay) -> Result<Option<Row>, OutboxFault>
 }
 
 /// Moves the mark of an outbox to this number, where no row is in flight.
-pub(crate) fn move_mark(relay: &mut Relay, seq: u64) -> Result<(), PlayFault>
+pub(crate) fn move_mark(relay: &mut Relay, seq: u64) -> Result<(), TickFault>
     requires { relay.old.router.hand ≡ None }
     ensures { OnOk result (relay.new
         ≡ record relay.old { outbox = record relay.old.outbox { mark = seq } }) }
 {
     match relay.set_mark(seq) {
         Ok(()) => Ok(()),
-        Err(MarkFault::Memory(refused)) => Err(PlayFault::Memory(refused)),
-        Err(_) => Err(PlayFault::Store),
+        Err(MarkFault::Memory(refused)) => Err(TickFault::Memory(refused)),
+        Err(_) => Err(TickFault::Store),
     }
 }

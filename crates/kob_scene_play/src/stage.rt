@@ -1,6 +1,6 @@
 //! What a scene is played on.
 
-ghost use Rattle.std.specs.Prelude.{◌≡◌, ◌++◌, ◌∷◌, [], IfOk, OnOk, map};
+ghost use Rattle.std.specs.Prelude.{◌≡◌, ◌≢◌, ◌++◌, ◌∷◌, [], IfErr, IfOk, IsErrOf, OnOk, map};
 ghost use Rattle.kob_scene_play.specs.Expectations.{all_met};
 ghost use Rattle.std.specs.Option.{option_copied};
 ghost use Rattle.kob_broker.specs.Step.{state_of};
@@ -8,6 +8,7 @@ ghost use Rattle.kob_broker.specs.State.{settings_of};
 ghost use Rattle.kob_scene_play.specs.Stages.{IsOpened, declared_consumer, declared_service};
 ghost use Rattle.kob_scene_play.specs.Stages.{consumer_numbered, name_by, service_numbered};
 ghost use Rattle.kob_scene_play.specs.Stages.{named_consumer, named_service, worker_name};
+ghost use Rattle.kob_scene_play.specs.Stops.{IsMemoryOrStore, MayNotOpen};
 ghost use Rattle.kob_shared.specs.Journals.{IsFresh, opened_by};
 
 use crate::consumer_worker::ConsumerWorker;
@@ -89,6 +90,7 @@ impl<'s> Stage<'s> {
         ensures consumers { IfOk result (λ stage. map named_consumer stage.consumers.items
             ≡ map declared_consumer consumers.items) }
         ensures met { IfOk result (λ stage. stage.unmet ≡ all_met) }
+        ensures stopped { IfErr result (MayNotOpen settings) }
     {
         let services = match all_services(alloc, services) {
             Ok(services) => services,
@@ -168,12 +170,13 @@ fn consumer_numbered(consumers: &[PlayedConsumer], worker: usize) -> Option<&Pla
 
 // A scene opens no bindings, so that it has never too many.
 fn recorded_by(alloc: Global, settings: Settings) -> Result<Recorded, PlayFault>
-    ensures { IfOk result (λ recorded. recorded ≡ record {
+    ensures opened { IfOk result (λ recorded. recorded ≡ record {
       opening = settings_of (opened_by settings);
       limit = 1000000;
       journal = [];
       broker = opened_by settings;
     }) }
+    ensures stopped { IfErr result (MayNotOpen settings) }
 {
     let broker = match broker_by(alloc, settings) {
         Ok(broker) => broker,
@@ -186,6 +189,7 @@ fn recorded_by(alloc: Global, settings: Settings) -> Result<Recorded, PlayFault>
 fn broker_by(alloc: Global, settings: Settings) -> Result<Broker, OpenFault>
     ensures fresh { IfOk result IsFresh }
     ensures state { IfOk result (λ broker. state_of broker ≡ opened_by settings) }
+    ensures many { IsErrOf result OpenFault.TooMany → settings.opening ≢ [] }
 {
     Broker::open(alloc, settings)
 }
@@ -194,8 +198,9 @@ fn all_services<'s>(
     alloc: Global,
     services: Vec<Service>,
 ) -> Result<Vec<PlayedService<'s>>, PlayFault>
-    ensures { IfOk result (λ all. map named_service all.items
+    ensures opened { IfOk result (λ all. map named_service all.items
         ≡ map declared_service services.items) }
+    ensures stopped { IfErr result IsMemoryOrStore }
 {
     let mut all = Vec::new(alloc);
     for service in services {
@@ -205,13 +210,15 @@ fn all_services<'s>(
 }
 
 /// Adds a service that has made no step.
+#[tactic(auto, using(crate::proofs::Stopping::outbox_stops))]
 fn add_service<'s>(
     alloc: Global,
     all: &mut Vec<PlayedService<'s>>,
     service: Service,
 ) -> Result<(), PlayFault>
-    ensures { OnOk result (map named_service all.new.items
+    ensures added { OnOk result (map named_service all.new.items
         ≡ map named_service all.old.items ++ declared_service service ∷ []) }
+    ensures stopped { IfErr result IsMemoryOrStore }
 {
     if let Err(refused) = all.reserve(1) {
         drop(service);
@@ -234,14 +241,15 @@ fn add_service<'s>(
         }
         Err(fault) => {
             drop(name);
-            Err(fault)
+            Err(PlayFault::from(fault))
         }
     }
 }
 
 fn all_consumers(alloc: Global, consumers: Vec<Consumer>) -> Result<Vec<PlayedConsumer>, PlayFault>
-    ensures { IfOk result (λ all. map named_consumer all.items
+    ensures opened { IfOk result (λ all. map named_consumer all.items
         ≡ map declared_consumer consumers.items) }
+    ensures stopped { IfErr result IsMemoryOrStore }
 {
     let mut all = Vec::new(alloc);
     for consumer in consumers {
@@ -251,13 +259,15 @@ fn all_consumers(alloc: Global, consumers: Vec<Consumer>) -> Result<Vec<PlayedCo
 }
 
 /// Adds a consumer that has made no step.
+#[tactic(auto, using(crate::proofs::Stopping::inbox_stops))]
 fn add_consumer(
     alloc: Global,
     all: &mut Vec<PlayedConsumer>,
     consumer: Consumer,
 ) -> Result<(), PlayFault>
-    ensures { OnOk result (map named_consumer all.new.items
+    ensures added { OnOk result (map named_consumer all.new.items
         ≡ map named_consumer all.old.items ++ declared_consumer consumer ∷ []) }
+    ensures stopped { IfErr result IsMemoryOrStore }
 {
     if let Err(refused) = all.reserve(1) {
         drop(consumer);
@@ -279,7 +289,7 @@ fn add_consumer(
         }
         Err(fault) => {
             drop(name);
-            Err(fault)
+            Err(PlayFault::from(fault))
         }
     }
 }

@@ -4,7 +4,7 @@ ghost use Rattle.std.specs.Prelude.{◌≡◌, IfOk, IsErrOf, None, OnErr, OnOk,
 ghost use Rattle.kob_outbox.specs.Contents.{first_bad_of_change};
 ghost use Rattle.kob_scene_play.specs.Services.{crashed, hides, passed_to, poll_of, shown};
 
-use crate::fault::PlayFault;
+use crate::fault::TickFault;
 use crate::poll::{Poll, poll_by};
 use crate::service_worker::ServiceWorker;
 use crate::skip::move_mark;
@@ -81,7 +81,7 @@ impl<'s> ServiceWorker<'s> {
     }
 
     /// Moves the mark to this number, where no row is in flight.
-    pub(crate) fn pass_to(&mut self, seq: u64) -> Result<(), PlayFault>
+    pub(crate) fn pass_to(&mut self, seq: u64) -> Result<(), TickFault>
         requires { self.old.sender.hand ≡ None }
         ensures { OnOk result (self.new ≡ passed_to seq self.old) }
     {

@@ -7,13 +7,13 @@ loop-preserved c =
     one_tick_more c.len-partitions.result c.args.consumer.now c.loop.consumer c.tick.new.consumer c.args.recorded.now
     c.loop.recorded c.tick.new.recorded c.args.out.now.told c.loop.out.told c.tick.new.out.told
     c.args.out.now.text.items c.loop.out.text.items c.tick.new.out.text.items c.loop.counter c.loop.idle
-    c.in_ok-left.left c.idle_with.result c.loop.invariant c.in_ok-left.ensures c.idle_with.ensures c.in-Some.in_row
+    c.in_ok-left.left c.idle_with.result c.loop.invariant c.in_ok-left.ensures.done c.idle_with.ensures c.in-Some.in_row
     c.in-Some.is
 
-pub returns-in_default : goal.returns-in_default
-returns-in_default c =
+pub returns-in_default-clause-done : goal.returns-in_default-clause-done
+returns-in_default-clause-done c =
     last_tick c.len-partitions.result c.args.consumer.now c.loop.consumer c.tick.new.consumer c.args.recorded.now
     c.loop.recorded c.tick.new.recorded c.args.out.now.told c.loop.out.told c.tick.new.out.told
     c.args.out.now.text.items c.loop.out.text.items c.tick.new.out.text.items c.loop.counter c.loop.idle
-    c.in_ok-left.left c.idle_with.result c.loop.invariant c.in_ok-left.ensures c.idle_with.ensures c.in_default.is
+    c.in_ok-left.left c.idle_with.result c.loop.invariant c.in_ok-left.ensures.done c.idle_with.ensures c.in_default.is
     (c.len-partitions.ensures ∙ ap (λ s. length s.assignment) c.subscription.ensures)

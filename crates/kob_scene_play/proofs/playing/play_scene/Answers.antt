@@ -4,7 +4,8 @@ use Rattle.kob_scene_play.proofs.playing.play_scene.Goals as goal
 
 pub returns-in-Err : goal.returns-in-Err
 returns-in-Err g c =
-    scene_unopened c.args.shown.now c.args.scene c.args.page.now.told _ c.args.page.now.text.items c.in-Err.fault c.requires.told
+    scene_unopened c.args.shown.now c.args.scene c.args.page.now.told _ c.args.page.now.text.items c.in-Err.fault
+    c.in-Err.ensures.stopped c.requires.told
     c.requires.text (Appends-nil _)
 
 pub returns-in-None : goal.returns-in-None

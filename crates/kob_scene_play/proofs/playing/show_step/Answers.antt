@@ -10,4 +10,4 @@ returns-in_ok-show-in-Ok-clause-shown c =
     c.begin.new.self.told c.play_step.new.out.told c.show.new.self.told c.begin.new.self.text.items
     c.play_step.new.out.text.items c.args.page.now.text.items c.show.new.self.text.items c.begin.ensures.told
     c.begin.ensures.text (c.len-before.ensures ∙ ap length c.journal.ensures.value) c.journal-in-Ok.ensures.value
-    (rw c.line_at.ensures at c.in-Ok.ensures) c.in_ok-show-in-Ok.ensures.told c.in_ok-show-in-Ok.ensures.text
+    (rw c.line_at.ensures at c.in-Ok.ensures.done) c.in_ok-show-in-Ok.ensures.told c.in_ok-show-in-Ok.ensures.text

@@ -3,9 +3,9 @@ use Rattle.kob_scene_play.proofs.Running.{last_tick, one_tick_more}
 use Rattle.kob_router.specs.declared.line.Loss.TheVariants as losses
 use Rattle.kob_scene_play.proofs.service_steps.run.Goals as goal
 
-pub returns-then-not-branch : goal.returns-then-not-branch
-returns-then-not-branch c =
-    let ticked = c.in_ok-tick.ensures in
+pub returns-then-not-branch-clause-done : goal.returns-then-not-branch-clause-done
+returns-then-not-branch-clause-done c =
+    let ticked = c.in_ok-tick.ensures.done in
     last_tick (IsServiceTick losses.None) service_line service_goes_on c.args.service.now c.loop.service
     c.tick.new.service c.args.recorded.now c.loop.recorded c.tick.new.recorded c.args.out.now.told c.loop.out.told
     c.tick.new.out.told c.args.out.now.text.items c.loop.out.text.items c.tick.new.out.text.items c.loop.counter
@@ -13,7 +13,7 @@ returns-then-not-branch c =
 
 pub loop-preserved : goal.loop-preserved
 loop-preserved c =
-    let ticked = c.in_ok-tick.ensures in
+    let ticked = c.in_ok-tick.ensures.done in
     one_tick_more (IsServiceTick losses.None) service_line service_goes_on c.args.service.now c.loop.service
     c.tick.new.service c.args.recorded.now c.loop.recorded c.tick.new.recorded c.args.out.now.told c.loop.out.told
     c.tick.new.out.told c.args.out.now.text.items c.loop.out.text.items c.tick.new.out.text.items c.loop.counter

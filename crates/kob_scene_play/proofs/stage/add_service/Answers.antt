@@ -2,8 +2,8 @@ use Rattle.kob_scene_play.proofs.Words.{PlayedService, Service, [], ap, declared
 use Rattle.kob_scene_play.specs.Stages.{NamedService}
 use Rattle.kob_scene_play.proofs.stage.add_service.Goals as goal
 
-pub returns-in-Ok : goal.returns-in-Ok
-returns-in-Ok c =
+pub returns-in-Ok-clause-added : goal.returns-in-Ok-clause-added
+returns-in-Ok-clause-added c =
     let all = c.args.all.now.items in
     let played : PlayedService = record { name = c.args.service.name; service = c.in-Ok.service } in
     let opened : c.in-Ok.service ≡ (declared_service c.args.service).service = rw c.into_target-target.ensures.value at c.in-Ok.ensures in
