@@ -1,7 +1,7 @@
 //! What is reported on standard error: `kob: WHAT`, a line each, and how a report ends.
 
 ghost use Rattle.std.specs.Prelude.{◌≡◌, ◌≢◌, IsErr, false};
-ghost use Rattle.kob.specs.Ending.{EndsRefused, EndsUnread, ending_of_fault};
+ghost use Rattle.kob.specs.Ending.{EndsRefused, EndsUnread, IsFailure, ending_of_fault};
 ghost use Rattle.kob.specs.Reports.{ending_of_file, ending_of_report};
 
 use crate::ending::{Ending, ending_of_fault};
@@ -177,7 +177,8 @@ pub fn tell_file(rt: &impl Eprint, report: FileReport<'_>) -> Ending
 
 /// A text that was not read.
 pub fn unread(rt: &impl Eprint, name: &str, fault: &InputFault) -> Ending
-    ensures { EndsUnread fault.now result }
+    ensures ending { EndsUnread fault.now result }
+    ensures failure { IsFailure result }
 {
     let _ = eprintln!(rt; "kob: {name}: {fault}");
     match fault {
@@ -188,14 +189,16 @@ pub fn unread(rt: &impl Eprint, name: &str, fault: &InputFault) -> Ending
 
 /// Something that the system refused.
 pub fn refused(rt: &impl Eprint, name: &str, error: &io::Error) -> Ending
-    ensures { EndsRefused error.now result }
+    ensures ending { EndsRefused error.now result }
+    ensures failure { IsFailure result }
 {
     let _ = eprintln!(rt; "kob: {name}: {error}");
     ending_of(error)
 }
 
 fn ending_of(error: &io::Error) -> Ending
-    ensures { EndsRefused error.now result }
+    ensures ending { EndsRefused error.now result }
+    ensures failure { IsFailure result }
 {
     if error.kind() == ErrorKind::OutOfMemory {
         Ending::OutOfMemory

@@ -1,7 +1,7 @@
 //! A topic of a cluster, compared with the rows of an outbox.
 
 ghost use Rattle.std.specs.Prelude.{◌≡◌, ◌≢◌, ◌++◌, IfErr, IfOk, IsErr, Ok, OnOk, length};
-ghost use Rattle.kob.specs.Ending.{ending_of_changes, ending_of_list};
+ghost use Rattle.kob.specs.Ending.{IsFailure, ending_of_changes, ending_of_list};
 ghost use Rattle.kob_policy_text.specs.Encoding.{plain_text};
 ghost use Rattle.kob_topic_check.specs.Findings.{counts_text, findings_text};
 
@@ -35,15 +35,16 @@ fn compared<R: AllocGlobal + Files + Input + Print + Eprint>(
     rt: &R,
     rows: &str,
     records: &str,
-) -> Result<Ending, Ending> {
+) -> Result<Ending, Ending>
+    ensures { IfErr result IsFailure }
+{
     let rows = rows_of(rt, rows)?;
     print_with(rt, &rows, records)
 }
 
-fn rows_of<R: AllocGlobal + Files + Input + Eprint>(
-    rt: &R,
-    name: &str,
-) -> Result<Vec<Row>, Ending> {
+fn rows_of<R: AllocGlobal + Files + Input + Eprint>(rt: &R, name: &str) -> Result<Vec<Row>, Ending>
+    ensures { IfErr result IsFailure }
+{
     let text = list_of(rt, name)?;
     match read_rows(rt.alloc(), &text) {
         Ok(rows) => Ok(rows),
@@ -54,7 +55,9 @@ fn rows_of<R: AllocGlobal + Files + Input + Eprint>(
 fn records_of<R: AllocGlobal + Files + Input + Eprint>(
     rt: &R,
     name: &str,
-) -> Result<Vec<Record>, Ending> {
+) -> Result<Vec<Record>, Ending>
+    ensures { IfErr result IsFailure }
+{
     let text = list_of(rt, name)?;
     match read_records(rt.alloc(), &text) {
         Ok(records) => Ok(records),
@@ -66,7 +69,9 @@ fn records_of<R: AllocGlobal + Files + Input + Eprint>(
 }
 
 /// The text of a list in UTF-8, without a byte order mark.
-fn list_of<R: AllocGlobal + Files + Input + Eprint>(rt: &R, name: &str) -> Result<Vec<u8>, Ending> {
+fn list_of<R: AllocGlobal + Files + Input + Eprint>(rt: &R, name: &str) -> Result<Vec<u8>, Ending>
+    ensures { IfErr result IsFailure }
+{
     match text_of(rt, Kind::List, name) {
         Ok(text) => plain_list(rt, name, &text),
         Err(fault) => Err(report::unread(rt, name, &fault)),
@@ -78,6 +83,7 @@ fn plain_list<R: AllocGlobal + Eprint>(rt: &R, name: &str, text: &[u8]) -> Resul
     ensures plain { IfOk result (λ plain. plain_text text.now ≡ Ok plain.items) }
     ensures refused { IfErr result (λ ending. ending ≢ Ending.OutOfMemory
         → (ending ≡ Ending.Failed) × IsErr (plain_text text.now)) }
+    ensures failure { IfErr result IsFailure }
 {
     match plain_text(rt.alloc(), text) {
         Ok(plain) => Ok(plain),
@@ -91,7 +97,8 @@ fn plain_list<R: AllocGlobal + Eprint>(rt: &R, name: &str, text: &[u8]) -> Resul
 }
 
 fn fault_of(rt: &impl Eprint, name: &str, error: ReadError, form: &str) -> Ending
-    ensures { result ≡ ending_of_list error }
+    ensures ending { result ≡ ending_of_list error }
+    ensures failure { IsFailure result }
 {
     match error {
         ReadError::Memory(refused) => tell(rt, Report::OutOfMemory(name, refused)),
@@ -103,7 +110,9 @@ fn print_with<R: AllocGlobal + Files + Input + Print + Eprint>(
     rt: &R,
     rows: &[Row],
     records: &str,
-) -> Result<Ending, Ending> {
+) -> Result<Ending, Ending>
+    ensures { IfErr result IsFailure }
+{
     let name = records;
     let records = records_of(rt, name)?;
     let mut out = Vec::new(rt.alloc());
