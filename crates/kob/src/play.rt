@@ -1,9 +1,10 @@
 //! Texts that are played or exported.
 
-ghost use Rattle.std.specs.Prelude.{◌≡◌, ◌≢◌, ◌++◌, OnOk, false};
+ghost use Rattle.std.specs.Prelude.{◌≡◌, ◌≢◌, ◌++◌, OnOk, false, map, option_map};
 ghost use Rattle.kob.specs.Ending.{ending_of_play};
 ghost use Rattle.kob.specs.Headings.{can_differ, file_line, heading_text};
-ghost use Rattle.kob.specs.Remarks.{doubts_remark, quotes_remark, remarks_text};
+ghost use Rattle.kob.specs.Marks.{mistake_text};
+ghost use Rattle.kob.specs.Remarks.{doubts_remark, misuse_text, quotes_remark, remarks_text};
 ghost use Rattle.kob_mistakes.specs.Quoted.{quoted_name};
 ghost use Rattle.kob_mistakes.specs.Records.{doubtful_state};
 
@@ -214,22 +215,44 @@ pub fn say_fault<R: AllocGlobal + Eprint>(
 }
 
 /// The fault of a scene, or what the word is that its line means otherwise, and what was expected.
+#[tactic(auto, using(kob_words::proofs::Appending::appending))]
 fn push_fault<R: AllocGlobal + Eprint>(
     rt: &R,
     out: &mut Vec<u8>,
     name: &str,
     fault: SceneFault,
     mistake: &Mistake<'_>,
-) -> Result<(), AllocError> {
+) -> Result<(), AllocError>
+    ensures { OnOk result (out.new.items ≡ out.old.items
+        ++ (misuse_text name.now fault.line mistake.now.misuse
+        (map (λ word. word.now) mistake.now.words.items) mistake.now.place
+        ++ mistake_text (map (λ word. word.now) mistake.now.words.items) mistake.now.place
+        mistake.now.form.now mistake.now.nearest
+        (option_map (λ hint. hint.now) mistake.now.hint))) }
+{
+    if mistake.misuse.is_none() {
+        report::fault(rt, name, fault);
+    }
+    push_misuse(out, name, fault.line, mistake)?;
+    push_mistake(out, mistake)
+}
+
+/// What the word is, if its line means it otherwise.
+fn push_misuse(
+    out: &mut Vec<u8>,
+    name: &str,
+    line: u64,
+    mistake: &Mistake<'_>,
+) -> Result<(), AllocError>
+    ensures { OnOk result (out.new.items ≡ out.old.items ++ misuse_text name.now line
+        mistake.now.misuse (map (λ word. word.now) mistake.now.words.items) mistake.now.place) }
+{
     match mistake.misuse {
         Some(misuse) => {
             let word = word_at(&mistake.words, mistake.place);
             let worker = word_at(&mistake.words, 0);
-            push_misused(out, name, fault.line, misuse, word, worker)?;
+            push_misused(out, name, line, misuse, word, worker)
         }
-        None => {
-            report::fault(rt, name, fault);
-        }
+        None => Ok(()),
     }
-    push_mistake(out, mistake)
 }
