@@ -1,17 +1,20 @@
 -- What is printed about lists, in each form.
-use Rattle.std.specs.Prelude.{ℕ, List, [], ◌∷◌, ◌++◌, codes}
+use Rattle.std.specs.Prelude.{ℕ, ◌==◌, ◌&&◌, Bool, List, [], ◌∷◌, ◌++◌, codes, if◌then◌else◌, length, map}
 use Rattle.std.specs.Fmt.{decimal}
 use Rattle.std.specs.List.{flat_map}
 use Rattle.kob.specs.Ending.{ending_of_changes}
+use Rattle.kob.specs.Commands.{commands_text}
 use Rattle.kob.specs.declared.ending.Ending.{Ending}
+use Rattle.kob.specs.declared.ending.Ending.TheVariants.{Whole, Failed}
 use Rattle.kob.specs.declared.policy_options.AnswerForm.{AnswerForm}
 use Rattle.kob.specs.declared.policy_options.AnswerForm.TheVariants as form
 use Rattle.kob.specs.declared.policy_options.Options.{Options}
-use Rattle.kob_policy_rows.specs.Changes.{change_rows, fault_row}
-use Rattle.kob_policy_rows.specs.Columns.{change_columns, fault_columns}
+use Rattle.kob_policy_rows.specs.Changes.{change_rows, fault_row, omission_row}
+use Rattle.kob_policy_rows.specs.Columns.{change_columns, fault_columns, omission_columns}
 use Rattle.kob_policy_rows.specs.Csv.{answers_csv, table_text}
 use Rattle.kob_policy_rows.specs.Json.{answers_json, files_line, lines_text}
 use Rattle.kob_policy_rows.specs.Logs.{log_line}
+use Rattle.kob_policy_text.specs.Answers.{omissions_text}
 use Rattle.kob_policy_text.specs.LogAnswers.{log_text}
 use Rattle.kob_policy_text.specs.Moved.{moved_text}
 use Rattle.kob_policy_text.specs.Policy.{Policy}
@@ -67,6 +70,24 @@ fault_in form.Words name fault = name ++ codes " " ++ fault_text fault
 fault_in form.Json name fault =
     lines_text fault_columns (fault_row name fault.line (kind_text fault.kind) ∷ [])
 fault_in form.Csv name fault = []
+
+-- what is left out of a list; beside a table it is said on standard error
+abbrev pub omissions_in : AnswerForm → Policy → List ℕ
+omissions_in form.Words policy = omissions_text policy
+omissions_in form.Json policy = lines_text omission_columns (map omission_row policy.omissions)
+omissions_in form.Csv policy = []
+
+-- nothing is asked beside commands, and no command does what is left out of a list
+abbrev pub can_lead : List Query → Policy → Policy → Bool
+can_lead queries before after =
+    length queries == 0 && length before.omissions == 0 && length after.omissions == 0
+
+abbrev pub lead_text : List Query → Policy → Policy → List ℕ
+lead_text queries before after =
+    if can_lead queries before after then commands_text before after else []
+
+abbrev pub ending_of_lead : List Query → Policy → Policy → Ending
+ending_of_lead queries before after = if can_lead queries before after then Whole else Failed
 
 -- whether something changes
 abbrev pub ending_in : AnswerForm → Policy → Policy → Ending

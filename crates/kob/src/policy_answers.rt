@@ -1,9 +1,10 @@
 //! What is printed about lists that are in force, in the form that is asked for.
 
-ghost use Rattle.std.specs.Prelude.{◌≡◌, ◌++◌, ◌∷◌, [], IfOk, OnOk, codes};
+ghost use Rattle.std.specs.Prelude.{◌≡◌, ◌≢◌, ◌++◌, ◌∷◌, [], IfOk, OnOk, codes};
 ghost use Rattle.std.specs.List.{flat_map};
-ghost use Rattle.kob.specs.Answers.{answers_in, changes_in, ending_in, fault_in, heading_in};
-ghost use Rattle.kob.specs.Answers.{name_text, names_in, names_text};
+ghost use Rattle.kob.specs.Answers.{answers_in, changes_in, ending_in, ending_of_lead, fault_in};
+ghost use Rattle.kob.specs.Answers.{heading_in, lead_text, name_text, names_in, names_text};
+ghost use Rattle.kob.specs.Answers.{omissions_in};
 ghost use Rattle.kob.specs.Ending.{ending_of_answers, ending_of_changes};
 ghost use Rattle.kob_policy_rows.specs.Changes.{change_rows, fault_row};
 ghost use Rattle.kob_policy_rows.specs.Columns.{change_columns, fault_columns};
@@ -163,7 +164,9 @@ pub(crate) fn push_omissions<R: AllocGlobal + Eprint>(
     form: AnswerForm,
     out: &mut Vec<u8>,
     policy: &Policy,
-) -> Result<(), AllocError> {
+) -> Result<(), AllocError>
+    ensures { OnOk result (out.new.items ≡ out.old.items ++ omissions_in form policy.now) }
+{
     match form {
         AnswerForm::Words => print_omissions(out, policy),
         AnswerForm::Json => {
@@ -223,7 +226,13 @@ pub(crate) fn lead<R: AllocGlobal + Eprint>(
     questions: &Questions,
     before: &Judge,
     after: &Judge,
-) -> Result<Ending, AllocError> {
+) -> Result<Ending, AllocError>
+    ensures printed { OnOk result (out.new.items
+        ≡ out.old.items ++ lead_text questions.now.asked before.now after.now) }
+    ensures ending { IfOk result (λ ending. ending
+        ≡ ending_of_lead questions.now.asked before.now after.now) }
+    ensures same { IfOk result (λ ending. ending ≢ Ending.Differs) }
+{
     let (old, new) = (before.policy(), after.policy());
     if !questions.asked().is_empty() {
         return Ok(tell(rt, Report::BesideCommands));
