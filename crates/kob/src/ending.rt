@@ -32,7 +32,9 @@ impl Ending {
 
     /// The worse of two ends.
     pub fn worse(self, other: Ending) -> Ending
-        ensures { result ≡ worse self other }
+        ensures ending { result ≡ worse self other }
+        ensures well { result ≡ Ending.Whole
+            → (self ≡ Ending.Whole) × (other ≡ Ending.Whole) }
     {
         match (self, other) {
             (Ending::OutOfMemory, _) | (_, Ending::OutOfMemory) => Ending::OutOfMemory,

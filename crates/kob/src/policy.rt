@@ -1,9 +1,11 @@
 //! Questions about lists of bindings: one list with its questions, or two lists and what changes
 //! from one to the other.
 
-ghost use Rattle.std.specs.Prelude.{◌≡◌};
+ghost use Rattle.std.specs.Prelude.{◌≡◌, ◌≢◌, IfOk, false, true};
+ghost use Rattle.kob.specs.Answers.{ending_in};
 ghost use Rattle.kob.specs.Ending.{ending_of_part};
 ghost use Rattle.kob.specs.Options.{table_asked, tables_asked};
+ghost use Rattle.kob_policy_text.specs.Access.{any_fails};
 
 use crate::ending::Ending;
 use crate::logs::answer_logs;
@@ -240,6 +242,7 @@ fn answer_by_one<R: AllocGlobal + Clock + Files + Input + Eprint>(
     Ok(answered?)
 }
 
+#[tactic(auto, using(crate::proofs::Ends::none_fails))]
 fn answer_about<R: AllocGlobal + Files + Input + Eprint>(
     rt: &R,
     out: &mut Vec<u8>,
@@ -247,7 +250,10 @@ fn answer_about<R: AllocGlobal + Files + Input + Eprint>(
     questions: &Questions,
     asked: &[Asked],
     judge: &Judge,
-) -> Result<Ending, AllocError> {
+) -> Result<Ending, AllocError>
+    ensures { IfOk result (λ ending. ending ≡ Ending.Whole
+        → any_fails judge.now questions.now.asked ≡ false) }
+{
     let ending = push_answers(rt.alloc(), options.form, out, judge, questions)?;
     say_unmet(rt, judge, questions.asked(), asked)?;
     Ok(ending.worse(answer_logs(rt, out, options, questions, judge)?))
@@ -304,13 +310,17 @@ fn compare<R: AllocGlobal + Files + Input + Eprint>(
 ) -> Result<Ending, AllocError>
     requires before { before.now.side ≡ Side.Before }
     requires after { after.now.side ≡ Side.After }
+    ensures same { IfOk result (λ ending. options.now.commands ≡ false → ending ≡ Ending.Whole
+        → ending_in options.now.form before.now.judge after.now.judge ≡ Ending.Whole) }
+    ensures commands { IfOk result (λ ending. options.now.commands ≡ true
+        → ending ≢ Ending.Differs) }
 {
     let (before, after) = (&before.judge, &after.judge);
     if !options.commands {
         let ending = push_changes(rt.alloc(), options.form, out, before, after)?;
         Ok(ending.worse(answer_about(rt, out, options, questions, asked, after)?))
     } else if options.logs.len() == 0 {
-        lead(rt, out, questions, before, after)
+        Ok(lead(rt, out, questions, before, after)?)
     } else {
         Ok(tell(rt, Report::BesideCommands))
     }
