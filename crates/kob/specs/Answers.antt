@@ -1,5 +1,5 @@
 -- What is printed about lists, in each form.
-use Rattle.std.specs.Prelude.{ℕ, ◌==◌, ◌&&◌, Bool, List, [], ◌∷◌, ◌++◌, codes, if◌then◌else◌, length, map}
+use Rattle.std.specs.Prelude.{◌≡◌, ℕ, ◌==◌, ◌&&◌, Bool, List, [], ◌∷◌, ◌++◌, codes, if◌then◌else◌, length, map}
 use Rattle.std.specs.Fmt.{decimal}
 use Rattle.std.specs.List.{flat_map}
 use Rattle.kob.specs.Ending.{ending_of_changes}
@@ -22,6 +22,8 @@ use Rattle.kob_policy_text.specs.Review.{answers_text, changes_text}
 use Rattle.kob_policy_text.specs.declared.question.Query.{Query}
 use Rattle.kob_script.specs.Printed.{fault_text, kind_text}
 use Rattle.kob_script.specs.declared.fault.Fault.{Fault}
+use Rattle.kob_script.specs.declared.fault.ScriptError.{ScriptError}
+use Rattle.kob_script.specs.declared.fault.ScriptError.TheVariants as script_error
 
 abbrev pub answers_in : AnswerForm → Policy → List (List ℕ) → List Query → List ℕ
 answers_in form.Words policy topics queries = answers_text policy topics 1 queries
@@ -70,6 +72,11 @@ fault_in form.Words name fault = name ++ codes " " ++ fault_text fault
 fault_in form.Json name fault =
     lines_text fault_columns (fault_row name fault.line (kind_text fault.kind) ∷ [])
 fault_in form.Csv name fault = []
+
+-- The fault of a text is printed, and nothing else.
+abbrev pub IsToldIn : AnswerForm → List ℕ → ScriptError → List ℕ → Type 0
+IsToldIn form name (script_error.Memory refused) printed = ⊥
+IsToldIn form name (script_error.Fault fault) printed = printed ≡ fault_in form name fault
 
 -- what is left out of a list; beside a table it is said on standard error
 abbrev pub omissions_in : AnswerForm → Policy → List ℕ

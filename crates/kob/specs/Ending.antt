@@ -67,6 +67,11 @@ ending_of_part (Ok ending) = ending
 ending_of_part (Err (stop.Ended ending)) = ending
 ending_of_part (Err (stop.Memory refused)) = OutOfMemory
 
+-- A part that stops ends as a failure.
+abbrev pub IsFailedStop : Stop → Type 0
+IsFailedStop (stop.Ended ending) = IsFailure ending
+IsFailedStop (stop.Memory refused) = Unit {0}
+
 -- an answer that is not the one that was expected
 abbrev pub ending_of_answers : Bool → Ending
 ending_of_answers true = Differs

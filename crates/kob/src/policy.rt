@@ -1,16 +1,17 @@
 //! Questions about lists of bindings: one list with its questions, or two lists and what changes
 //! from one to the other.
 
-ghost use Rattle.std.specs.Prelude.{◌≡◌, ◌≢◌, IfOk, false, true};
+ghost use Rattle.std.specs.Prelude.{◌≡◌, ◌≢◌, IfErr, IfOk, Ok, OnOk, false, length, nat_lt, true};
 ghost use Rattle.kob.specs.Answers.{ending_in};
-ghost use Rattle.kob.specs.Ending.{ending_of_part};
+ghost use Rattle.kob.specs.Ending.{IsFailedStop, ending_of_part};
 ghost use Rattle.kob.specs.Options.{table_asked, tables_asked};
 ghost use Rattle.kob_policy_text.specs.Access.{any_fails};
+ghost use Rattle.kob_policy_text.specs.Questions.{with_questions, with_topics};
 
 use crate::ending::Ending;
 use crate::logs::answer_logs;
 use crate::policy_answers::{lead, push_answers, push_changes, push_heading};
-use crate::policy_lists::{Listed, Side, Stop, judge_of, list_of, unless_fault};
+use crate::policy_lists::{Listed, Side, Stop, judge_of, list_of, stop_by};
 use crate::policy_options::{AnswerForm, Options, parts_of};
 use crate::report::{self, Report, tell};
 use crate::running::say;
@@ -69,7 +70,9 @@ fn print_part<R: AllocGlobal + Clock + Files + Input + Eprint>(
     out: &mut Vec<u8>,
     options: &Options,
     headed: bool,
-) -> Result<Ending, Stop> {
+) -> Result<Ending, Stop>
+    ensures { IfErr result IsFailedStop }
+{
     if headed {
         if options.form == AnswerForm::Csv {
             return Ok(tell(rt, Report::SeveralTables));
@@ -88,7 +91,9 @@ fn answer_part<R: AllocGlobal + Clock + Files + Input + Eprint>(
     stages: Stages,
     out: &mut Vec<u8>,
     options: &Options,
-) -> Result<Ending, Stop> {
+) -> Result<Ending, Stop>
+    ensures { IfErr result IsFailedStop }
+{
     if options.form == AnswerForm::Csv && options.logs.len() > 0 {
         return Err(Stop::Ended(tell(rt, Report::NoTable("log"))));
     }
@@ -105,7 +110,9 @@ fn answer_asked<R: AllocGlobal + Clock + Files + Input + Eprint>(
     options: &Options,
     questions: &mut Questions,
     asked: &mut Vec<Asked>,
-) -> Result<Ending, Stop> {
+) -> Result<Ending, Stop>
+    ensures { IfErr result IsFailedStop }
+{
     push_questions(rt, out, questions, asked, options)?;
     if options.form == AnswerForm::Csv {
         unless_one_table(rt, options, questions)?;
@@ -122,7 +129,12 @@ fn unless_one_table<R: AllocGlobal + Eprint>(
     rt: &R,
     options: &Options,
     questions: &Questions,
-) -> Result<(), Stop> {
+) -> Result<(), Stop>
+    ensures one { OnOk result (tables_asked questions.now.asked
+        (nat_lt 0 (length options.now.before)) ≡ Tables.One) }
+    ensures refused { IfErr result (λ stop. (stop ≡ Stop.Ended Ending.Failed)
+        × (tables_asked questions.now.asked (nat_lt 0 (length options.now.before)) ≢ Tables.One)) }
+{
     let asked = questions.asked();
     match tables_asked(asked, options.before.len() > 0) {
         Tables::One => Ok(()),
@@ -175,12 +187,12 @@ fn push_questions<R: AllocGlobal + Files + Input + Eprint>(
     questions: &mut Questions,
     asked: &mut Vec<Asked>,
     options: &Options,
-) -> Result<(), Stop> {
+) -> Result<(), Stop>
+    ensures { IfErr result IsFailedStop }
+{
     for file in options.topics.as_slice() {
         let text = list_of(rt, file.as_str())?;
-        let read = read_topics(rt.alloc(), questions, &text);
-        let source = questions_in(file.as_str(), &text);
-        unless_fault(rt, options.form, out, &source, read)?;
+        push_topics(rt, options.form, out, questions, file.as_str(), &text)?;
     }
     for file in options.questions.as_slice() {
         let text = list_of(rt, file.as_str())?;
@@ -192,11 +204,30 @@ fn push_questions<R: AllocGlobal + Files + Input + Eprint>(
         push_asked(rt, options.form, out, questions, asked, word.as_str(), text)?;
     }
     if options.before.len() == 0 && options.logs.len() == 0 && questions.asked().is_empty() {
-        let read = read_questions(rt.alloc(), questions, b"summary");
-        let source = questions_in("summary", b"summary");
-        unless_fault(rt, options.form, out, &source, read)?;
+        if let Err(error) = read_questions(rt.alloc(), questions, b"summary") {
+            let source = questions_in("summary", b"summary");
+            return Err(stop_by(rt, options.form, out, &source, error));
+        }
     }
     Ok(())
+}
+
+/// The topics of a text.
+fn push_topics<R: AllocGlobal + Eprint>(
+    rt: &R,
+    form: AnswerForm,
+    out: &mut Vec<u8>,
+    questions: &mut Questions,
+    name: &str,
+    text: &[u8],
+) -> Result<(), Stop>
+    ensures read { OnOk result (Ok questions.new ≡ with_topics questions.old text.now) }
+    ensures failure { IfErr result IsFailedStop }
+{
+    match read_topics(rt.alloc(), questions, text) {
+        Ok(()) => Ok(()),
+        Err(error) => Err(stop_by(rt, form, out, &questions_in(name, text), error)),
+    }
 }
 
 /// The questions of a text.
@@ -208,9 +239,12 @@ fn push_asked<R: AllocGlobal + Eprint>(
     asked: &mut Vec<Asked>,
     name: &str,
     text: Vec<u8>,
-) -> Result<(), Stop> {
-    let read = read_questions(rt.alloc(), questions, &text);
-    if let Err(stop) = unless_fault(rt, form, out, &questions_in(name, &text), read) {
+) -> Result<(), Stop>
+    ensures read { OnOk result (Ok questions.new ≡ with_questions questions.old text.items) }
+    ensures failure { IfErr result IsFailedStop }
+{
+    if let Err(error) = read_questions(rt.alloc(), questions, &text) {
+        let stop = stop_by(rt, form, out, &questions_in(name, &text), error);
         drop(text);
         return Err(stop);
     }
@@ -226,7 +260,9 @@ fn answer_by_one<R: AllocGlobal + Clock + Files + Input + Eprint>(
     options: &Options,
     questions: &Questions,
     asked: &[Asked],
-) -> Result<Ending, Stop> {
+) -> Result<Ending, Stop>
+    ensures { IfErr result IsFailedStop }
+{
     let listed = judge_of(rt, stages, out, options, Side::Only)?;
     let bindings = listed.judge.policy().bindings().len();
     let count = questions.asked().len();
@@ -268,7 +304,9 @@ fn review<R: AllocGlobal + Clock + Files + Input + Eprint>(
     options: &Options,
     questions: &Questions,
     asked: &[Asked],
-) -> Result<Ending, Stop> {
+) -> Result<Ending, Stop>
+    ensures { IfErr result IsFailedStop }
+{
     let before = judge_of(rt, stages, out, options, Side::Before)?;
     let reviewed = review_from(rt, stages, out, options, questions, asked, &before);
     drop(before);
@@ -285,6 +323,7 @@ fn review_from<R: AllocGlobal + Clock + Files + Input + Eprint>(
     before: &Listed,
 ) -> Result<Ending, Stop>
     requires { before.now.side ≡ Side.Before }
+    ensures { IfErr result IsFailedStop }
 {
     let after = judge_of(rt, stages, out, options, Side::After)?;
     stages.tell(

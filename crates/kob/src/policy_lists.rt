@@ -1,7 +1,10 @@
 //! The lists that questions are about, read and in force.
 
-ghost use Rattle.std.specs.Prelude.{◌≡◌, [], IfOk, false};
+ghost use Rattle.std.specs.Prelude.{◌≡◌, [], IfErr, IfOk, Ok, OnOk, false};
+ghost use Rattle.kob.specs.Answers.{IsToldIn};
+ghost use Rattle.kob.specs.Ending.{IsFailedStop, IsFailure};
 ghost use Rattle.kob.specs.Lists.{files_of};
+ghost use Rattle.kob_policy_text.specs.Policy.{FileMakes};
 
 use crate::ending::Ending;
 use crate::input::{InputFault, Kind, text_of};
@@ -41,7 +44,9 @@ impl From<AllocError> for Stop {
 pub(crate) fn list_of<R: AllocGlobal + Files + Input + Eprint>(
     rt: &R,
     file: &str,
-) -> Result<Vec<u8>, Stop> {
+) -> Result<Vec<u8>, Stop>
+    ensures { IfErr result IsFailedStop }
+{
     match text_of(rt, Kind::List, file) {
         Ok(text) => Ok(text),
         Err(fault) => Err(Stop::Ended(say_unread(rt, file, &fault))),
@@ -49,7 +54,9 @@ pub(crate) fn list_of<R: AllocGlobal + Files + Input + Eprint>(
 }
 
 /// Reports a file that was not read, or the question that its name may be.
-fn say_unread<R: AllocGlobal + Eprint>(rt: &R, file: &str, fault: &InputFault) -> Ending {
+fn say_unread<R: AllocGlobal + Eprint>(rt: &R, file: &str, fault: &InputFault) -> Ending
+    ensures { IsFailure result }
+{
     let mut out = Vec::new(rt.alloc());
     match meant_by(rt.alloc(), file, fault.is_missing()) {
         Ok(Meant::Misspelt(kind)) => {
@@ -69,20 +76,25 @@ fn say_unread<R: AllocGlobal + Eprint>(rt: &R, file: &str, fault: &InputFault) -
 
 /// Prints a fault in place of all that was to be printed, and says on standard error which word of
 /// the line is wrong.
-pub(crate) fn unless_fault<R: AllocGlobal + Eprint>(
+pub(crate) fn stop_by<R: AllocGlobal + Eprint>(
     rt: &R,
     form: AnswerForm,
     out: &mut Vec<u8>,
     source: &Source<'_>,
-    read: Result<(), ScriptError>,
-) -> Result<(), Stop> {
-    match read {
-        Ok(()) => Ok(()),
-        Err(ScriptError::Memory(refused)) => Err(Stop::Memory(refused)),
-        Err(ScriptError::Fault(fault)) => {
+    error: ScriptError,
+) -> Stop
+    ensures told { result ≡ Stop.Ended Ending.Failed
+        → IsToldIn form source.now.name.now error out.new.items }
+    ensures failure { IsFailedStop result }
+{
+    match error {
+        ScriptError::Memory(refused) => Stop::Memory(refused),
+        ScriptError::Fault(fault) => {
             out.clear();
-            push_fault(rt.alloc(), form, out, source.name, fault)?;
-            Err(Stop::Ended(say_fault(rt, source, fault)))
+            match push_fault(rt.alloc(), form, out, source.name, fault) {
+                Ok(()) => Stop::Ended(say_fault(rt, source, fault)),
+                Err(refused) => Stop::Memory(refused),
+            }
         }
     }
 }
@@ -124,6 +136,7 @@ pub(crate) fn judge_of<R: AllocGlobal + Clock + Files + Input + Eprint>(
 ) -> Result<Listed, Stop>
     ensures side { IfOk result (λ listed. listed.side ≡ side) }
     ensures whole { IfOk result (λ listed. options.now.skip ≡ false → listed.judge.omissions ≡ []) }
+    ensures failure { IfErr result IsFailedStop }
 {
     let mut policy = Policy::new(rt.alloc());
     read_lists(
@@ -146,7 +159,9 @@ fn read_lists<R: AllocGlobal + Clock + Files + Input + Eprint>(
     policy: &mut Policy,
     options: &Options,
     others: &[Text],
-) -> Result<(), Stop> {
+) -> Result<(), Stop>
+    ensures { IfErr result IsFailedStop }
+{
     for file in options.policy.as_slice() {
         read_list(rt, stages, options.form, out, policy, file.as_str())?;
     }
@@ -166,7 +181,9 @@ fn open_judge<R: AllocGlobal + Clock + Eprint>(
     options: &Options,
     policy: Policy,
 ) -> Result<Judge, Stop>
-    ensures { IfOk result (λ judge. options.now.skip ≡ false → judge.omissions ≡ []) }
+    ensures policy { IfOk result (λ judge. judge ≡ policy) }
+    ensures whole { IfOk result (λ judge. options.now.skip ≡ false → judge.omissions ≡ []) }
+    ensures failure { IfErr result IsFailedStop }
 {
     push_omissions(rt, options.form, out, &policy)?;
     if !policy.skipped().is_empty() {
@@ -193,7 +210,9 @@ fn read_list<R: AllocGlobal + Clock + Files + Input + Eprint>(
     out: &mut Vec<u8>,
     policy: &mut Policy,
     file: &str,
-) -> Result<(), Stop> {
+) -> Result<(), Stop>
+    ensures { IfErr result IsFailedStop }
+{
     let text = list_of(rt, file)?;
     let bindings = policy.bindings().len();
     let bytes = text.len();
@@ -215,15 +234,22 @@ fn read_text<R: AllocGlobal + Eprint>(
     policy: &mut Policy,
     name: &str,
     text: &[u8],
-) -> Result<(), Stop> {
+) -> Result<(), Stop>
+    ensures read { OnOk result (FileMakes name.now text.now policy.old (Ok policy.new)) }
+    ensures failure { IfErr result IsFailedStop }
+{
     let file = Text::copied(rt.alloc(), name)?;
-    let read = read_file(rt.alloc(), policy, &file, text);
-    let source = Source {
-        name,
-        text,
-        lines: Lines::Bindings,
-    };
-    unless_fault(rt, form, out, &source, read)
+    match read_file(rt.alloc(), policy, &file, text) {
+        Ok(()) => Ok(()),
+        Err(error) => {
+            let source = Source {
+                name,
+                text,
+                lines: Lines::Bindings,
+            };
+            Err(stop_by(rt, form, out, &source, error))
+        }
+    }
 }
 
 /// Reads each `--kafka VERSION` as a line `kafka VERSION` behind all files.
@@ -232,7 +258,9 @@ fn read_releases<R: AllocGlobal + Eprint>(
     options: &Options,
     out: &mut Vec<u8>,
     policy: &mut Policy,
-) -> Result<(), Stop> {
+) -> Result<(), Stop>
+    ensures { IfErr result IsFailedStop }
+{
     for release in options.kafka.as_slice() {
         let text = format!(in rt.alloc(); "kafka {}", release.as_str())?;
         read_text(rt, options.form, out, policy, "--kafka", text.as_bytes())?;
