@@ -14,6 +14,8 @@ MADE = {
 # Comments, texts and characters say nothing.
 SILENT = re.compile(r'//[^\n]*|b?"(?:\\.|[^"\\])*"|b?\'(?:\\.|[^\'\\])\'')
 WORD = re.compile(r"\bAllocError\b")
+# A sum that is always too large, or room that no machine has, makes the error where no memory lacks.
+ENDLESS = re.compile(r"\b(sum_of|with_capacity|reserve)\([^;{}]*(\bMAX\b|\b\d[\d_]{15,})")
 DECLARED = re.compile(r"\b(enum|struct)\b[^;{}()]*\{$")
 
 
@@ -75,7 +77,8 @@ def is_value(text: str, start: int, end: int) -> bool:
 
 
 def values(text: str) -> list[int]:
-    """The lines on which a source has the word as a value."""
+    """The lines on which a source has the word as a value, or asks for what is always refused."""
     text = SILENT.sub(lambda it: re.sub(r"[^\n]", " ", it[0]), text)
-    found = (it for it in WORD.finditer(text) if is_value(text, it.start(), it.end()))
-    return [text.count("\n", 0, it.start()) + 1 for it in found]
+    found = [it.start() for it in WORD.finditer(text) if is_value(text, it.start(), it.end())]
+    found += [it.start() for it in ENDLESS.finditer(text)]
+    return sorted(text.count("\n", 0, it) + 1 for it in found)

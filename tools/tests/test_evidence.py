@@ -29,6 +29,10 @@ REFUSED = (
     "pub enum Fault {\n    Memory(AllocError),\n}\n\nfn f() -> Fault {\n    Fault::Memory(AllocError)\n}",
     "pub enum Fault {\n    Memory(AllocError),\n}\n\nfn f() -> Fault {\n    Memory(AllocError)\n}",
     "    Report::OutOfMemory { name, refused: AllocError }",
+    "    sum_of(usize::MAX, 1)?;",
+    "    sum_of(\n        18_446_744_073_709_551_615,\n        1,\n    )?;",
+    "    let room: Vec<u8> = Vec::with_capacity(alloc, usize::MAX)?;",
+    "    out.reserve(isize::MAX as usize)?;",
     "    Report::OutOfMemory {\n        refused: AllocError,\n        name,\n    }",
 )
 PASSED = (
@@ -48,6 +52,8 @@ PASSED = (
     "pub enum Report<'a> {\n    /// Of a file.\n    OutOfMemory(&'a str, AllocError),\n}",
     "fn f(refused: AllocError, name: u8) -> Report {",
     "    let refused: AllocError = error.into();",
+    "    let key = Vec::with_capacity(alloc, sum_of(texts, 3)?)?;",
+    "    self.entries.reserve(1)?;\n    let last = u64::MAX;",
 )
 
 
