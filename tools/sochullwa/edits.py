@@ -50,12 +50,14 @@ class Function:
 @dataclasses.dataclass(frozen=True)
 class Edit:
     """A mutant: its changes, the functions that these are in (None: not all are in one), the files that it
-    changes as it leaves them, and whether it is one that the compiler refuses: it has a line `by: type`."""
+    changes as it leaves them, the file and line of each change, and whether it is one that the compiler
+    refuses: it has a line `by: type`."""
 
     at: pathlib.Path
     changes: tuple[Change, ...]
     functions: tuple[Function, ...] | None
     texts: dict[str, str]
+    lines: tuple[tuple[str, int], ...] = ()
     is_by_type: bool = False
 
     @property
@@ -121,6 +123,7 @@ def read(at: pathlib.Path, crate: pathlib.Path) -> Edit | None:
     """The edit of a file, or None where a text that it changes does not stand once in its file of the
     crate."""
     texts: dict[str, str] = {}
+    lines: list[tuple[str, int]] = []
     changed, functions = tuple(changes(at.read_text())), []
     for it in changed:
         path = crate / it.file
@@ -129,10 +132,11 @@ def read(at: pathlib.Path, crate: pathlib.Path) -> Edit | None:
             return None
         is_code, place = it.file.startswith("src/"), text.index(it.old)
         functions.append(function_at(it.file, text, place) if is_code else None)
+        lines.append((it.file, text.count("\n", 0, place) + 1))
         texts[it.file] = text.replace(it.old, it.new)
     known = tuple(dict.fromkeys(it for it in functions if it))
     is_by_type = "by: type" in at.read_text().split("\n")
-    return Edit(at, changed, None if None in functions else known, texts, is_by_type)
+    return Edit(at, changed, None if None in functions else known, texts, tuple(lines), is_by_type)
 
 
 TOKENS = re.compile(r"\w+|\s+|.")

@@ -17,11 +17,15 @@ def edit(name: str, *functions: str, file: str = "src/a.rt") -> Edit:
 
 
 SOURCE = "pub fn f() -> u8 {\n    1\n}\n\npub fn g() -> u8 {\n    2\n}\n\npub fn h() -> u8 {\n    3\n}\n"
-# A prover that sees the mutants of f and g, the second only by its stored answer.
+# A prover that sees the mutants of f and g, the second only by its stored answer, and those of k. Of k a goal
+# is open, as it is, without its stored answer; one mutant leaves another open.
 PROVER = """
 answers=proofs/a/g/Answers.antt
 grep -q wrong_f src/a.rt && echo 'src/a.rt:2:5: error: the goal is open' && exit 1
 grep -q wrong_g src/a.rt && [ -e $answers ] && echo "$answers:1:1: error: no" && exit 1
+[ -e $answers ] && exit 0
+grep -q wrong_more src/a.rt && echo 'note: src/a.rt:14:9: it is not proved that it holds (`returns-in-one`)'
+grep -q 'fn k' src/a.rt && echo 'note: src/a.rt:14:5: it is not proved that it holds (`returns-2`)' && exit 1
 exit 0
 """
 
@@ -49,6 +53,19 @@ class Mutants(unittest.TestCase):
         self.assertEqual(found, wanted)
         # (all in one check; then g alone, without its answers, and h alone)
         self.assertEqual(calls, [["a::f", "a::g", "a::h"], ["a::g"], ["a::g"], ["a::h"]])
+
+    def test_a_goal_that_only_the_mutant_leaves_open_refuses_it(self) -> None:
+        with tempfile.TemporaryDirectory() as folder:
+            room = pathlib.Path(folder)
+            put(room, {"crates/kob_a/src/a.rt": SOURCE + "\npub fn k() -> u8 {\n    4\n}\n"})
+            for name in ("more", "same"):
+                put(room, {f"{name}.edit": f"file: src/a.rt\nold:     4\nnew:     wrong_{name}\n"})
+            with mock.patch.object(mutants, "CRATES", room / "crates"):
+                with mock.patch.object(mutants.proving, "command", lambda *_: ["sh", "-c", PROVER]):
+                    for name, wanted in (("more", "clause"), ("same", "stored")):
+                        made = mutants.edits.read(room / f"{name}.edit", room / "crates/kob_a")
+                        (room / name).mkdir()
+                        self.assertEqual(mutants.renewed("kob_a", made, room / name)[0], wanted)
 
     def test_a_round_has_each_function_once(self) -> None:
         one, two, three = edit("one", "f"), edit("two", "f", "g"), edit("three", "h")
