@@ -1,5 +1,5 @@
 -- A consumer's run of ticks, one tick after another.
-use Rattle.kob_scene_play.proofs.Words.{Consumer, IsConsumerStep, IsConsumerTick, IsReadOnce, Left, List, None, Option, Record, Some, Tells, ap, consumer_goes_on, consumer_line, idle_in_row, idle_with, is_some, left_after, length, option_and_then, refl, subst, sym, ℕ, ◌+◌, ◌∙◌, ◌∷◌, ◌≡◌}
+use Rattle.kob_scene_play.proofs.Words.{BeginsConsumer, BeginsRun, Consumer, IsConsumerStep, IsConsumerTick, IsReadOnce, Left, List, None, Option, Record, Some, Tells, ap, consumer_goes_on, consumer_line, idle_in_row, idle_with, is_some, left_after, length, option_and_then, refl, subst, sym, ℕ, ◌+◌, ◌∙◌, ◌∷◌, ◌≡◌}
 use Rattle.kob_scene_play.proofs.Running.{HasRun}
 use Rattle.kob_scene_play.proofs.Running as running
 use Rattle.kob_router.specs.declared.line.Loss.TheVariants as losses
@@ -52,6 +52,18 @@ module _ (partitions : ℕ) (old mid now : Consumer) (before between after : Rec
       (running.last_tick (IsConsumerTick losses.None) consumer_line (consumer_goes_on partitions) old mid now before
       between after told mid_told then_told held mid_held then_held count taken.run ticked.0 ticked.2
       (ap is_some (next ∙ so)))
+
+-- these ticks are the beginning of a run that a fault stopped
+pub began : (partitions : ℕ) (old now : Consumer) (before after : Record) (told mid_told then_told : ℕ)
+    (held mid_held then_held : List ℕ) (count idle : ℕ)
+    → HasTaken partitions old now before after told mid_told held mid_held count idle → then_told ≡ mid_told
+    → then_held ≡ mid_held → partitions ≡ length old.fetcher.subscription.assignment
+    → Tells (BeginsConsumer old before told then_told) held then_held
+began partitions old now before after told mid_told then_told held mid_held then_held count idle taken same_told same all =
+    subst (λ n. Tells (BeginsRun (IsConsumerTick losses.None) consumer_line (consumer_goes_on n) old before told then_told)
+    held then_held) all
+    (running.began (IsConsumerTick losses.None) consumer_line (consumer_goes_on partitions) old now before after told
+    mid_told then_told held mid_held then_held count taken.run same_told same)
 
 -- and the 1,000,000th
 pub spent : (partitions : ℕ) (old now : Consumer) (before after : Record) (told then_told : ℕ) (held then_held : List ℕ)

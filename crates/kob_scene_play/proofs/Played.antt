@@ -74,15 +74,29 @@ one_step_more show place before step old mid new told mid_told then_told first s
 -- a step that stopped
 pub one_step_stops : (show : Show) (all before later : List Step) (step : Step) (old mid new : Stage)
     (told mid_told then_told : ℕ) (first second : Option (List ℕ)) (held mid_held then_held : List ℕ) (fault : PlayFault)
-    → all ≡ before ++ step ∷ later
+    (place : ℕ) → all ≡ before ++ step ∷ later → place ≡ length before
     → WritesSteps show before old mid told mid_told first held second mid_held
     → MayStop step mid fault
-    → Tells (Leaves step mid_told then_told) mid_held then_held
+    → Tells (Leaves show place step mid new.recorded.journal mid_told then_told) mid_held then_held
     → EndsSteps show all old new told then_told first held second then_held (Some fault)
 one_step_stops show all before later step old mid new told mid_told then_told first second held mid_held then_held fault
-    split (front, are, (ahead, is_front, appended)) may (back, leaves, more) = (
+    place split at (front, are, (ahead, is_front, appended)) may (back, leaves, more) = (
       front ++ back,
-      (before, later, step, mid, mid_told, front, back, split, are, may, leaves, refl),
+      (
+        before,
+        later,
+        step,
+        mid,
+        mid_told,
+        new.recorded.journal,
+        front,
+        back,
+        split,
+        are,
+        may,
+        subst (λ n. Leaves show n step mid new.recorded.journal mid_told then_told back) at leaves,
+        refl,
+      ),
       (
         ahead,
         sym (append_assoc held front back) ∙ ap (λ xs. xs ++ back) is_front ∙ append_assoc ahead mid_held back

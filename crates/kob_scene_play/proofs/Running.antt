@@ -1,10 +1,15 @@
 -- A run of ticks, one tick after another.
-use Rattle.kob_scene_play.proofs.Words.{AllGoOn, AreTicks, Bool, EndsRun, IsPrinted, IsServiceTick, List, Record, Service, Tells, [], ap, append-nil, append_assoc, arith, false, inl, inr, length, refl, service_goes_on, service_line, sym, true, ℕ, ◌++◌, ◌+◌, ◌∙◌, ◌∷◌, ◌≡◌}
+use Rattle.kob_scene_play.proofs.Words.{AllGoOn, AreTicks, BeginsRun, Bool, Err, Ok, OnErr, Result, subst, EndsRun, IsPrinted, IsServiceTick, List, Record, Service, Tells, [], ap, append-nil, append_assoc, arith, false, inl, inr, length, refl, service_goes_on, service_line, sym, true, ℕ, ◌++◌, ◌+◌, ◌∙◌, ◌∷◌, ◌≡◌}
 use Rattle.kob_router.specs.declared.line.Loss.TheVariants as losses
 
 -- one text behind another
 pub joined : (held mid now one two : List ℕ) → mid ≡ held ++ one → now ≡ mid ++ two → now ≡ held ++ (one ++ two)
 joined held mid now one two first second = second ∙ ap (λ xs. xs ++ two) first ∙ append_assoc held one two
+
+-- what holds holds of an error
+pub of_error : {T E P : Type 0} (result : Result T E) → P → OnErr result P
+of_error (Ok done) it = tt
+of_error (Err fault) it = it
 
 module _ {Worker Answer : Type 0} (IsTick : Worker → Worker → Record → Record → Answer → Type 0) (line : Record → Record → Answer → List ℕ)
     (goes_on : List Answer → Bool) where
@@ -66,6 +71,22 @@ module _ {Worker Answer : Type 0} (IsTick : Worker → Worker → Record → Rec
       ),
       joined held mid_held then_held run.text ticked.0 run.printed ticked.2,
     )
+
+  -- these ticks are the beginning of a run that a fault stopped
+  pub began : (old now : Worker) (before after : Record) (told mid_told then_told : ℕ) (held mid_held then_held : List ℕ)
+      (count : ℕ) → HasRun old now before after told mid_told held mid_held count → then_told ≡ mid_told
+      → then_held ≡ mid_held → Tells (BeginsRun IsTick line goes_on old before told then_told) held then_held
+  began old now before after told mid_told then_told held mid_held then_held count run same_told same = (
+    run.text,
+    (
+      run.ticks,
+      now,
+      after,
+      run.all_go_on,
+      subst (λ n. AreTicks IsTick line run.ticks old now before after told n run.text) (sym same_told) run.are,
+    ),
+    same ∙ run.printed,
+  )
 
   ended : (ticks : List Answer) → AllGoOn goes_on ticks → length ticks ≡ 1000000 → EndsRun goes_on ticks
   ended [] all counted = omega arith

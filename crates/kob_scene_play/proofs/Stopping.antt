@@ -1,5 +1,5 @@
 -- Which faults stop what.
-use Rattle.kob_scene_play.proofs.Words.{Err, IfErr, IsErrOf, Ok, PlayFault, Record, Result, Stage, Step, arith, inl, inr, length, refl, subst, sym, ℕ, ◌≡◌}
+use Rattle.kob_scene_play.proofs.Words.{Err, IfErr, IsErrOf, Ok, PlayFault, Record, Result, Stage, Step, arith, inl, inr, length, subst, sym, ℕ, ◌≡◌}
 use Rattle.std.specs.Prelude.{alloc_error}
 use Rattle.kob_inbox.specs.declared.fault.InboxFault.{InboxFault}
 use Rattle.kob_inbox.specs.declared.fault.InboxFault.TheVariants as of_inbox

@@ -5,7 +5,7 @@ use Rattle.kob_scene_play.specs.Stages.{journal_text, IsOpened, declared_consume
 use Rattle.kob_scene_play.specs.Checks.{IsChecked}
 use Rattle.kob_scene_play.specs.Expectations.{IsExpected, all_met}
 use Rattle.kob_scene_play.specs.Laws.{IsAnswered}
-use Rattle.kob_scene_play.specs.Steps.{IsConsumerStep, IsServiceStep, Writes}
+use Rattle.kob_scene_play.specs.Steps.{BeginsConsumer, BeginsService, IsConsumerStep, IsServiceStep, Writes}
 use Rattle.kob_scene_play.specs.Stops.{MayNotOpen, MayStop}
 use Rattle.kob_scene_play.specs.declared.stage.PlayedConsumer.{PlayedConsumer}
 use Rattle.kob_scene_play.specs.declared.stage.PlayedService.{PlayedService}
@@ -128,26 +128,48 @@ ArePlayed show place (step ∷ later) old new told then_told text =
     × ArePlayed show (place + 1) later mid new mid_told then_told back
     × (text ≡ front ++ back)
 
+-- the ticks of a run that stopped, and what they print: none where there is no such worker
+abbrev pub ServiceBegan : Option PlayedService → Record → ℕ → ℕ → List ℕ → Type 0
+ServiceBegan None before told then_told text = (then_told ≡ told) × (text ≡ [])
+ServiceBegan (Some played) before told then_told text =
+    BeginsService played.service before told then_told text
+
+abbrev pub ConsumerBegan : Option PlayedConsumer → Record → ℕ → ℕ → List ℕ → Type 0
+ConsumerBegan None before told then_told text = (then_told ≡ told) × (text ≡ [])
+ConsumerBegan (Some played) before told then_told text =
+    BeginsConsumer played.consumer before told then_told text
+
+abbrev pub RunBegan : Step → Stage → ℕ → ℕ → List ℕ → Type 0
+RunBegan (steps.Service which service_steps.Run) stage told then_told text =
+    ServiceBegan (slice_get stage.services.items which) stage.recorded told then_told text
+RunBegan (steps.Consumer which consumer_steps.Run) stage told then_told text =
+    ConsumerBegan (slice_get stage.consumers.items which) stage.recorded told then_told text
+RunBegan step stage told then_told text = ⊥
+
 -- a run has an answer for each of its ticks
 abbrev pub is_run : Step → Bool
 is_run (steps.Service which service_steps.Run) = true
 is_run (steps.Consumer which consumer_steps.Run) = true
 is_run step = false
 
--- a step that stopped added no answer, unless it is a run, which can have added some
-abbrev pub Leaves : Step → ℕ → ℕ → List ℕ → Type 0
-Leaves step told then_told text =
-    (is_run step ≡ true) ⊎ ((then_told ≡ told) × (text ≡ []))
+-- A step that stopped shows nothing, or, if it is a run, the answers of its ticks before, by the
+-- journal as it is then.
+abbrev pub Leaves : Show → ℕ → Step → Stage → List Entry → ℕ → ℕ → List ℕ → Type 0
+Leaves show place step old journal told then_told text =
+    ((then_told ≡ told) × (text ≡ []))
+    ⊎ ((answers : List ℕ)
+    × RunBegan step old told then_told answers
+    × (text ≡ show.text place (length old.recorded.journal) journal answers))
 
 -- steps were played up to one that this fault stopped
 abbrev pub StopsIn : Show → List Step → Stage → PlayFault → ℕ → ℕ → List ℕ → Type 0
 StopsIn show all old fault told then_told text =
     (done later : List Step) × (step : Step) × (mid : Stage) × (mid_told : ℕ)
-    × (front back : List ℕ)
+    × (journal : List Entry) × (front back : List ℕ)
     × (all ≡ done ++ step ∷ later)
     × ArePlayed show 0 done old mid told mid_told front
     × MayStop step mid fault
-    × Leaves step mid_told then_told back
+    × Leaves show (length done) step mid journal mid_told then_told back
     × (text ≡ front ++ back)
 
 -- a stage where no step was made: each declared worker is there in its order

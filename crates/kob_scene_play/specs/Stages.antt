@@ -1,4 +1,5 @@
--- The stage as a scene opens it: its broker, and its workers as they are declared.
+-- The stage as a scene opens it: its broker, and its workers as they are declared. How its journal is
+-- printed.
 use Rattle.std.specs.List.{find, enumerate_from}
 use Rattle.std.specs.Prelude.{◌≡◌, ◌==◌, ℕ, List, [], Option, None, Some, codes, ◌++◌, flat_map, length}
 use Rattle.kob_broker.specs.State.{settings_of}

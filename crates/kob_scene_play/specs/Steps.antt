@@ -1,4 +1,5 @@
--- What an output has printed, and what of it is written.
+-- What an output has printed, and what of it is written. The workers of a scene, what their steps do,
+-- and what they print.
 use Rattle.std.specs.Io.KnownBytes.{Appends}
 use Rattle.std.specs.Prelude.{◌≡◌, ℕ, ◌+◌, List, ◌++◌, Option, [], ◌∷◌, None, Bool, true, false, ◌⊎◌, length, Some, Result, Ok, Err, IsTrue, codes, map, nat_lt, is_some, if◌then◌else◌}
 use Rattle.kob_router.specs.Line.{one_more}
@@ -250,6 +251,16 @@ EndsRun goes_on (last ∷ before) =
     AllGoOn goes_on before
     × ((goes_on (last ∷ before) ≡ false) ⊎ (length before ≡ 999999))
 
+-- a run began with these ticks, after each of which it goes on, and they print this
+abbrev pub BeginsRun : {Worker Answer : Type 0}
+    → (Worker → Worker → Record → Record → Answer → Type 0)
+    → (Record → Record → Answer → List ℕ) → (List Answer → Bool)
+    → Worker → Record → ℕ → ℕ → List ℕ → Type 0
+BeginsRun {Worker} {Answer} IsTick line goes_on old before told then_told text =
+    (ticks : List Answer) × (mid : Worker) × (between : Record)
+    × AllGoOn goes_on ticks
+    × AreTicks IsTick line ticks old mid before between told then_told text
+
 -- an event was recorded with its change under the next number, or nothing was: a text does not fit,
 -- or the id was recorded before
 abbrev pub Records : Change → OutboxEvent → Service → Service → Result ℕ RecordFault → Type 0
@@ -355,6 +366,10 @@ IsServiceChange (service_steps.Business kind key) old new told then_told text =
 IsServiceChange service_steps.Visible old new told then_told text =
     (new ≡ shown old) × IsPrinted (visible_text (length old.hidden)) told then_told text
 
+-- the ticks of a run of a service that a fault stopped, and what they print
+abbrev pub BeginsService : Service → Record → ℕ → ℕ → List ℕ → Type 0
+BeginsService = BeginsRun (IsServiceTick losses.None) service_line service_goes_on
+
 -- what a step of a service does, and the text that it prints; without a tick the journal stays
 abbrev pub IsServiceStep : ServiceStep → Service → Service → Record → Record → ℕ → ℕ → List ℕ
     → Type 0
@@ -380,6 +395,12 @@ IsConsumerChange consumer_steps.Inbox old new told then_told text =
     × (map placed_intake rows ≡ enumerate_from 1 old.inbox)
     × (then_told ≡ one_more told)
     × (text ≡ inbox_text (one_more told) rows)
+
+-- the ticks of a run of a consumer that a fault stopped, and what they print
+abbrev pub BeginsConsumer : Consumer → Record → ℕ → ℕ → List ℕ → Type 0
+BeginsConsumer old =
+    BeginsRun (IsConsumerTick losses.None) consumer_line
+    (consumer_goes_on (length old.fetcher.subscription.assignment)) old
 
 -- what a step of a consumer does, and the text that it prints; without a tick the journal stays
 abbrev pub IsConsumerStep : ConsumerStep → Consumer → Consumer → Record → Record → ℕ → ℕ → List ℕ

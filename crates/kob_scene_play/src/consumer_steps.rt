@@ -1,7 +1,8 @@
 //! The steps of a consumer.
 
-ghost use Rattle.std.specs.Prelude.{◌≡◌, IfErr, IfOk, OnOk};
-ghost use Rattle.kob_scene_play.specs.Steps.{IsConsumerChange, IsConsumerStep, IsReadOnce, Tells};
+ghost use Rattle.std.specs.Prelude.{◌≡◌, IfErr, IfOk, OnErr, OnOk};
+ghost use Rattle.kob_scene_play.specs.Steps.{BeginsConsumer, IsConsumerChange, IsConsumerStep};
+ghost use Rattle.kob_scene_play.specs.Steps.{IsReadOnce, Tells};
 ghost use Rattle.kob_scene_play.specs.Steps.{consumer_lacks, idle_with, left_after};
 ghost use Rattle.kob_scene_play.specs.Forms.{last_needs};
 ghost use Rattle.kob_scene_play.specs.Stops.{IsMemory, StopsConsumer, StopsTick};
@@ -40,6 +41,9 @@ pub(crate) fn play_consumer(
 ) -> Result<(), PlayFault>
     ensures done { OnOk result (Tells (IsConsumerStep step.now consumer.old consumer.new recorded.old
         recorded.new out.old.told out.new.told) out.old.text.items out.new.text.items) }
+    ensures left { OnErr result (step.now ≡ consumer_steps.Run → Tells (BeginsConsumer
+        consumer.old recorded.old out.old.told out.new.told) out.old.text.items
+        out.new.text.items) }
     ensures stopped { IfErr result (StopsConsumer step.now) }
 {
     match step {
@@ -53,6 +57,7 @@ pub(crate) fn play_consumer(
     }
 }
 
+/// One tick. Returns what it leaves to do. On an error nothing is printed.
 #[tactic(auto, using(crate::proofs::Stopping::tick_stops, crate::proofs::Stopping::memory_stops_tick))]
 fn tick(
     alloc: Global,
@@ -64,15 +69,17 @@ fn tick(
     ensures done { IfOk result (λ left. IsReadOnce loss left consumer.old consumer.new
         recorded.old recorded.new out.old.told out.new.told out.old.text.items
         out.new.text.items) }
+    ensures kept { OnErr result (out.new.text.items ≡ out.old.text.items) }
+    ensures count { OnErr result (out.new.told ≡ out.old.told) }
     ensures stopped { IfErr result StopsTick }
 {
     let before = recorded.journal().len();
     let tick = consumer.tick(alloc, recorded, loss)?;
     let left = left_by(&tick);
     let lacks = lacks_of(alloc, &tick, before, recorded)?;
-    let number = out.number();
-    print_consumer_tick(&mut out.text, number, tick, &lacks)?;
-    out.tell();
+    let mut line = Vec::new(alloc);
+    print_consumer_tick(&mut line, out.number(), tick, &lacks)?;
+    out.push(&line)?;
     Ok(left)
 }
 
@@ -127,6 +134,8 @@ fn run(
     ensures done { OnOk result (Tells (IsConsumerStep consumer_steps.Run consumer.old consumer.new
         recorded.old recorded.new out.old.told out.new.told) out.old.text.items
         out.new.text.items) }
+    ensures left { OnErr result (Tells (BeginsConsumer consumer.old recorded.old out.old.told
+        out.new.told) out.old.text.items out.new.text.items) }
     ensures stopped { IfErr result StopsTick }
 {
     let partitions = consumer.subscription().assignment.len();

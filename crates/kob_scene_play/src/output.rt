@@ -1,7 +1,7 @@
 //! The answers to a step.
 
 ghost use Rattle.std.specs.Fmt.{decimal};
-ghost use Rattle.std.specs.Prelude.{◌≡◌, ◌++◌, [], OnOk, take};
+ghost use Rattle.std.specs.Prelude.{◌≡◌, ◌++◌, [], OnErr, OnOk};
 ghost use Rattle.kob_router.specs.Line.{one_more};
 
 use kob_words::push_number;
@@ -11,9 +11,7 @@ use std::alloc::{AllocError, Global};
 /// each request and to each step has the next number.
 #[derive(Drop)]
 pub(crate) struct Output {
-    /// What was printed. Its first bytes are whole lines; the line of an answer may follow.
     pub(crate) text: Vec<u8>,
-    whole: usize,
     pub(crate) told: u64,
 }
 
@@ -22,7 +20,6 @@ impl Output {
     pub(crate) fn new(alloc: Global) -> Output {
         Output {
             text: Vec::new(alloc),
-            whole: 0,
             told: 0,
         }
     }
@@ -33,7 +30,6 @@ impl Output {
         ensures told { self.new.told ≡ told }
     {
         self.text.clear();
-        self.whole = 0;
         self.told = told;
     }
 
@@ -50,23 +46,18 @@ impl Output {
         ensures told { self.new.told ≡ one_more self.old.told }
     {
         self.told = self.told.saturating_add(1);
-        self.end_line();
     }
 
-    /// Adds a line that was printed to the result before it.
-    pub(crate) fn end_line(&mut self)
-        ensures text { self.new.text ≡ self.old.text }
-        ensures told { self.new.told ≡ self.old.told }
+    /// Adds the line of the next result, or nothing.
+    pub(crate) fn push(&mut self, line: &[u8]) -> Result<(), AllocError>
+        ensures text { OnOk result (self.new.text.items ≡ self.old.text.items ++ line.now) }
+        ensures told { OnOk result (self.new.told ≡ one_more self.old.told) }
+        ensures kept { OnErr result (self.new.text.items ≡ self.old.text.items) }
+        ensures count { OnErr result (self.new.told ≡ self.old.told) }
     {
-        self.whole = self.text.len();
-    }
-
-    /// Drops the line that was begun.
-    pub(crate) fn cut(&mut self)
-        ensures text { self.new.text.items ≡ take self.old.whole self.old.text.items }
-        ensures told { self.new.told ≡ self.old.told }
-    {
-        self.text.truncate(self.whole);
+        self.text.extend_from_slice(line)?;
+        self.tell();
+        Ok(())
     }
 }
 

@@ -1,14 +1,16 @@
 //! The playing of a scene.
 
-ghost use Rattle.std.specs.Prelude.{◌≡◌, ◌++◌, [], IfErr, IfOk, OnErr, OnOk};
+ghost use Rattle.std.specs.Prelude.{◌≡◌, ◌++◌, [], IfErr, IfOk, OnErr, OnOk, slice_get, true};
 ghost use Rattle.kob_router.specs.Line.{one_more};
 ghost use Rattle.kob_scene_play.specs.Steps.{Tells};
-ghost use Rattle.kob_scene_play.specs.Scenes.{IsRead, IsServed, IsShown, IsStep, Leaves};
-ghost use Rattle.kob_scene_play.specs.Scenes.{OthersStay, is_run};
+ghost use Rattle.kob_scene_play.specs.Scenes.{ConsumerBegan, IsRead, IsServed, IsShown, IsStep};
+ghost use Rattle.kob_scene_play.specs.Scenes.{Leaves, OthersStay, RunBegan, ServiceBegan, is_run};
 ghost use Rattle.kob_scene_play.specs.Scenes.{EndsAs, EndsScene, EndsSteps, show_by};
 ghost use Rattle.kob_scene_play.specs.Stops.{MayStop, StopsConsumerAt, StopsRequest};
 ghost use Rattle.kob_scene_play.specs.Stops.{StopsServiceAt};
 ghost use Rattle.kob_script.specs.Printed.{reply_text};
+ghost use Rattle.kob_scene_text.specs.declared.scene.ConsumerStep.TheVariants as consumer_steps;
+ghost use Rattle.kob_scene_text.specs.declared.scene.ServiceStep.TheVariants as service_steps;
 ghost use Rattle.kob_shared.specs.Journals.{after_event, outcome_of};
 
 use crate::check::show_check;
@@ -154,7 +156,9 @@ fn show_step<'s>(
         (IsShown (show_by showing.entry.shown.now showing.entry.lines.now) place step.now
         stage.old stage.new page.old.told page.new.told)
         page.old.text.items page.new.text.items) }
-    ensures stopped { OnErr result (Tells (Leaves step.now page.old.told page.new.told)
+    ensures stopped { OnErr result (Tells
+        (Leaves (show_by showing.entry.shown.now showing.entry.lines.now) place step.now
+        stage.old stage.new.recorded.journal page.old.told page.new.told)
         page.old.text.items page.new.text.items) }
     ensures fault { IfErr result (MayStop step.now stage.old) }
 {
@@ -164,7 +168,6 @@ fn show_step<'s>(
         Ok(()) => Ok(page.show(alloc, showing, place, before, stage.recorded.journal(), out)?),
         Err(fault) => {
             if is_run(step) {
-                out.cut();
                 let _ = page.show(alloc, showing, place, before, stage.recorded.journal(), out);
             }
             Err(fault)
@@ -194,6 +197,8 @@ fn play_step<'s>(
     ensures done { OnOk result (Tells
         (IsStep step.now line stage.old stage.new out.old.told out.new.told)
         out.old.text.items out.new.text.items) }
+    ensures left { OnErr result (is_run step.now ≡ true → Tells (RunBegan step.now stage.old
+        out.old.told out.new.told) out.old.text.items out.new.text.items) }
     ensures stopped { IfErr result (MayStop step.now stage.old) }
 {
     match step {
@@ -225,6 +230,9 @@ fn play_service_at<'s>(
     ensures done { OnOk result (Tells (IsServed which step.now stage.old.services.items
         stage.new.services.items stage.old.recorded stage.new.recorded out.old.told
         out.new.told) out.old.text.items out.new.text.items) }
+    ensures left { OnErr result (step.now ≡ service_steps.Run → Tells (ServiceBegan
+        (slice_get stage.old.services.items which) stage.old.recorded out.old.told out.new.told)
+        out.old.text.items out.new.text.items) }
     ensures stopped { IfErr result (StopsServiceAt which step.now stage.old) }
 {
     match stage.services.get_mut(which) {
@@ -247,6 +255,9 @@ fn play_consumer_at(
     ensures done { OnOk result (Tells (IsRead which step.now stage.old.consumers.items
         stage.new.consumers.items stage.old.recorded stage.new.recorded out.old.told
         out.new.told) out.old.text.items out.new.text.items) }
+    ensures left { OnErr result (step.now ≡ consumer_steps.Run → Tells (ConsumerBegan
+        (slice_get stage.old.consumers.items which) stage.old.recorded out.old.told out.new.told)
+        out.old.text.items out.new.text.items) }
     ensures stopped { IfErr result (StopsConsumerAt which step.now stage.old) }
 {
     match stage.consumers.get_mut(which) {

@@ -1,7 +1,7 @@
 //! The steps of a service.
 
-ghost use Rattle.std.specs.Prelude.{◌≡◌, IfErr, IfOk, OnOk};
-ghost use Rattle.kob_scene_play.specs.Steps.{IsPrinted};
+ghost use Rattle.std.specs.Prelude.{◌≡◌, IfErr, IfOk, OnErr, OnOk};
+ghost use Rattle.kob_scene_play.specs.Steps.{BeginsService, IsPrinted};
 ghost use Rattle.kob_scene_text.specs.PrintedRows.{recorded_text};
 ghost use Rattle.kob_scene_play.specs.Steps.{IsServiceChange, IsServiceStep, IsTold, Tells};
 ghost use Rattle.kob_scene_play.specs.Steps.{goes_on_after, service_lacks};
@@ -38,6 +38,8 @@ pub(crate) fn play_service<'s>(
 ) -> Result<(), PlayFault>
     ensures done { OnOk result (Tells (IsServiceStep step.now service.old service.new recorded.old
         recorded.new out.old.told out.new.told) out.old.text.items out.new.text.items) }
+    ensures left { OnErr result (step.now ≡ service_steps.Run → Tells (BeginsService service.old
+        recorded.old out.old.told out.new.told) out.old.text.items out.new.text.items) }
     ensures stopped { IfErr result (StopsService step.now) }
 {
     match step {
@@ -169,7 +171,7 @@ fn show_rows(service: &mut ServiceWorker<'_>, out: &mut Output) -> Result<(), Pl
     Ok(())
 }
 
-/// One tick. Returns true if the next one has something to do.
+/// One tick. Returns true if the next one has something to do. On an error nothing is printed.
 #[tactic(auto, using(crate::proofs::Stopping::tick_stops, crate::proofs::Stopping::memory_stops_tick))]
 fn tick(
     alloc: Global,
@@ -181,15 +183,17 @@ fn tick(
     ensures done { IfOk result (λ goes_on. IsTold loss goes_on service.old service.new
         recorded.old recorded.new out.old.told out.new.told out.old.text.items
         out.new.text.items) }
+    ensures kept { OnErr result (out.new.text.items ≡ out.old.text.items) }
+    ensures count { OnErr result (out.new.told ≡ out.old.told) }
     ensures stopped { IfErr result StopsTick }
 {
     let before = recorded.journal().len();
     let tick = service.tick(alloc, recorded, loss)?;
     let goes_on = goes_on(&tick);
     let lacks = lacks_of(alloc, &tick, before, recorded)?;
-    let number = out.number();
-    print_service_tick(&mut out.text, number, tick, &lacks)?;
-    out.tell();
+    let mut line = Vec::new(alloc);
+    print_service_tick(&mut line, out.number(), tick, &lacks)?;
+    out.push(&line)?;
     Ok(goes_on)
 }
 
@@ -232,6 +236,8 @@ fn run(
     ensures done { OnOk result (Tells (IsServiceStep service_steps.Run service.old service.new
         recorded.old recorded.new out.old.told out.new.told) out.old.text.items
         out.new.text.items) }
+    ensures left { OnErr result (Tells (BeginsService service.old recorded.old out.old.told
+        out.new.told) out.old.text.items out.new.text.items) }
     ensures stopped { IfErr result StopsTick }
 {
     for _ in 0..RUN_LIMIT {

@@ -32,7 +32,8 @@ returns-in-Err g c =
     sym (take-append-drop (place + 1) steps) ∙ ap (λ front. front ++ later) more ∙ append_assoc before (step ∷ []) later in
     one_step_stops (show_by c.args.showing.shown.now c.args.showing.lines.now) steps before later step c.args.stage.now
     c.loop-place.stage c.show_step.new.stage c.args.page.now.told c.loop-place.page.told c.show_step.new.page.told _ _
-    c.args.page.now.text.items c.loop-place.page.text.items c.show_step.new.page.text.items c.in-Err.fault split
+    c.args.page.now.text.items c.loop-place.page.text.items c.show_step.new.page.text.items c.in-Err.fault place split
+    (sym (length-take-le place steps (omega (arith, c.loop-place-test.true))))
     c.loop-place.invariant c.in-Err.ensures.fault c.in-Err.ensures.stopped
 
 pub returns : goal.returns
