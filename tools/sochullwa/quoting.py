@@ -5,7 +5,7 @@ import pathlib
 import re
 from collections.abc import Callable, Iterable
 
-from sochullwa import citing
+from sochullwa import citing, repository
 from sochullwa.repository import CRATES, TOP, listed
 
 BLOCK = re.compile(
@@ -151,13 +151,13 @@ def edits(name: str) -> str:
 
 
 def tried(name: str) -> str:
-    """What came of the mutants of each crate when they were tried last, by the file that keeps it."""
-    verdicts = {it: kept["verdict"] for it, kept in json.loads((TOP / name).read_text()).items()}
+    """What came of the mutants of each crate when their present text was tried, by the file that keeps it."""
+    known = {(it, kept["text"]): kept["verdict"] for it, kept in json.loads((TOP / name).read_text()).items()}
     whole: collections.Counter[str] = collections.Counter()
     rows: list[tuple[str, collections.Counter[str]]] = []
     for folder in sorted(it for it in (TOP / name).parent.iterdir() if it.is_dir()):
-        found = (f"{folder.name}/{it.name}" for it in folder.glob("*.edit"))
-        counts = collections.Counter(verdicts.get(it, "untried") for it in found)
+        found = ((f"{folder.name}/{it.name}", repository.sum_of(it)) for it in folder.glob("*.edit"))
+        counts = collections.Counter(known.get(it, "untried") for it in found)
         rows.append((folder.name, counts))
         whole += counts
     kinds = sorted(whole, key=lambda it: (it == "untried", it))

@@ -20,6 +20,11 @@ def listed(text: str) -> dict[str, list[str]]:
     return {head.split()[0]: used.split() for head, _, used in rows if head.strip()}
 
 
+def sum_of(file: pathlib.Path) -> str:
+    """A short sum of a file, which tells its texts apart."""
+    return hashlib.sha256(file.read_bytes()).hexdigest()[:16]
+
+
 def crates() -> dict[str, list[str]]:
     return listed((TOP / "crates.txt").read_text())
 

@@ -28,7 +28,11 @@ FILES = {
     "examples/one.txt": "first line\n",
     "mutants/kob/wrong.edit": "file: src/main.rt\n",
     "mutants/kob/new.edit": "file: src/main.rt\n",
-    "mutants/tried.json": '{"kob/wrong.edit": {"verdict": "clause"}, "kob/gone.edit": {"verdict": "stored"}}',
+    "mutants/kob/changed.edit": "file: src/main.rt\n",
+    # (the first is the sum of "file: src/main.rt\n"; the second is that of another text)
+    "mutants/tried.json": '{"kob/wrong.edit": {"verdict": "clause", "text": "a4447d7191afa0b7"}, '
+    '"kob/changed.edit": {"verdict": "clause", "text": "0"}, '
+    '"kob/gone.edit": {"verdict": "stored", "text": "0"}}',
     "docs/pictures/two.dot": "digraph {}\n",
 }
 
@@ -94,10 +98,10 @@ class Guide(unittest.TestCase):
             "files Mark": "kob_low: specs/Marks.antt, src/lib.rt\n",
             "files Mark in kob_low kob": "kob_low: specs/Marks.antt, src/lib.rt\n",
             "layers crates.txt": " 2  kob\n 1  low\n",
-            "edits mutants": "kob 2\nall 2\n",
+            "edits mutants": "kob 3\nall 3\n",
             "tried mutants/tried.json": (
                 f"{'':32}{'clause':>13}{'untried':>13}\n"
-                f"{'kob':32}{1:>13}{1:>13}\n{'all':32}{1:>13}{1:>13}\n"
+                f"{'kob':32}{1:>13}{2:>13}\n{'all':32}{1:>13}{2:>13}\n"
             ),
             "lines crates.txt": (
                 f"{'lines':32}{'code':>13}{'contracts':>13}{'definitions':>13}{'proofs':>13}\n"

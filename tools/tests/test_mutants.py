@@ -121,10 +121,10 @@ class Mutants(unittest.TestCase):
             put(pathlib.Path(folder), {"crate/it.edit": "file: src/a.rt\n"})
             at = pathlib.Path(folder) / "crate/it.edit"
             for verdict, text, is_refused in (
-                ("clause", mutants.sum_of_text(at), True),
-                ("rule", mutants.sum_of_text(at), True),
-                ("type", mutants.sum_of_text(at), True),
-                ("stored", mutants.sum_of_text(at), False),
+                ("clause", mutants.sum_of(at), True),
+                ("rule", mutants.sum_of(at), True),
+                ("type", mutants.sum_of(at), True),
+                ("stored", mutants.sum_of(at), False),
                 ("clause", "0", False),
             ):
                 known = {"crate/it.edit": {"verdict": verdict, "text": text}}
