@@ -1,8 +1,8 @@
 -- What is printed about lists, in each form.
-use Rattle.std.specs.Prelude.{◌≡◌, ℕ, ◌==◌, ◌&&◌, Bool, List, [], ◌∷◌, ◌++◌, codes, if◌then◌else◌, length, map}
+use Rattle.std.specs.Prelude.{◌≡◌, ◌⊎◌, ℕ, ◌+◌, ◌==◌, ◌&&◌, Bool, List, [], ◌∷◌, ◌++◌, codes, if◌then◌else◌, length, map}
 use Rattle.std.specs.Fmt.{decimal}
 use Rattle.std.specs.List.{flat_map}
-use Rattle.kob.specs.Ending.{ending_of_changes}
+use Rattle.kob.specs.Ending.{IsFailure, ending_of_answers, ending_of_changes, worse}
 use Rattle.kob.specs.Commands.{commands_text}
 use Rattle.kob.specs.declared.ending.Ending.{Ending}
 use Rattle.kob.specs.declared.ending.Ending.TheVariants.{Whole, Failed}
@@ -15,7 +15,7 @@ use Rattle.kob_policy_rows.specs.Csv.{answers_csv, table_text}
 use Rattle.kob_policy_rows.specs.Json.{answers_json, files_line, lines_text}
 use Rattle.kob_policy_rows.specs.Logs.{log_line}
 use Rattle.kob_policy_text.specs.Answers.{omissions_text}
-use Rattle.kob_policy_text.specs.LogAnswers.{log_text}
+use Rattle.kob_policy_text.specs.LogAnswers.{differs, log_text}
 use Rattle.kob_policy_text.specs.Moved.{moved_text}
 use Rattle.kob_policy_text.specs.Policy.{Policy}
 use Rattle.kob_policy_text.specs.Review.{answers_text, changes_text}
@@ -45,6 +45,22 @@ abbrev pub log_in : AnswerForm → Policy → ℕ → List ℕ → List ℕ → 
 log_in form.Words policy number file text = log_words policy number file text
 log_in form.Json policy number file text = log_line policy number file text
 log_in form.Csv policy number file text = log_words policy number file text
+
+module _ (form : AnswerForm) (policy : Policy) where
+  -- The answer about the log of a file: one text of it says what is printed and how it ends. A file that
+  -- was not read is reported, and nothing is printed.
+  abbrev pub IsLogAnswer : ℕ → List ℕ → List ℕ → List ℕ → Ending → Type 0
+  IsLogAnswer number file before after ending =
+      (IsFailure ending × (after ≡ before))
+      ⊎ ((text : List ℕ) × ((ending ≡ ending_of_answers (differs policy text))
+      × (after ≡ before ++ log_in form policy number file text)))
+
+  -- The answers about logs in order, numbered on. All end as the worst of them and of what ended before.
+  abbrev pub AreLogAnswers : ℕ → List (List ℕ) → List ℕ → List ℕ → Ending → Ending → Type 0
+  AreLogAnswers number [] before after so_far ending = (after ≡ before) × (ending ≡ so_far)
+  AreLogAnswers number (file ∷ files) before after so_far ending =
+      (between : List ℕ) × (one : Ending) × (IsLogAnswer (number + 1) file before between one
+      × AreLogAnswers (number + 1) files between after (worse so_far one) ending)
 
 -- the files of bindings; without one, standard input
 abbrev pub or_standard : List (List ℕ) → List (List ℕ)

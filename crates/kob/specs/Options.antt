@@ -1,5 +1,5 @@
 -- What the words of the command line ask for.
-use Rattle.std.specs.Prelude.{ℕ, Bool, true, false, ◌++◌, ◌&&◌, ◌||◌, ◌==◌, List, [], ◌∷◌, Option, Some, None, codes, drop, filter, find, if◌then◌else◌, map, nat_eq, not, unwrap_or}
+use Rattle.std.specs.Prelude.{ℕ, Bool, true, false, ◌++◌, ◌&&◌, ◌||◌, ◌==◌, List, [], ◌∷◌, Option, Some, None, codes, drop, filter, find, if◌then◌else◌, length, map, nat_eq, nat_lt, not, unwrap_or}
 use Rattle.std.specs.List.{list_any, starts_with}
 use Rattle.std.specs.Str.{bytes_eq}
 use Rattle.clap.specs.Words.{Row, all_of, first_of}
@@ -136,6 +136,10 @@ with_form (Some asked) options = record options { form = asked }
 -- one form counts for all parts: the first that is asked for
 abbrev pub shared : List Options → List Options
 shared parts = map (with_form (find is_asked (map (λ part. part.form) parts))) parts
+
+-- no answer is expected of the commands that lead from one list to another
+abbrev pub can_differ_by : Options → Bool
+can_differ_by options = not (options.commands && nat_lt 0 (length options.before))
 
 abbrev pub table_asked : Question → Tables
 table_asked question = if is_table question then tables.One else tables.Not

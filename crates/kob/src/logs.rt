@@ -1,9 +1,9 @@
 //! The logs of brokers that are asked about.
 
-ghost use Rattle.std.specs.Prelude.{◌≡◌, ◌++◌, IfOk, OnOk, codes};
+ghost use Rattle.std.specs.Prelude.{◌≡◌, ◌++◌, IfOk, OnOk, codes, length};
 ghost use Rattle.std.specs.Fmt.{decimal};
 ghost use Rattle.kob.specs.Ending.{ending_of_answers};
-ghost use Rattle.kob.specs.Answers.{log_in, log_words};
+ghost use Rattle.kob.specs.Answers.{AreLogAnswers, IsLogAnswer, log_in, log_words};
 ghost use Rattle.kob_policy_text.specs.LogAnswers.{differs};
 
 use crate::ending::{Ending, ending_of_answers};
@@ -24,11 +24,14 @@ pub(crate) fn answer_logs<R: AllocGlobal + Files + Input + Eprint>(
     options: &Options,
     questions: &Questions,
     judge: &Judge,
-) -> Result<Ending, AllocError> {
+) -> Result<Ending, AllocError>
+    ensures { IfOk result (AreLogAnswers options.now.form judge.now (length questions.now.asked)
+        options.now.logs out.old.items out.new.items Ending.Whole) }
+{
     let mut number = questions.asked().len() as u64;
     let mut ending = Ending::Whole;
     for file in options.logs.as_slice() {
-        number = number.saturating_add(1);
+        number += 1;
         ending = ending.worse(answer_log(rt, options.form, out, judge, number, file.as_str())?);
     }
     Ok(ending)
@@ -41,7 +44,10 @@ fn answer_log<R: AllocGlobal + Files + Input + Eprint>(
     judge: &Judge,
     number: u64,
     file: &str,
-) -> Result<Ending, AllocError> {
+) -> Result<Ending, AllocError>
+    ensures { IfOk result
+        (IsLogAnswer form judge.now number file.now out.old.items out.new.items) }
+{
     match text_of(rt, Kind::List, file) {
         Ok(text) => push_log(rt.alloc(), form, out, judge, number, file, &text),
         Err(fault) => Ok(report::unread(rt, file, &fault)),

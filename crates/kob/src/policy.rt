@@ -1,10 +1,12 @@
 //! Questions about lists of bindings: one list with its questions, or two lists and what changes
 //! from one to the other.
 
+ghost use Rattle.std.specs.List.{list_any};
 ghost use Rattle.std.specs.Prelude.{◌≡◌, ◌≢◌, IfErr, IfOk, Ok, OnOk, false, length, nat_lt, true};
 ghost use Rattle.kob.specs.Answers.{ending_in};
 ghost use Rattle.kob.specs.Ending.{IsFailedStop, ending_of_part};
-ghost use Rattle.kob.specs.Options.{table_asked, tables_asked};
+ghost use Rattle.kob.specs.CommandLine.{parts_by};
+ghost use Rattle.kob.specs.Options.{can_differ_by, table_asked, tables_asked};
 ghost use Rattle.kob_policy_text.specs.Access.{any_fails};
 ghost use Rattle.kob_policy_text.specs.Questions.{with_questions, with_topics};
 
@@ -30,18 +32,24 @@ pub fn answer<R: AllocGlobal + Clock + Files + Input + Print + Eprint>(
     rt: &R,
     words: &[String],
     is_watched: bool,
-) -> Ending {
+) -> Ending
+    ensures { list_any can_differ_by (parts_by words.now) ≡ false
+        → result ≢ Ending.Differs }
+{
     match parts_of(rt.alloc(), words) {
         Ok(parts) => answer_parts(rt, &parts, is_watched),
         Err(refused) => say(rt, &refused),
     }
 }
 
+#[tactic(auto, using(crate::proofs::Ends::not_worse, crate::proofs::Ends::part_not_differs))]
 fn answer_parts<R: AllocGlobal + Clock + Files + Input + Print + Eprint>(
     rt: &R,
     parts: &[Options],
     is_watched: bool,
-) -> Ending {
+) -> Ending
+    ensures { list_any can_differ_by parts.now ≡ false → result ≢ Ending.Differs }
+{
     let stages = Stages::begin(rt, is_watched);
     let mut out = Vec::new(rt.alloc());
     let mut ending = Ending::Whole;
@@ -71,7 +79,9 @@ fn print_part<R: AllocGlobal + Clock + Files + Input + Eprint>(
     options: &Options,
     headed: bool,
 ) -> Result<Ending, Stop>
-    ensures { IfErr result IsFailedStop }
+    ensures failure { IfErr result IsFailedStop }
+    ensures commands { IfOk result (λ ending. can_differ_by options.now ≡ false
+        → ending ≢ Ending.Differs) }
 {
     if headed {
         if options.form == AnswerForm::Csv {
@@ -92,7 +102,9 @@ fn answer_part<R: AllocGlobal + Clock + Files + Input + Eprint>(
     out: &mut Vec<u8>,
     options: &Options,
 ) -> Result<Ending, Stop>
-    ensures { IfErr result IsFailedStop }
+    ensures failure { IfErr result IsFailedStop }
+    ensures commands { IfOk result (λ ending. can_differ_by options.now ≡ false
+        → ending ≢ Ending.Differs) }
 {
     if options.form == AnswerForm::Csv && options.logs.len() > 0 {
         return Err(Stop::Ended(tell(rt, Report::NoTable("log"))));
@@ -111,7 +123,9 @@ fn answer_asked<R: AllocGlobal + Clock + Files + Input + Eprint>(
     questions: &mut Questions,
     asked: &mut Vec<Asked>,
 ) -> Result<Ending, Stop>
-    ensures { IfErr result IsFailedStop }
+    ensures failure { IfErr result IsFailedStop }
+    ensures commands { IfOk result (λ ending. can_differ_by options.now ≡ false
+        → ending ≢ Ending.Differs) }
 {
     push_questions(rt, out, questions, asked, options)?;
     if options.form == AnswerForm::Csv {
@@ -305,7 +319,9 @@ fn review<R: AllocGlobal + Clock + Files + Input + Eprint>(
     questions: &Questions,
     asked: &[Asked],
 ) -> Result<Ending, Stop>
-    ensures { IfErr result IsFailedStop }
+    ensures failure { IfErr result IsFailedStop }
+    ensures commands { IfOk result (λ ending. options.now.commands ≡ true
+        → ending ≢ Ending.Differs) }
 {
     let before = judge_of(rt, stages, out, options, Side::Before)?;
     let reviewed = review_from(rt, stages, out, options, questions, asked, &before);
@@ -323,7 +339,9 @@ fn review_from<R: AllocGlobal + Clock + Files + Input + Eprint>(
     before: &Listed,
 ) -> Result<Ending, Stop>
     requires { before.now.side ≡ Side.Before }
-    ensures { IfErr result IsFailedStop }
+    ensures failure { IfErr result IsFailedStop }
+    ensures commands { IfOk result (λ ending. options.now.commands ≡ true
+        → ending ≢ Ending.Differs) }
 {
     let after = judge_of(rt, stages, out, options, Side::After)?;
     stages.tell(
