@@ -35,7 +35,8 @@ impl Broker {
     ghost use Rattle.kob_partition.specs.Retained.{retained_meaning};
 
     /// A broker with no topics and no groups, with the opening bindings in force under serials from
-    /// 1 on. `TooMany` is returned if the opening list holds more than 100,000 different bindings.
+    /// 1 on. `TooMany` is returned only if the opening list holds more than 100,000 different
+    /// bindings, and then nothing else is but out of memory.
     pub fn open(alloc: Global, settings: Settings) -> Result<Broker, OpenFault>
         ensures ok { IfOk result (λ broker. state_of broker ≡ open_state settings) }
         ensures few { OnOk result (create_fault [] 1 settings.opening ≡ None) }

@@ -84,7 +84,7 @@ impl RotatingBroker {
         }
     }
 
-    /// Hands out the whole journal under the lock, and continues with an empty one, as
+    /// Hands out the journal under the lock, and continues with an empty one, as
     /// `Continued::rotate` does. Sessions go on, and places count on. `first_place` is the place
     /// where the journal begins: that after the last entry which was handed out. `OutOfTurn` is
     /// returned exactly if it begins elsewhere, so that no two callers hand out journals in turn
