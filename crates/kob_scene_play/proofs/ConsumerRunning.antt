@@ -54,15 +54,15 @@ module _ (partitions : ℕ) (old mid now : Consumer) (before between after : Rec
       (ap is_some (next ∙ so)))
 
 -- these ticks are the beginning of a run that a fault stopped
-pub began : (partitions : ℕ) (old now : Consumer) (before after : Record) (told mid_told then_told : ℕ)
+pub run_begins : (partitions : ℕ) (old now : Consumer) (before after : Record) (told mid_told then_told : ℕ)
     (held mid_held then_held : List ℕ) (count idle : ℕ)
     → HasTaken partitions old now before after told mid_told held mid_held count idle → then_told ≡ mid_told
     → then_held ≡ mid_held → partitions ≡ length old.fetcher.subscription.assignment
     → Tells (BeginsConsumer old before told then_told) held then_held
-began partitions old now before after told mid_told then_told held mid_held then_held count idle taken same_told same all =
+run_begins partitions old now before after told mid_told then_told held mid_held then_held count idle taken same_told same all =
     subst (λ n. Tells (BeginsRun (IsConsumerTick losses.None) consumer_line (consumer_goes_on n) old before told then_told)
     held then_held) all
-    (running.began (IsConsumerTick losses.None) consumer_line (consumer_goes_on partitions) old now before after told
+    (running.run_begins (IsConsumerTick losses.None) consumer_line (consumer_goes_on partitions) old now before after told
     mid_told then_told held mid_held then_held count taken.run same_told same)
 
 -- and the 1,000,000th

@@ -73,10 +73,10 @@ module _ {Worker Answer : Type 0} (IsTick : Worker → Worker → Record → Rec
     )
 
   -- these ticks are the beginning of a run that a fault stopped
-  pub began : (old now : Worker) (before after : Record) (told mid_told then_told : ℕ) (held mid_held then_held : List ℕ)
+  pub run_begins : (old now : Worker) (before after : Record) (told mid_told then_told : ℕ) (held mid_held then_held : List ℕ)
       (count : ℕ) → HasRun old now before after told mid_told held mid_held count → then_told ≡ mid_told
       → then_held ≡ mid_held → Tells (BeginsRun IsTick line goes_on old before told then_told) held then_held
-  began old now before after told mid_told then_told held mid_held then_held count run same_told same = (
+  run_begins old now before after told mid_told then_told held mid_held then_held count run same_told same = (
     run.text,
     (
       run.ticks,

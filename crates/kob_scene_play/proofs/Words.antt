@@ -24,7 +24,7 @@ pub use Rattle.kob_scene_play.specs.declared.law.Coverage.{Coverage}
 pub use Rattle.kob_delivery_check.specs.Printed.{check_text}
 pub use Rattle.kob_scene_play.specs.Checks.{IsChecked, IsFound}
 pub use Rattle.kob_scene_play.specs.Steps.{BeginsConsumer, BeginsRun, BeginsService, Tells, Writes, AllGoOn, AreTicks, EndsRun, IsConsumerStep, IsServiceStep, IsTold, Records, Consumer, Does, IsConsumerTick, IsOwnTick, IsRouterTick, IsSameConsumer, IsServiceTick, LosesFirst, Service, IsConsumerChange, IsPrinted, IsReadOnce, IsServiceChange, IsSameService, consumer_goes_on, consumer_line, service_line, idle_in_row, idle_with, left_after, recorded_after, service_goes_on}
-pub use Rattle.kob_scene_play.specs.Scenes.{ArePlayed, EndsAs, EndsScene, EndsSteps, IsRead, IsReady, IsServed, IsShown, IsStep, ConsumerBegan, IsWritten, Leaves, OthersStay, RunBegan, ServiceBegan, Show, StopsIn, WritesSteps, show_of}
+pub use Rattle.kob_scene_play.specs.Scenes.{ArePlayed, EndsAs, EndsScene, EndsSteps, IsRead, IsReady, IsServed, IsShown, IsStep, IsConsumerBeginning, IsWritten, Leaves, OthersStay, IsRunBeginning, IsServiceBeginning, Show, StopsIn, WritesSteps, show_of}
 pub use Rattle.kob_scene_play.specs.Forms.{fault_shown, shown_by, shown_text, stopped_shown}
 pub use Rattle.kob_scene_play.specs.declared.form.Form.{Form}
 pub use Rattle.kob_scene_play.specs.declared.form.Shown.{Shown}

@@ -129,22 +129,22 @@ ArePlayed show place (step ∷ later) old new told then_told text =
     × (text ≡ front ++ back)
 
 -- the ticks of a run that stopped, and what they print: none where there is no such worker
-abbrev pub ServiceBegan : Option PlayedService → Record → ℕ → ℕ → List ℕ → Type 0
-ServiceBegan None before told then_told text = (then_told ≡ told) × (text ≡ [])
-ServiceBegan (Some played) before told then_told text =
+abbrev pub IsServiceBeginning : Option PlayedService → Record → ℕ → ℕ → List ℕ → Type 0
+IsServiceBeginning None before told then_told text = (then_told ≡ told) × (text ≡ [])
+IsServiceBeginning (Some played) before told then_told text =
     BeginsService played.service before told then_told text
 
-abbrev pub ConsumerBegan : Option PlayedConsumer → Record → ℕ → ℕ → List ℕ → Type 0
-ConsumerBegan None before told then_told text = (then_told ≡ told) × (text ≡ [])
-ConsumerBegan (Some played) before told then_told text =
+abbrev pub IsConsumerBeginning : Option PlayedConsumer → Record → ℕ → ℕ → List ℕ → Type 0
+IsConsumerBeginning None before told then_told text = (then_told ≡ told) × (text ≡ [])
+IsConsumerBeginning (Some played) before told then_told text =
     BeginsConsumer played.consumer before told then_told text
 
-abbrev pub RunBegan : Step → Stage → ℕ → ℕ → List ℕ → Type 0
-RunBegan (steps.Service which service_steps.Run) stage told then_told text =
-    ServiceBegan (slice_get stage.services.items which) stage.recorded told then_told text
-RunBegan (steps.Consumer which consumer_steps.Run) stage told then_told text =
-    ConsumerBegan (slice_get stage.consumers.items which) stage.recorded told then_told text
-RunBegan step stage told then_told text = ⊥
+abbrev pub IsRunBeginning : Step → Stage → ℕ → ℕ → List ℕ → Type 0
+IsRunBeginning (steps.Service which service_steps.Run) stage told then_told text =
+    IsServiceBeginning (slice_get stage.services.items which) stage.recorded told then_told text
+IsRunBeginning (steps.Consumer which consumer_steps.Run) stage told then_told text =
+    IsConsumerBeginning (slice_get stage.consumers.items which) stage.recorded told then_told text
+IsRunBeginning step stage told then_told text = ⊥
 
 -- a run has an answer for each of its ticks
 abbrev pub is_run : Step → Bool
@@ -158,7 +158,7 @@ abbrev pub Leaves : Show → ℕ → Step → Stage → List Entry → ℕ → �
 Leaves show place step old journal told then_told text =
     ((then_told ≡ told) × (text ≡ []))
     ⊎ ((answers : List ℕ)
-    × RunBegan step old told then_told answers
+    × IsRunBeginning step old told then_told answers
     × (text ≡ show.text place (length old.recorded.journal) journal answers))
 
 -- steps were played up to one that this fault stopped

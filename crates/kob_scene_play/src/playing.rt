@@ -3,8 +3,9 @@
 ghost use Rattle.std.specs.Prelude.{◌≡◌, ◌++◌, [], IfErr, IfOk, OnErr, OnOk, slice_get, true};
 ghost use Rattle.kob_router.specs.Line.{one_more};
 ghost use Rattle.kob_scene_play.specs.Steps.{Tells};
-ghost use Rattle.kob_scene_play.specs.Scenes.{ConsumerBegan, IsRead, IsServed, IsShown, IsStep};
-ghost use Rattle.kob_scene_play.specs.Scenes.{Leaves, OthersStay, RunBegan, ServiceBegan, is_run};
+ghost use Rattle.kob_scene_play.specs.Scenes.{IsConsumerBeginning, IsRunBeginning};
+ghost use Rattle.kob_scene_play.specs.Scenes.{IsRead, IsServed, IsServiceBeginning, IsShown};
+ghost use Rattle.kob_scene_play.specs.Scenes.{IsStep, Leaves, OthersStay, is_run};
 ghost use Rattle.kob_scene_play.specs.Scenes.{EndsAs, EndsScene, EndsSteps, show_by};
 ghost use Rattle.kob_scene_play.specs.Stops.{MayStop, StopsConsumerAt, StopsRequest};
 ghost use Rattle.kob_scene_play.specs.Stops.{StopsServiceAt};
@@ -197,7 +198,7 @@ fn play_step<'s>(
     ensures done { OnOk result (Tells
         (IsStep step.now line stage.old stage.new out.old.told out.new.told)
         out.old.text.items out.new.text.items) }
-    ensures left { OnErr result (is_run step.now ≡ true → Tells (RunBegan step.now stage.old
+    ensures left { OnErr result (is_run step.now ≡ true → Tells (IsRunBeginning step.now stage.old
         out.old.told out.new.told) out.old.text.items out.new.text.items) }
     ensures stopped { IfErr result (MayStop step.now stage.old) }
 {
@@ -230,7 +231,7 @@ fn play_service_at<'s>(
     ensures done { OnOk result (Tells (IsServed which step.now stage.old.services.items
         stage.new.services.items stage.old.recorded stage.new.recorded out.old.told
         out.new.told) out.old.text.items out.new.text.items) }
-    ensures left { OnErr result (step.now ≡ service_steps.Run → Tells (ServiceBegan
+    ensures left { OnErr result (step.now ≡ service_steps.Run → Tells (IsServiceBeginning
         (slice_get stage.old.services.items which) stage.old.recorded out.old.told out.new.told)
         out.old.text.items out.new.text.items) }
     ensures stopped { IfErr result (StopsServiceAt which step.now stage.old) }
@@ -255,7 +256,7 @@ fn play_consumer_at(
     ensures done { OnOk result (Tells (IsRead which step.now stage.old.consumers.items
         stage.new.consumers.items stage.old.recorded stage.new.recorded out.old.told
         out.new.told) out.old.text.items out.new.text.items) }
-    ensures left { OnErr result (step.now ≡ consumer_steps.Run → Tells (ConsumerBegan
+    ensures left { OnErr result (step.now ≡ consumer_steps.Run → Tells (IsConsumerBeginning
         (slice_get stage.old.consumers.items which) stage.old.recorded out.old.told out.new.told)
         out.old.text.items out.new.text.items) }
     ensures stopped { IfErr result (StopsConsumerAt which step.now stage.old) }
