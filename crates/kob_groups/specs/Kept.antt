@@ -48,8 +48,8 @@ CanPut (TopicAt place) partition commits =
 CanPut (NewTopic topic offsets) partition commits =
     (0 < commits.by_topic.room)
     × (lookup (same_text topic) commits.by_topic.entries ≡ None)
-    × (offsets.entries ≡ [])
-    × (0 < spare offsets)
+    × (offsets.value.entries ≡ [])
+    × (0 < spare offsets.value)
 
 -- the topic of an entry among the commits of a group that is there
 abbrev pub topic_among : TopicEntry → Option CommitsKept → List ℕ
@@ -62,7 +62,7 @@ place_at (GroupAt place topic) partition groups =
     place_of (name_at groups place)
     (topic_among topic (lookup (same_text (name_at groups place)) groups.entries)) partition
 place_at (NewGroup group commits topic) partition groups =
-    place_of group (topic_in topic commits) partition
+    place_of group (topic_in topic commits.value) partition
 
 -- there is room for the offset among the commits of the group at the place, or of a new one
 abbrev pub CanEnter : GroupEntry → ℕ → Ordered CommitsKept → Type 0
@@ -72,17 +72,17 @@ CanEnter (GroupAt place topic) partition groups =
 CanEnter (NewGroup group commits topic) partition groups =
     (0 < groups.room)
     × (lookup (same_text group) groups.entries ≡ None)
-    × (commits_in commits ≡ [])
-    × CanPut topic partition commits
+    × (commits_in commits.value ≡ [])
+    × CanPut topic partition commits.value
 
 -- a new group with no commits, with room for one on that topic
 abbrev pub IsNewGroup : List ℕ → List ℕ → ℕ → GroupEntry → Type 0
 IsNewGroup group topic partition (GroupAt place entry) = ⊥
 IsNewGroup group topic partition (NewGroup name commits entry) =
     (name ≡ group)
-    × (topic_in entry commits ≡ topic)
-    × (commits_in commits ≡ [])
-    × CanPut entry partition commits
+    × (topic_in entry commits.value ≡ topic)
+    × (commits_in commits.value ≡ [])
+    × CanPut entry partition commits.value
 
 -- where a prepared commit goes
 abbrev pub place_in : PreparedCommit → GroupsKept → CommitPlace

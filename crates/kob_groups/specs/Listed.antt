@@ -39,8 +39,8 @@ HasRoomFor (InList place group) lists =
 HasRoomFor (NewList topic group names) lists =
     (0 < lists.by_topic.room)
     × (lookup (same_text topic) lists.by_topic.entries ≡ None)
-    × (names.entries ≡ [])
-    × (0 < names.room)
+    × (names.value.entries ≡ [])
+    × (0 < names.value.room)
 
 pub record Lists (listing : Listing) (topic group : List ℕ) (lists : GroupsByTopic) : Type 0 where
   pub topic_is : topic_of listing lists ≡ topic
@@ -56,7 +56,7 @@ CanList (Some listing) topic group lists = Lists listing topic group lists
 abbrev pub IsNewList : List ℕ → List ℕ → Listing → Type 0
 IsNewList topic group (InList place name) = ⊥
 IsNewList topic group (NewList topic' group' names) =
-    (topic' ≡ topic) × (group' ≡ group) × (names.entries ≡ []) × (0 < names.room)
+    (topic' ≡ topic) × (group' ≡ group) × (names.value.entries ≡ []) × (0 < names.value.room)
 
 abbrev pub has_commits : List ℕ → Commits → Bool
 has_commits topic commits = is_some (lookup (same_text topic) commits)

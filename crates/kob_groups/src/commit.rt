@@ -37,7 +37,7 @@ pub(crate) enum GroupEntry {
     /// Among the commits of the group at a place.
     GroupAt(usize, TopicEntry),
     /// Among the empty commits that are inserted for a new group.
-    NewGroup(Text, Commits, TopicEntry),
+    NewGroup(Text, Box<Commits>, TopicEntry),
 }
 
 impl GroupEntry {
@@ -111,6 +111,7 @@ fn new_group(
 {
     let mut commits = Commits::new(alloc);
     let topic = commits.reserve(alloc, topic, partition)?;
+    let commits = Box::new(alloc, commits)?;
     let group = group.copy(alloc)?;
     Ok(GroupEntry::NewGroup(group, commits, topic))
 }
@@ -151,7 +152,8 @@ pub(crate) fn put_commit(
         GroupEntry::GroupAt(place, topic) => {
             groups.value_at_mut(place).put(topic, partition, offset);
         }
-        GroupEntry::NewGroup(group, mut commits, topic) => {
+        GroupEntry::NewGroup(group, commits, topic) => {
+            let mut commits = Box::into_inner(commits);
             commits.put(topic, partition, offset);
             groups.insert(group, commits);
         }

@@ -24,7 +24,7 @@ pub(crate) enum TopicEntry {
     /// Among the offsets on the topic at a place.
     TopicAt(usize),
     /// Among the empty offsets that are inserted for a new topic.
-    NewTopic(Text, Offsets),
+    NewTopic(Text, Box<Offsets>),
 }
 
 impl Commits {
@@ -73,7 +73,7 @@ impl Commits {
             }
             None => {
                 self.by_topic.reserve()?;
-                let offsets = IndexMap::with_capacity(alloc, 1)?;
+                let offsets = Box::new(alloc, IndexMap::with_capacity(alloc, 1)?)?;
                 let topic = topic.copy(alloc)?;
                 Ok(TopicEntry::NewTopic(topic, offsets))
             }
@@ -90,7 +90,8 @@ impl Commits {
             TopicEntry::TopicAt(place) => {
                 put_offset(self.by_topic.value_at_mut(place), partition, offset);
             }
-            TopicEntry::NewTopic(topic, mut offsets) => {
+            TopicEntry::NewTopic(topic, offsets) => {
+                let mut offsets = Box::into_inner(offsets);
                 put_offset(&mut offsets, partition, offset);
                 self.by_topic.insert(topic, offsets);
             }

@@ -27,7 +27,7 @@ pub(crate) enum Listing {
     /// The group is added to the list at a place.
     InList(usize, Text),
     /// The group is added to the empty list that is inserted for a topic without one.
-    NewList(Text, Text, GroupNames),
+    NewList(Text, Text, Box<GroupNames>),
 }
 
 impl GroupsByTopic {
@@ -105,7 +105,8 @@ impl GroupsByTopic {
     {
         match listing {
             Listing::InList(place, group) => self.by_topic.value_at_mut(place).insert(group, ()),
-            Listing::NewList(topic, group, mut names) => {
+            Listing::NewList(topic, group, names) => {
+                let mut names = Box::into_inner(names);
                 names.insert(group, ());
                 self.by_topic.insert(topic, names);
             }
@@ -147,6 +148,7 @@ impl Listing {
     {
         let mut names = OrderedMap::new(alloc);
         names.reserve()?;
+        let names = Box::new(alloc, names)?;
         let topic = topic.copy(alloc)?;
         let group = group.copy(alloc)?;
         Ok(Listing::NewList(topic, group, names))

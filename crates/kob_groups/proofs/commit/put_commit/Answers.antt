@@ -16,10 +16,13 @@ returns-in-GroupAt c =
 pub returns-in-NewGroup : goal.returns-in-NewGroup
 returns-in-NewGroup c =
     let groups = c.args.groups.now in let partition = c.args.partition in let offset = c.args.offset in
-    let put = with_offset (topic_in c.in-NewGroup.topic c.in-NewGroup.commits) partition offset in
+    let commits = c.into_inner-commits.result in let unboxed = c.into_inner-commits.ensures in
+    let put = with_offset (topic_in c.in-NewGroup.topic commits) partition offset in
     let can = subst (λ entry. CanEnter entry partition groups) c.in-NewGroup.is c.requires in
     ap (seen commits_in) c.insert.ensures.entries
     ∙ seen_put commits_in same_text groups.entries c.in-NewGroup.group c.put-in-NewGroup.new.self [] put can.1
-    (c.put-in-NewGroup.ensures ∙ ap put can.2)
+    (c.put-in-NewGroup.ensures ∙ ap put (ap commits_in unboxed ∙ can.2))
+    ∙ ap (λ commits. with_commit (place_of c.in-NewGroup.group (topic_in c.in-NewGroup.topic commits) partition) offset
+    (groups_in groups.entries)) unboxed
     ∙ ap (λ entry. with_commit (place_at entry partition groups) offset (groups_in groups.entries))
     (sym c.in-NewGroup.is)

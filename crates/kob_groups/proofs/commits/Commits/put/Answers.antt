@@ -18,6 +18,8 @@ returns-in-NewTopic c =
     ap (seen offsets_in) c.insert.ensures.entries
     ∙ seen_put offsets_in same_text commits.by_topic.entries c.in-NewTopic.topic c.put_offset-in-NewTopic.new.offsets []
     (λ offsets. insert_entry nat_eq offsets c.args.partition c.args.offset) can.1
-    (c.put_offset-in-NewTopic.ensures ∙ ap (λ offsets. insert_entry nat_eq offsets c.args.partition c.args.offset) can.2)
+    (c.put_offset-in-NewTopic.ensures
+    ∙ ap (λ offsets. insert_entry nat_eq offsets c.args.partition c.args.offset)
+    (ap (λ offsets. offsets.entries) c.into_inner-offsets.ensures ∙ can.2))
     ∙ ap (λ entry. with_offset (topic_in entry commits) c.args.partition c.args.offset (commits_in commits))
     (sym c.in-NewTopic.is)

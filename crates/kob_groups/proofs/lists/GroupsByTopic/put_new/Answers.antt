@@ -12,7 +12,7 @@ invariant_of-self-in-NewList c =
     let can = subst (λ listing. HasRoomFor listing lists) c.in-NewList.is c.requires in record {
       filled = filled_changed topic final old c.insert-in-NewList-2.new.self.entries
           (changes_to topic final old _ c.insert-in-NewList-2.ensures.entries can.1)
-          (one_more_filled c.in-NewList.group _ c.in-NewList.names final c.insert-in-NewList.ensures.entries)
+          (one_more_filled c.in-NewList.group _ c.into_inner-names.result final c.insert-in-NewList.ensures.entries)
           lists.filled;
     }
 
@@ -35,10 +35,11 @@ returns-in-NewList c topic group at t g =
     let lists = c.args.self.now in let own = c.in-NewList.topic in let old = lists.by_topic.entries in
     let final = c.insert-in-NewList.new.self in let name = c.in-NewList.group in
     let can = subst (λ listing. HasRoomFor listing lists) c.in-NewList.is c.requires in
-    let none = λ (g : List ℕ). ap (λ es. is_some (lookup (same_text g) es)) can.2 in
+    let none = λ (g : List ℕ). ap (λ es. is_some (lookup (same_text g) es))
+    (ap (λ names. names.entries) c.into_inner-names.ensures ∙ can.2) in
     listed_put own name final old c.insert-in-NewList-2.new.self.entries
     (changes_to own final old _ c.insert-in-NewList-2.ensures.entries can.1)
-    (λ g. pushed_more name _ c.in-NewList.names final c.insert-in-NewList.ensures.entries (none name) g
+    (λ g. pushed_more name _ c.into_inner-names.result final c.insert-in-NewList.ensures.entries (none name) g
     ∙ ap (λ b. same_text name g || b) (none g ∙ sym (ap (is_among g) can.1))) t g
     ∙ ap (λ n. is_pair n name t g || is_listed t g lists)
     (ap (λ listing. topic_of listing lists) (sym c.in-NewList.is) ∙ at.topic_is)
