@@ -15,7 +15,7 @@ use crate::consumer_end::ConsumerEnd;
 use crate::part::{Part, joined};
 use crate::past_calls::PastCalls;
 use kob_inbox::{Inbox, InboxFault, InboxRow, Subscription, Tick};
-use kob_lines::{IntoCalls, Loss, Lossy, ProgramFault, Receiver, a_consumer_run_goes_on};
+use kob_lines::{IntoCalls, Loss, Lossy, ProgramFault, Receiver};
 use kob_rights::{Code, Reply};
 use kob_router::{Call, Line, StopReason};
 use std::alloc::{AllocError, Global};
@@ -69,7 +69,6 @@ impl<L: Line> RunningConsumer<L> {
     {
         let receiver = Receiver::new(alloc, inbox, subscription);
         let past = PastCalls::none();
-        a_consumer_run_goes_on();
         RunningConsumer {
             receiver,
             past,
@@ -89,9 +88,7 @@ impl<L: Line> RunningConsumer<L> {
         ensures earlier { self.new.earlier ≡ self.old.earlier }
         ensures line { L.becomes self.old.line self.new.line }
     {
-        let tick = self.receiver.tick(alloc, &mut self.line);
-        a_consumer_run_goes_on();
-        tick
+        self.receiver.tick(alloc, &mut self.line)
     }
 
     /// Ticks until no assigned partition has a record, at most `most` times: it is done once each of
@@ -240,7 +237,6 @@ impl<L: Line> RunningConsumer<L> {
         ensures line { self.new.line ≡ self.old.line }
     {
         self.receiver.restart();
-        a_consumer_run_goes_on();
     }
 
     /// All events that were taken in, in the order of their intake, as [`Inbox::taken`] reads them.

@@ -3,5 +3,5 @@ use Rattle.kob_embedding.proofs.running_consumer.RunningConsumer.tick.Goals as g
 
 pub invariant_of-self : goal.invariant_of-self
 invariant_of-self g c =
-    consumer_ticked c.self.inside.past.calls c.self.inside.receiver.fetcher c.tick-tick.new.self.fetcher _ _ _ _ _ _ _
-    c.tick-tick.ensures.same c.tick-tick.ensures.done c.self.invariant
+    consumer_ticked c.self.inside.past.calls c.self.inside.receiver.fetcher c.tick.new.self.fetcher _ _ _ _ _ _ _
+    c.tick.ensures.same c.tick.ensures.done c.self.invariant
