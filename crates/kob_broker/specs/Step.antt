@@ -208,7 +208,7 @@ state_after_change (changes.RemoveTopic name) broker = delete_topics_after (stat
 state_after_change (changes.AddBindings made) broker =
     record (state_of broker) { access = with_creation broker.authorizer.contents made }
 state_after_change (changes.RemoveBindings made) broker =
-    record (state_of broker) { access = without_taken made.filter broker.authorizer.contents }
+    record (state_of broker) { access = without_taken made.value.filter broker.authorizer.contents }
 state_after_change (changes.Append produce) broker = record (state_of broker) {
   topics =
       with_partition produce.topic produce.partition
@@ -238,7 +238,7 @@ CanMake changes.Unchanged broker = Unit {0}
 CanMake (changes.AddTopic made) broker = CanAdd made broker.catalog
 CanMake (changes.RemoveTopic name) broker = Unit {0}
 CanMake (changes.AddBindings made) broker = CanCreate made broker.authorizer
-CanMake (changes.RemoveBindings made) broker = CanDelete made broker.authorizer
+CanMake (changes.RemoveBindings made) broker = CanDelete made.value broker.authorizer
 CanMake (changes.Append produce) broker =
     (has_partition produce.topic produce.partition (topics_of broker.catalog) ≡ true)
     × CanAppend (catalog_log broker.catalog produce.topic produce.partition) produce.batch

@@ -186,7 +186,7 @@ impl Broker {
                 self.authorizer.commit_create(made);
             }
             Change::RemoveBindings(made) => {
-                self.authorizer.commit_delete(made);
+                self.authorizer.commit_delete(Box::into_inner(made));
             }
             Change::Append(
                 Produce {

@@ -49,7 +49,10 @@ impl Broker {
     ) -> Result<Prepared, AllocError>
         ensures { IfOk result (MakesFor (requests.DeleteAcls delete.now) self.now) }
     {
-        let made = self.authorizer.prepare_delete(alloc, &delete.filter)?;
+        let made = Box::new(
+            alloc,
+            self.authorizer.prepare_delete(alloc, &delete.filter)?,
+        )?;
         let taken = Items::copied(alloc, made.taken())?;
         Ok(Prepared::done(Body::Bindings(taken), Change::RemoveBindings(made)))
     }

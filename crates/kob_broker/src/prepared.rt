@@ -21,7 +21,7 @@ pub(crate) enum Change {
     /// Bindings to put in force.
     AddBindings(PreparedCreate),
     /// Bindings to delete.
-    RemoveBindings(PreparedDelete),
+    RemoveBindings(Box<PreparedDelete>),
     /// A batch to append to the partition that its request names.
     Append(Produce),
     /// The start of the partition of that number of the topic of that name moves up to an offset.
