@@ -10,6 +10,10 @@ use Rattle.kob_inbox.specs.Run as consumer
 use Rattle.kob_inbox.specs.Tick as taken
 use Rattle.kob_inbox.specs.declared.tick.Tick as taken_tick
 use Rattle.kob_lines.proofs.ConsumerCourses as consumer_courses
+use Rattle.kob_lines.proofs.ServiceCourses as service_courses
+use Rattle.kob_outbox.specs.Contents.{without_sent}
+use Rattle.kob_router.specs.Run as router
+use Rattle.kob_router.specs.Run.{Move as router_moves}
 
 -- a service begins
 
@@ -93,6 +97,22 @@ pub ticked_after : (earlier : List Call) (old new : Relayed) (calls then_calls :
 ticked_after earlier old new calls then_calls unmade then_unmade tick is =
     ticked old new (earlier ++ calls) (earlier ++ then_calls) unmade then_unmade tick
     (tick_after earlier old new calls then_calls unmade then_unmade tick is)
+
+-- the router restarts
+pub restarted : (old new : Relayed) (calls : List Call) → new.router.target ≡ old.router.target
+    → state_of new.router new.outbox ≡ router.after (state_of old.router old.outbox) router_moves.Restarted
+    → RecordsNoRow old calls new calls
+restarted old new calls same is rows was =
+    subst (λ (t : Target). HasServiceRun (dispatch_of t) (state_of new.router new.outbox) calls rows) (sym same)
+    (subst (λ (s : router.State). HasServiceRun (dispatch_of old.router.target) s calls rows) (sym is)
+    (service_courses.restarts (dispatch_of old.router.target) (state_of old.router old.outbox) calls rows was))
+
+-- the events that were sent are deleted
+pub swept : (old new : Relayed) (calls : List Call)
+    → new ≡ record old { outbox = without_sent old.outbox.mark old.outbox } → RecordsNoRow old calls new calls
+swept old new calls is rows was =
+    subst (λ (r : Relayed). IsSenderRun r calls rows) (sym is)
+    (service_courses.sweeps (dispatch_of old.router.target) (state_of old.router old.outbox) calls rows was)
 
 -- some service made the tick
 pub some_tick : (earlier : List Call) (before now : Relayed) (calls then_calls : List Call)
