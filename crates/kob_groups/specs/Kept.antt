@@ -1,11 +1,9 @@
 -- When there is room for a commit.
 use Rattle.std.specs.Prelude.{◌≡◌, ◌<◌, ◌⊎◌, ℕ, nat_eq, Bool, true, false, List, [], IfSome, IsSome, Option, Some, None}
 use Rattle.std.specs.Map.{lookup}
-use Rattle.std.specs.declared.hash.BuildHasherDefault.{BuildHasherDefault}
-use Rattle.std.specs.declared.hash.FoldHasher.{FoldHasher}
-use Rattle.indexmap.specs.IndexMap.{IndexMap, spare}
+use Rattle.indexmap.specs.IndexMap.{spare}
 use Rattle.kob_groups.specs.Groups.{CommitPlace, Groups, Ordered, StandsAt, name_at, place_of, same_text}
-use Rattle.kob_groups.specs.Listed.{CanList, CommitsKept, groups_in}
+use Rattle.kob_groups.specs.Listed.{CanList, CommitsKept, OffsetsKept, groups_in}
 pub use Rattle.kob_groups.specs.Listed.{commits_in, offsets_in}
 use Rattle.kob_groups.specs.declared.commit.GroupEntry.{GroupEntry}
 use Rattle.kob_groups.specs.declared.commit.GroupEntry.TheVariants.{GroupAt, NewGroup}
@@ -13,43 +11,40 @@ use Rattle.kob_groups.specs.declared.commit.PreparedCommit.{PreparedCommit}
 use Rattle.kob_groups.specs.declared.commits.TopicEntry.{TopicEntry}
 use Rattle.kob_groups.specs.declared.commits.TopicEntry.TheVariants.{NewTopic, TopicAt}
 use Rattle.kob_groups.specs.declared.groups.Groups.{Groups as GroupsKept}
+use Rattle.kob_groups.specs.declared.offsets.Offsets.TheVariants.{One, Several}
 
 abbrev pub groups_of : GroupsKept → Groups
 groups_of kept = groups_in kept.by_name.entries
 
--- the offsets on a topic, with the room that is there for more
-abbrev pub OffsetsKept : Type 0
-OffsetsKept = IndexMap ℕ ℕ (BuildHasherDefault FoldHasher)
-
 -- the partition has an offset, or there is room for one more
 abbrev pub HasRoom : ℕ → OffsetsKept → Type 0
-HasRoom partition offsets = IsSome (lookup (nat_eq partition) offsets.entries) ⊎ (0 < spare offsets)
+HasRoom partition (One one offset) = nat_eq partition one ≡ true
+HasRoom partition (Several offsets) =
+    IsSome (lookup (nat_eq partition) offsets.entries) ⊎ (0 < spare offsets)
 
 -- the topic of an entry
 abbrev pub topic_in : TopicEntry → CommitsKept → List ℕ
 topic_in (TopicAt place) commits = name_at commits.by_topic place
-topic_in (NewTopic topic offsets) commits = topic
+topic_in (NewTopic topic) commits = topic
 
 -- the group had commits on the topic
 abbrev pub has_topic : TopicEntry → Bool
 has_topic (TopicAt place) = true
-has_topic (NewTopic topic offsets) = false
+has_topic (NewTopic topic) = false
 
 abbrev pub had_commits : GroupEntry → Bool
 had_commits (GroupAt place topic) = has_topic topic
 had_commits (NewGroup group commits topic) = false
 
--- there is room for the offset on the topic at the place, or on a new one, that has no offsets
+-- there is room for the offset on the topic at the place, or for a new topic
 abbrev pub CanPut : TopicEntry → ℕ → CommitsKept → Type 0
 CanPut (TopicAt place) partition commits =
     StandsAt commits.by_topic place (name_at commits.by_topic place)
     × IfSome (lookup (same_text (name_at commits.by_topic place)) commits.by_topic.entries)
     (HasRoom partition)
-CanPut (NewTopic topic offsets) partition commits =
+CanPut (NewTopic topic) partition commits =
     (0 < commits.by_topic.room)
     × (lookup (same_text topic) commits.by_topic.entries ≡ None)
-    × (offsets.value.entries ≡ [])
-    × (0 < spare offsets.value)
 
 -- the topic of an entry among the commits of a group that is there
 abbrev pub topic_among : TopicEntry → Option CommitsKept → List ℕ

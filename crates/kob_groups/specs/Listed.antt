@@ -1,12 +1,13 @@
 -- What the maps of the groups hold, and which groups are listed for which topics.
-use Rattle.std.specs.Prelude.{◌≡◌, ◌<◌, ◌&&◌, ℕ, Bool, true, false, List, [], map, IfSome, Option, Some, None, is_some, if◌then◌else◌}
+use Rattle.std.specs.Prelude.{◌≡◌, ◌<◌, ◌∷◌, ◌&&◌, ℕ, Bool, true, false, List, [], map, IfSome, Option, Some, None, is_some, if◌then◌else◌}
 use Rattle.std.specs.Map.{lookup}
-use Rattle.indexmap.specs.IndexMap.{IndexMap}
 use Rattle.kob_groups.specs.Groups.{Commits, Groups, Offsets, StandsAt, commits_of, is_among, name_at, same_text, without_offsets}
 pub use Rattle.kob_groups.specs.declared.commits.Commits.{Commits as CommitsKept}
 pub use Rattle.kob_groups.specs.declared.lists.GroupsByTopic.{GroupsByTopic}
 use Rattle.kob_groups.specs.declared.lists.Listing.{Listing}
 use Rattle.kob_groups.specs.declared.lists.Listing.TheVariants.{InList, NewList}
+pub use Rattle.kob_groups.specs.declared.offsets.Offsets.{Offsets as OffsetsKept}
+use Rattle.kob_groups.specs.declared.offsets.Offsets.TheVariants.{One, Several}
 
 -- the group is listed for the topic
 abbrev pub is_listed : List ℕ → List ℕ → GroupsByTopic → Bool
@@ -68,8 +69,9 @@ AreListed groups lists =
     → is_listed topic group lists ≡ has_commits topic (commits_of group groups)
 
 -- the offsets on a topic, a group's commits and the groups, without the room that is there for more
-abbrev pub offsets_in : {S : Type 0} → IndexMap ℕ ℕ S → Offsets
-offsets_in kept = kept.entries
+abbrev pub offsets_in : OffsetsKept → Offsets
+offsets_in (One partition offset) = (partition, offset) ∷ []
+offsets_in (Several offsets) = offsets.entries
 
 abbrev pub commits_in : CommitsKept → Commits
 commits_in kept = map (λ on. (on.0, offsets_in on.1)) kept.by_topic.entries

@@ -49,7 +49,7 @@ impl GroupEntry {
     {
         match self {
             GroupEntry::GroupAt(_, TopicEntry::TopicAt(_)) => true,
-            GroupEntry::GroupAt(_, TopicEntry::NewTopic(_, _)) => false,
+            GroupEntry::GroupAt(_, TopicEntry::NewTopic(_)) => false,
             GroupEntry::NewGroup(_, _, _) => false,
         }
     }

@@ -4,13 +4,10 @@ ghost use Rattle.std.specs.Prelude.{[], ◌≡◌, nat_eq, IfOk, None, OnErr};
 ghost use Rattle.std.specs.Map.{lookup};
 ghost use Rattle.kob_groups.specs.Groups.{offsets_on, with_offset, without_offsets};
 
-use indexmap::IndexMap;
+use crate::offsets::Offsets;
 use kob_names::{PlainValue, Text};
 use kob_ordered::OrderedMap;
 use std::alloc::{AllocError, Global};
-
-/// The offsets on a topic, by partition.
-pub(crate) type Offsets = IndexMap<u64, u64>;
 
 /// A group's commits: the offsets on each topic.
 #[derive(Drop)]
@@ -23,8 +20,8 @@ pub(crate) struct Commits {
 pub(crate) enum TopicEntry {
     /// Among the offsets on the topic at a place.
     TopicAt(usize),
-    /// Among the empty offsets that are inserted for a new topic.
-    NewTopic(Text, Box<Offsets>),
+    /// The first on a new topic.
+    NewTopic(Text),
 }
 
 impl Commits {
@@ -46,7 +43,7 @@ impl Commits {
         ensures { result
             ≡ lookup (nat_eq partition) (offsets_on topic.now (commits_in self.now)) }
     {
-        self.by_topic.get(topic)?.get(&partition).copied()
+        self.by_topic.get(topic)?.get(partition)
     }
 
     /// Reserves capacity for an offset, unless the partition has one, and copies the name of a
@@ -68,14 +65,12 @@ impl Commits {
     {
         match self.by_topic.place_of(topic) {
             Some(place) => {
-                reserve_offset(self.by_topic.value_at_mut(place), partition)?;
+                self.by_topic.value_at_mut(place).reserve(alloc, partition)?;
                 Ok(TopicEntry::TopicAt(place))
             }
             None => {
                 self.by_topic.reserve()?;
-                let offsets = Box::new(alloc, IndexMap::with_capacity(alloc, 1)?)?;
-                let topic = topic.copy(alloc)?;
-                Ok(TopicEntry::NewTopic(topic, offsets))
+                Ok(TopicEntry::NewTopic(topic.copy(alloc)?))
             }
         }
     }
@@ -88,12 +83,10 @@ impl Commits {
     {
         match entry {
             TopicEntry::TopicAt(place) => {
-                put_offset(self.by_topic.value_at_mut(place), partition, offset);
+                self.by_topic.value_at_mut(place).put(partition, offset);
             }
-            TopicEntry::NewTopic(topic, offsets) => {
-                let mut offsets = Box::into_inner(offsets);
-                put_offset(&mut offsets, partition, offset);
-                self.by_topic.insert(topic, offsets);
+            TopicEntry::NewTopic(topic) => {
+                self.by_topic.insert(topic, Offsets::One(partition, offset));
             }
         }
     }
@@ -104,28 +97,4 @@ impl Commits {
     {
         let _ = self.by_topic.remove(topic);
     }
-}
-
-ghost use Rattle.std.specs.Prelude.{OnOk};
-ghost use Rattle.indexmap.specs.IndexMap.{insert_entry};
-ghost use Rattle.kob_groups.specs.Kept.{HasRoom};
-
-/// Reserves capacity for the offset of a partition, unless it has one. The error is out of memory.
-fn reserve_offset(offsets: &mut Offsets, partition: u64) -> Result<(), AllocError>
-    ensures entries { offsets.new.entries ≡ offsets.old.entries }
-    ensures room { OnOk result (HasRoom partition offsets.new) }
-    ensures absent { OnErr result (lookup (nat_eq partition) offsets.old.entries ≡ None) }
-{
-    if offsets.contains_key(&partition) {
-        return Ok(());
-    }
-    offsets.reserve(1)
-}
-
-/// Writes the offset of a partition.
-fn put_offset(offsets: &mut Offsets, partition: u64, offset: u64)
-    requires { HasRoom partition offsets.old }
-    ensures { offsets.new.entries ≡ insert_entry nat_eq offsets.old.entries partition offset }
-{
-    let _ = offsets.insert(partition, offset).unwrap();
 }

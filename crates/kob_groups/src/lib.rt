@@ -6,6 +6,7 @@ mod commits;
 mod groups;
 mod limits;
 mod lists;
+mod offsets;
 
 pub use commit::{CommitFault, PreparedCommit};
 pub use groups::{GroupNotFound, Groups};
