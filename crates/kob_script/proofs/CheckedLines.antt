@@ -18,11 +18,11 @@ pub no_lines : lines_in [] ≡ []
 no_lines = ap (map without_terminator) lines-nil
 
 -- the line at the front, and how many bytes it takes
-pub first_line_splits : (bytes whole text : List ℕ) (more others : List (List ℕ)) → lines_of bytes ≡ whole ∷ more
-    → lines_in bytes ≡ text ∷ others
+pub first_line_splits : (bytes whole text : List ℕ) (more : List (List ℕ)) → lines_of bytes ≡ whole ∷ more
+    → text ≡ without_terminator whole
     → (length whole ≤ length bytes) × (lines_in bytes ≡ text ∷ lines_in (drop (length whole) bytes))
-first_line_splits [] whole text more others is reads = grind (arith, nat_tests, lines-nil)
-first_line_splits (b ∷ rest) whole text more others is reads =
+first_line_splits [] whole text more is text_is = grind (arith, nat_tests, lines-nil)
+first_line_splits (b ∷ rest) whole text more is text_is =
     grind (arith, nat_tests, lines-step, line_len-bounds, length-take-le)
 
 -- after a block that was read to its end

@@ -4,8 +4,10 @@ use Rattle.kob_words.proofs.Escapes.{plain_stands}
 use Rattle.kob_script.specs.Words.{BadEscape}
 use Rattle.kob_script.proofs.Imports.{Err, FaultKind, Ok, Result, is_some, ok_or, word_of, ◌>>=◌, Bool, IsFirstByte, IsFirstByte-value, List, None, Option, Some, Word, [], ap, arith, cut_at, drop, false, get_or, is_byte, length, length-drop, nat_lt, nat_tests, not, option_map, refl, sym, take, take_all, true, ℕ, ◌+◌, ◌-◌, ◌<◌, ◌∙◌, ◌∷◌, ◌≡◌, ◌≤◌}
 use Rattle.std.proofs.Common.{cond, filter, leb}
+use Rattle.std.specs.Prelude.{IsTrue, ◌==◌, ◌&&◌}
 use Rattle.std.specs.Option.{IfSome}
-use Rattle.std.proofs.lemmas.List.{drop_more}
+use Rattle.std.proofs.lemmas.List.{drop_more, take_more}
+use Rattle.std.proofs.lemmas.List.Folds.{list_any-append}
 use Rattle.std.proofs.lemmas.List.Splits.{slice_split-cons_yes}
 use Rattle.std.specs.List.{position_or_len, slice_split, onto_first, slice_get}
 use Rattle.kob_script.specs.Words.{is_blank, raw_words}
@@ -108,6 +110,16 @@ whole_word raw whole = by (unescaped raw) whole
 pub plain_word : (raw : List ℕ) → has_percent raw ≡ false → word_of raw ≡ Ok (record { raw = raw; decoded = raw })
 plain_word raw plain = rw (plain_stands raw plain) refl
 
+-- a byte greater than a percent sign is none, and no blank
+abbrev pub low : ℕ → Bool
+low byte = leb byte 37
+
+pub greater : (byte : ℕ) → low byte ≡ false → 37 < byte
+greater byte more = grind (arith, nat_tests)
+
+pub no_blank : (byte : ℕ) → 37 < byte → is_blank byte ≡ false
+no_blank byte more = grind (arith, nat_tests)
+
 -- The size of a word is told by its bytes one by one, or by a run of them.
 module _ (line : List ℕ) where
   pub blank_at : (at : ℕ) → at < length line → is_blank (get_or line at 0) ≡ true → size_of (drop at line) ≡ 0
@@ -118,7 +130,7 @@ module _ (line : List ℕ) where
   letter_at at below letter = rw (drop_more line at 0 below, letter) refl
 
   pub letters_passed : (at n : ℕ) → at + n ≤ length line
-      → ((k : ℕ) → at ≤ k → k < at + n → is_blank (get_or line k 0) ≡ false)
+      → ((k : ℕ) → at ≤ k → k < at + n → 37 < get_or line k 0)
       → size_of (drop at line) ≡ n + size_of (drop (at + n) line)
   letters_passed at zero room letters =
       let here : at ≡ at + 0 = omega arith in omega (arith, ap (λ m. size_of (drop m line)) here)
@@ -126,11 +138,29 @@ module _ (line : List ℕ) where
       let there : at + 1 + n ≡ at + suc n = omega arith in
       let others = letters_passed (at + 1) n (omega (arith, room)) (λ k from to. letters k (omega (arith, from)) (omega (arith, to))) in
       let same = ap (λ m. size_of (drop m line)) there in
-      omega (arith, letter_at at (omega (arith, room)) (letters at (omega arith) (omega arith)), others, same)
+      omega (arith, letter_at at (omega (arith, room)) (no_blank _ (letters at (omega arith) (omega arith))), others, same)
 
--- a byte greater than a blank is none
-abbrev pub low : ℕ → Bool
-low byte = leb byte 32
+-- what was plain stays so by a byte that is no percent sign
+pub both_plain : (was is_percent : Bool) → IsTrue (was && not is_percent) → IsTrue was × (is_percent ≡ false)
+both_plain true false is = (is, refl)
+both_plain true true is = absurd cc
+both_plain false is_percent is = absurd cc
 
-pub no_blank : (byte : ℕ) → low byte ≡ false → is_blank byte ≡ false
-no_blank byte greater = grind (arith, nat_tests)
+-- bytes that were passed have no percent sign
+module _ (line : List ℕ) where
+  pub plain_at : (at : ℕ) → at < length line → has_percent (take at line) ≡ false → (get_or line at 0 == 37) ≡ false
+      → has_percent (take (at + 1) line) ≡ false
+  plain_at at below plain other =
+      rw (take_more line at 0 below, list_any-append (λ byte. byte == 37) (take at line) (get_or line at 0 ∷ []), plain, other) refl
+
+  pub plain_passed : (at n : ℕ) → at + n ≤ length line → ((k : ℕ) → at ≤ k → k < at + n → 37 < get_or line k 0)
+      → has_percent (take at line) ≡ false → has_percent (take (at + n) line) ≡ false
+  plain_passed at zero room letters plain =
+      let here : at + 0 ≡ at = omega arith in ap (λ m. has_percent (take m line)) here ∙ plain
+  plain_passed at (suc n) room letters plain =
+      let there : at + suc n ≡ at + 1 + n = omega arith in
+      let letter = letters at (omega arith) (omega arith) in
+      let other : (get_or line at 0 == 37) ≡ false = grind (arith, nat_tests) in
+      let others = plain_passed (at + 1) n (omega (arith, room)) (λ k from to. letters k (omega (arith, from)) (omega (arith, to)))
+      (plain_at at (omega (arith, room)) plain other) in
+      ap (λ m. has_percent (take m line)) there ∙ others

@@ -285,7 +285,18 @@ impl Blocks {
             × (lines_in bytes.entry.now ≡ line.0.now ∷ lines_in (drop line.1 bytes.entry.now))) }
     {
         let whole = bytes.lines_with_terminator().next()?;
-        let text = bytes.lines().next()?;
-        Some((text, whole.len()))
+        Some((without_end(whole), whole.len()))
+    }
+}
+
+ghost use Rattle.bstr.specs.Text.{without_terminator};
+
+// A line without its line feed and a carriage return before it.
+fn without_end(line: &[u8]) -> &[u8]
+    ensures { result.now ≡ without_terminator line.entry.now }
+{
+    match line {
+        [text @ .., b'\r', b'\n'] | [text @ .., b'\n'] => text,
+        _ => line,
     }
 }

@@ -1,7 +1,8 @@
 //! The words of a line, in which `%` and two hexadecimal digits stand for one byte.
 
 ghost use Rattle.std.specs.Prelude.{◌≡◌, ◌+◌, ◌<◌, ◌≤◌, ◌∷◌, [], ℕ, drop, false, find, get_or, not};
-ghost use Rattle.std.specs.Prelude.{IfSome, MatchOption, Ok, bytes_eq, codes, length, option_map};
+ghost use Rattle.std.specs.Prelude.{IfSome, IsTrue, MatchOption, Ok, bytes_eq, codes, length};
+ghost use Rattle.std.specs.Prelude.{option_map};
 ghost use Rattle.std.specs.Prelude.{slice_get, take};
 ghost use Rattle.std.specs.List.{position_or_len};
 ghost use Rattle.std.specs.Result.{result_err};
@@ -51,6 +52,22 @@ impl<'a> Word<'a> {
             replaced = Some(Box::new(alloc, bytes)?);
         }
         Ok(Word { raw, replaced })
+    }
+
+    // The same of bytes of which it may be known that they have no percent sign.
+    #[inline(always)]
+    #[tactic(auto, using(crate::proofs::LineWords::plain_word))]
+    fn cut(alloc: Global, raw: &'a [u8], is_plain: bool) -> Result<Word<'a>, LineError>
+        requires { IsTrue is_plain → has_percent raw.now ≡ false }
+        ensures { Gives result (word_of raw.now) }
+    {
+        if is_plain {
+            return Ok(Word {
+                raw,
+                replaced: None,
+            });
+        }
+        Word::read(alloc, raw)
     }
 
     /// The word as it is in the line.
@@ -112,12 +129,15 @@ impl<'l> Word<'l> {
     }
 }
 
-/// Room for the words of most lines, so that these take no allocation.
+/// Room for the words of most lines, so that these take no allocation. The longest rows have ten.
 #[inline(always)]
-pub fn few_words<'l>() -> [Word<'l>; 7]
-    ensures { length result ≡ 7 }
+pub fn few_words<'l>() -> [Word<'l>; 10]
+    ensures { length result ≡ 10 }
 {
     [
+        Word::none(),
+        Word::none(),
+        Word::none(),
         Word::none(),
         Word::none(),
         Word::none(),
@@ -129,41 +149,38 @@ pub fn few_words<'l>() -> [Word<'l>; 7]
 }
 
 /// Puts the words of a line into `few`, and returns how many they are. None if there are more, or if
-/// the line may have an escape.
-pub fn put_words<'l>(few: &mut [Word<'l>; 7], line: &'l [u8]) -> Option<usize>
-    requires { length few.old ≡ 7 }
+/// one may have an escape.
+pub fn put_words<'l>(few: &mut [Word<'l>; 10], line: &'l [u8]) -> Option<usize>
+    requires { length few.old ≡ 10 }
     ensures put { IfSome result (λ count. words_of line.now ≡ Ok (take count few.new)) }
-    ensures within { IfSome result (λ count. count ≤ 7) }
+    ensures within { IfSome result (λ count. count ≤ 10) }
 {
     if is_skipped(line) {
         return Some(0);
     }
-    if may_have_escapes(line) {
-        return None;
-    }
     put_plain(few, line)
 }
 
+// The same for a line that is not skipped.
 #[inline(always)]
-fn put_plain<'l>(few: &mut [Word<'l>; 7], line: &'l [u8]) -> Option<usize>
-    requires room { length few.old ≡ 7 }
-    requires plain { has_percent line.now ≡ false }
+fn put_plain<'l>(few: &mut [Word<'l>; 10], line: &'l [u8]) -> Option<usize>
+    requires { length few.old ≡ 10 }
     ensures put { IfSome result (λ count.
         each word_of (raw_words line.now) ≡ Ok (take count few.new)) }
-    ensures within { IfSome result (λ count. count ≤ 7) }
+    ensures within { IfSome result (λ count. count ≤ 10) }
 {
     let mut count = 0;
     let mut rest = line;
-    while let Some((raw, others)) = first_word(rest) {
-        if count == few.len() {
+    while let Some(cut) = first_word(rest) {
+        if count == few.len() || !cut.is_plain {
             return None;
         }
         few[count] = Word {
-            raw,
+            raw: cut.raw,
             replaced: None,
         };
         count += 1;
-        rest = others;
+        rest = cut.others;
     }
     Some(count)
 }
@@ -173,34 +190,12 @@ fn put_plain<'l>(few: &mut [Word<'l>; 7], line: &'l [u8]) -> Option<usize>
 fn read_words(alloc: Global, line: &[u8]) -> Result<Vec<Word<'_>>, LineError>
     ensures { GivesSeen (λ words. words.items) result (each word_of (raw_words line.now)) }
 {
-    if !may_have_escapes(line) {
-        return read_plain(alloc, line);
-    }
-    let mut words = Vec::with_capacity(alloc, 8)?;
+    let mut words = Vec::with_capacity(alloc, 16)?;
     let mut rest = line;
-    while let Some((raw, others)) = first_word(rest) {
-        let word = Word::read(alloc, raw)?;
+    while let Some(cut) = first_word(rest) {
+        let word = Word::cut(alloc, cut.raw, cut.is_plain)?;
         words.push(word)?;
-        rest = others;
-    }
-    Ok(words)
-}
-
-// The words between blanks of a line without a percent sign.
-#[inline(always)]
-fn read_plain(alloc: Global, line: &[u8]) -> Result<Vec<Word<'_>>, LineError>
-    requires { has_percent line.now ≡ false }
-    ensures { GivesSeen (λ words. words.items) result (each word_of (raw_words line.now)) }
-{
-    // Most lines have no more words.
-    let mut words = Vec::with_capacity(alloc, 8)?;
-    let mut rest = line;
-    while let Some((raw, others)) = first_word(rest) {
-        words.push(Word {
-            raw,
-            replaced: None,
-        })?;
-        rest = others;
+        rest = cut.others;
     }
     Ok(words)
 }
@@ -210,36 +205,49 @@ fn check_escapes(line: &[u8]) -> Result<(), FaultKind>
     ensures { result_err result ≡ result_err (each word_of (raw_words line.now)) }
 {
     let mut rest = line;
-    while let Some((raw, others)) = first_word(rest) {
-        if !has_whole_escapes(raw) {
+    while let Some(cut) = first_word(rest) {
+        if !has_whole_escapes(cut.raw) {
             return Err(FaultKind::BadEscape);
         }
-        rest = others;
+        rest = cut.others;
     }
     Ok(())
 }
 
-// The word at the front of a line, and what is behind it.
-fn first_word(line: &[u8]) -> Option<(&[u8], &[u8])>
+// A word of a line, and what is behind it. A plain one has no percent sign.
+#[derive(Clone, Copy)]
+struct Cut<'l> {
+    raw: &'l [u8],
+    others: &'l [u8],
+    is_plain: bool,
+}
+
+// The word at the front of a line.
+#[inline(always)]
+fn first_word(line: &[u8]) -> Option<Cut<'_>>
     ensures cut { MatchOption result (raw_words line.entry.now ≡ []) (λ cut.
-        raw_words line.entry.now ≡ cut.0.now ∷ raw_words cut.1.now) }
-    ensures plain { IfSome result (λ cut. has_percent line.entry.now ≡ false
-        → (has_percent cut.0.now ≡ false) × (has_percent cut.1.now ≡ false)) }
-    ensures shrinks { IfSome result (λ cut. length cut.1.now < length line.entry.now) }
+        raw_words line.entry.now ≡ cut.raw.now ∷ raw_words cut.others.now) }
+    ensures plain { IfSome result (λ cut. IsTrue cut.is_plain → has_percent cut.raw.now ≡ false) }
+    ensures shrinks { IfSome result (λ cut. length cut.others.now < length line.entry.now) }
 {
     let word = behind_blanks(line);
-    let size = size_of_word(word);
+    let (size, is_plain) = size_of_word(word);
     if size == 0 {
         return None;
     }
-    Some(word.split_at(size))
+    let (raw, others) = word.split_at(size);
+    Some(Cut {
+        raw,
+        others,
+        is_plain,
+    })
 }
 
+#[inline(always)]
 fn behind_blanks(line: &[u8]) -> &[u8]
     ensures words { raw_words result.now ≡ raw_words line.entry.now }
     ensures first { slice_get result.now 0 ≡ find (λ byte. not (is_blank byte)) line.entry.now }
     ensures begins { IfSome (slice_get result.now 0) (λ byte. is_blank byte ≡ false) }
-    ensures plain { has_percent line.entry.now ≡ false → has_percent result.now ≡ false }
     ensures within { length result.now ≤ length line.entry.now }
 {
     let mut at = 0;
@@ -249,30 +257,35 @@ fn behind_blanks(line: &[u8]) -> &[u8]
     &line[at..]
 }
 
-fn size_of_word(word: &[u8]) -> usize
-    ensures size { result ≡ position_or_len is_blank word.now }
-    ensures within { result ≤ length word.now }
+// How many bytes are before the first blank, and whether none of them is a percent sign.
+#[inline(always)]
+fn size_of_word(word: &[u8]) -> (usize, bool)
+    ensures size { result.0 ≡ position_or_len is_blank word.now }
+    ensures within { result.0 ≤ length word.now }
+    ensures plain { IsTrue result.1 → has_percent (take result.0 word.now) ≡ false }
 {
     let mut size = 0;
+    let mut is_plain = true;
     while word.len() - size > 16 {
         size += letters_at(word, size);
         if is_blank(word[size]) {
-            return size;
+            return (size, is_plain);
         }
+        is_plain &= word[size] != b'%';
         size += 1;
     }
-    size_from(word, size)
+    size_from(word, size, is_plain)
 }
 
-// How many bytes from a place on are greater than a blank, at most 16.
+// How many bytes from a place on are greater than a percent sign and a blank, at most 16.
 #[inline(always)]
 fn letters_at(word: &[u8], at: usize) -> usize
     requires { at + 16 ≤ length word.now }
     ensures few { result ≤ 16 }
-    ensures letters { (k : ℕ) → at ≤ k → k < at + result → is_blank (get_or word.now k 0) ≡ false }
+    ensures letters { (k : ℕ) → at ≤ k → k < at + result → 37 < get_or word.now k 0 }
 {
     let low = u8x16::from_slice(&word[at..])
-        .simd_le(u8x16::splat(b' '))
+        .simd_le(u8x16::splat(b'%'))
         .to_bitmask();
     if low == 0 {
         return 16;
@@ -280,19 +293,31 @@ fn letters_at(word: &[u8], at: usize) -> usize
     low.trailing_zeros() as usize
 }
 
-// The same as `size_of_word`, if there is no blank before this place.
-fn size_from(word: &[u8], start: usize) -> usize
+// The same as `size_of_word`, if there is no blank before this place, and no percent sign or
+// `is_plain` is false.
+#[inline(always)]
+fn size_from(word: &[u8], start: usize, is_plain: bool) -> (usize, bool)
     requires begun { position_or_len is_blank word.now
         ≡ start + position_or_len is_blank (drop start word.now) }
+    requires plain { IsTrue is_plain → has_percent (take start word.now) ≡ false }
     requires start { start ≤ length word.now }
-    ensures size { result ≡ position_or_len is_blank word.now }
-    ensures within { result ≤ length word.now }
+    ensures size { result.0 ≡ position_or_len is_blank word.now }
+    ensures within { result.0 ≤ length word.now }
+    ensures plain { IsTrue result.1 → has_percent (take result.0 word.now) ≡ false }
 {
     let mut size = start;
-    while size < word.len() && !is_blank(word[size]) {
+    let mut is_plain = is_plain;
+    while size < word.len() {
+        // Most bytes are greater than both.
+        if word[size] <= b'%' {
+            if is_blank(word[size]) {
+                break;
+            }
+            is_plain &= word[size] != b'%';
+        }
         size += 1;
     }
-    size
+    (size, is_plain)
 }
 
 fn is_blank(byte: u8) -> bool

@@ -1,16 +1,14 @@
 -- What was put, and then what the rest stands for, is what the words stand for.
-use Rattle.kob_script.proofs.Imports.{each, false, length, raw_words, take, word_of, ◌≡◌, ◌≤◌}
-use Rattle.kob_words.specs.Words.{has_percent}
+use Rattle.kob_script.proofs.Imports.{each, length, raw_words, take, word_of, ◌≡◌, ◌≤◌}
 use Rattle.kob_script.proofs.Each.{with_front}
 use Rattle.kob_script.proofs.words.put_plain.Given as goal
 
-abbrev pub invariant-loop-raw : goal.invariant-loop-raw
-invariant-loop-raw l = record {
-  few : l.count ≤ 7;
-  room : length l.few ≡ 7;
+abbrev pub invariant-loop-cut : goal.invariant-loop-cut
+invariant-loop-cut l = record {
+  few : l.count ≤ 10;
+  room : length l.few ≡ 10;
   words : with_front (take l.count l.few) (each word_of (raw_words l.rest)) ≡ each word_of (raw_words l.line);
-  plain : has_percent l.rest ≡ false;
 }
 
-abbrev pub decreases-loop-raw : goal.decreases-loop-raw
-decreases-loop-raw l = length l.rest
+abbrev pub decreases-loop-cut : goal.decreases-loop-cut
+decreases-loop-cut l = length l.rest
