@@ -14,12 +14,23 @@ use std::alloc::{AllocError, Global};
 /// The broker: topics, groups, bindings in force and super users. The rights of each event are
 /// decided by the bindings in force at its place. Contracts see its state (`state_of`), and the
 /// capacity reserved for changes.
-#[derive(Drop)]
 pub struct Broker {
     pub(crate) catalog: Catalog,
     pub(crate) groups: Groups,
     pub(crate) authorizer: Authorizer,
     pub(crate) next_producer: u64,
+}
+
+// A function of its own, so that no proof of a caller goes through the parts.
+impl Drop for Broker {
+    fn drop(self) {
+        let Broker {
+            catalog: _,
+            groups: _,
+            authorizer: _,
+            next_producer: _,
+        } = self;
+    }
 }
 
 impl Broker {
@@ -62,13 +73,7 @@ impl Broker {
         ensures { IfOk result (λ settings. settings ≡ settings_of (state_of self.now)) }
     {
         let supers = Items::copied(alloc, self.authorizer.supers())?;
-        let opening = match bindings_of(alloc, self.authorizer.entries()) {
-            Ok(opening) => opening,
-            Err(refused) => {
-                drop(supers);
-                return Err(refused);
-            }
-        };
+        let opening = bindings_of(alloc, self.authorizer.entries())?;
         Ok(Settings {
             supers,
             opening,
@@ -312,15 +317,8 @@ fn opened_authorizer(alloc: Global, settings: Settings) -> Result<Authorizer, Op
         everyone,
     } = settings;
     let mut authorizer = Authorizer::open(alloc, supers.into_vec(), everyone);
-    let made = put_in_force(alloc, &mut authorizer, opening.as_slice());
-    drop(opening);
-    match made {
-        Ok(()) => Ok(authorizer),
-        Err(fault) => {
-            drop(authorizer);
-            Err(fault)
-        }
-    }
+    put_in_force(alloc, &mut authorizer, opening.as_slice())?;
+    Ok(authorizer)
 }
 
 /// Puts bindings in force where there are none, so that serials are left for all of them.
@@ -354,19 +352,7 @@ fn bindings_of(alloc: Global, entries: &[(u64, Binding)]) -> Result<Items<Bindin
 {
     let mut bindings = Vec::new(alloc);
     for entry in entries {
-        if let Err(refused) = put_copy(alloc, &mut bindings, &entry.1) {
-            drop(bindings);
-            return Err(refused);
-        }
+        bindings.push(entry.1.copy(alloc)?)?;
     }
     Ok(Items::from_vec(bindings))
-}
-
-/// Appends a copy of a binding.
-fn put_copy(alloc: Global, bindings: &mut Vec<Binding>, binding: &Binding) -> Result<(), AllocError>
-    ensures { OnOk result (bindings.new.items ≡ bindings.old.items ++ binding.now ∷ []) }
-{
-    let copy = binding.copy(alloc)?;
-    bindings.push(copy)?;
-    Ok(())
 }

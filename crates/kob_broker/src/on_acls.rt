@@ -101,10 +101,7 @@ fn bindings_of(alloc: Global, drafts: &[Draft]) -> Result<Vec<Binding>, AllocErr
 {
     let mut bindings = Vec::new(alloc);
     for draft in drafts {
-        if let Err(refused) = put_binding(alloc, &mut bindings, draft) {
-            drop(bindings);
-            return Err(refused);
-        }
+        put_binding(alloc, &mut bindings, draft)?;
     }
     Ok(bindings)
 }
