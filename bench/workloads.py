@@ -1,18 +1,52 @@
 """The kinds of work that measure.py measures, as scripts of any size."""
 import dataclasses
+import functools
 import itertools
 from collections.abc import Callable
 
 ROOT = "User:root h"
-# 24 bytes behind which any eight bytes hash alike under a hasher with a fixed seed, and 24 others.
-PICKED, OTHERS = "outbox.evenabvqmf.SXhkB1", "outbox.event.abvqmfSXhkB"
+# A name of 32 bytes, and one of those that are picked to hash alike.
+PLAIN, PICKED = "outbox.event.abvqmfSXhkB{i:08}", "{picked}"
+CHARACTERS = "abcdefghijklmnopqrstuvwxyzABCDEFGHIJKLMNOPQRSTUVWXYZ0123456789-_"
+PRIME, MASK = 0x0100_0000_01B3, 2**17 - 1
 LETTERS = "abcdefghijklmnopqrstuvwxyz" * 5
 Script = list[str]
 
 
+@functools.cache
+def ends() -> dict[int, str]:
+    """By the last bits of the FNV-1a hash of what is before them, three letters with which those bits are 0."""
+    back = pow(PRIME, -1, MASK + 1)
+    found = {}
+    for letters in itertools.product(CHARACTERS, repeat=3):
+        bits = 0
+        for letter in reversed(letters):
+            bits = (bits * back & MASK) ^ ord(letter)
+        found[bits] = "".join(letters)
+    return found
+
+
+@dataclasses.dataclass(frozen=True)
+class Picked:
+    """A name for a number. The maps of the broker guess all these names at one place."""
+
+    number: int
+
+    def __format__(self, _: str) -> str:
+        for tries in itertools.count():
+            name = f"outbox.event.abvqmfS{self.number:08}{CHARACTERS[tries]}"
+            bits = 0xCBF2_9CE4_8422_2325
+            for byte in name.encode():
+                bits = (bits ^ byte) * PRIME & 2**64 - 1
+            if bits & MASK in ends():
+                return name + ends()[bits & MASK]
+        raise AssertionError(self.number)
+
+
 def lines(count: int, form: str) -> Script:
     """So many lines, `{i}` their number; ROOT asks where nobody else is named."""
-    return [("" if form.startswith("User:") else f"{ROOT} ") + form.format(i=i) for i in range(count)]
+    asker = "" if form.startswith("User:") else f"{ROOT} "
+    return [asker + form.format(i=i, picked=Picked(i)) for i in range(count)]
 
 
 def topics(count: int, form: str = "create-topic t{i:06} 1") -> Script:
@@ -29,7 +63,8 @@ def commits(count: int, group: str, topic: str = "t000000") -> Script:
 
 def turns(count: int, among: int, form: str) -> Script:
     """So many lines by turns over ten of so many, spread over them all."""
-    return [form.format(i=i % 10 * among // 10) for i in range(count)]
+    numbers = [i * among // 10 for i in range(10)]
+    return [form.format(i=i, picked=Picked(i)) for i in itertools.islice(itertools.cycle(numbers), count)]
 
 
 def pairs(count: int, *forms: str) -> Script:
@@ -168,24 +203,24 @@ WORKLOADS = [
         lambda n: lines(1, "fetch t000000 0 0 1"),
     ),
     Workload("commit, of 10 of 10,000 groups", 20_000, groups("g{i:06}"), of_groups("g{i:06}")),
-    Workload("commit, first of a group", 2_500, one_topic, lambda n: commits(n, OTHERS + "{i:08}")),
+    Workload("commit, first of a group", 2_500, one_topic, lambda n: commits(n, PLAIN)),
     Workload(
         "commit, first of a group with a picked name",
         2_500,
         one_topic,
-        lambda n: commits(n, PICKED + "{i:08}"),
+        lambda n: commits(n, PICKED),
     ),
     Workload(
         "commit, of 10 of 10,000 groups with long names",
         20_000,
-        groups(OTHERS + "{i:08}"),
-        of_groups(OTHERS + "{i:08}"),
+        groups(PLAIN),
+        of_groups(PLAIN),
     ),
     Workload(
         "commit, of 10 of 10,000 groups with picked names",
         20_000,
-        groups(PICKED + "{i:08}"),
-        of_groups(PICKED + "{i:08}"),
+        groups(PICKED),
+        of_groups(PICKED),
     ),
     Workload(
         "commit and delete-group, by turns",
@@ -200,13 +235,13 @@ WORKLOADS = [
         lambda n: [f"{ROOT} commit g{i // 1000:04} t {i % 1000} 0" for i in range(n)],
     ),
     Workload(
-        "create-topic, one partition", 2_500, nothing, lambda n: topics(n, f"create-topic {OTHERS}{{i:08}} 1")
+        "create-topic, one partition", 2_500, nothing, lambda n: topics(n, f"create-topic {PLAIN} 1")
     ),
     Workload(
         "create-topic, with a picked name",
         2_500,
         nothing,
-        lambda n: topics(n, f"create-topic {PICKED}{{i:08}} 1"),
+        lambda n: topics(n, f"create-topic {PICKED} 1"),
     ),
     Workload(
         "create-topic, 1,000 partitions", 500, nothing, lambda n: topics(n, "create-topic t{i:06} 1000")
