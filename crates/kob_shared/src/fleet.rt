@@ -136,10 +136,7 @@ fn serve_and_note(
 {
     match serve_first(alloc, recorded, first.as_slice()) {
         Ok(told) => Ok(Notes::new(first, told)),
-        Err(stop) => {
-            drop(first);
-            Err(stop)
-        }
+        Err(stop) => Err(stop),
     }
 }
 
@@ -153,20 +150,9 @@ fn begin(alloc: Global, broker: Broker, first: Vec<Event>) -> Result<(Recorded, 
     ensures named { IfErr result (IsNamedWithin 0) }
     ensures full { IfErr result (IsFullOnlyPast entry_limit (vec_len first)) }
 {
-    let mut recorded = match open_journal(alloc, broker) {
-        Ok(recorded) => recorded,
-        Err(refused) => {
-            drop(first);
-            return Err(FleetStop::Memory(refused));
-        }
-    };
-    match serve_and_note(alloc, &mut recorded, first) {
-        Ok(noted) => Ok((recorded, noted)),
-        Err(stop) => {
-            drop(recorded);
-            Err(stop)
-        }
-    }
+    let mut recorded = open_journal(alloc, broker)?;
+    let noted = serve_and_note(alloc, &mut recorded, first)?;
+    Ok((recorded, noted))
 }
 
 /// The fault of the fleet for a worker's fault.
@@ -232,20 +218,10 @@ where
     ensures named { IfErr result (IsNamedWithin (length works.now)) }
     ensures full { IfErr result (IsFullOnlyPast entry_limit (vec_len first)) }
 {
-    let room = match Vec::with_capacity(alloc, works.len()) {
-        Ok(room) => room,
-        Err(refused) => {
-            drop(broker);
-            drop(first);
-            return Err(FleetStop::Memory(refused));
-        }
-    };
+    let room = Vec::with_capacity(alloc, works.len())?;
     match begin(alloc, broker, first) {
         Ok((recorded, noted)) => run_begun(rt, alloc, recorded, noted, works, room, gate),
-        Err(stop) => {
-            drop(room);
-            Err(stop)
-        }
+        Err(stop) => Err(stop),
     }
 }
 
@@ -272,18 +248,12 @@ where
     ensures named { IfErr result (NamesOneOf (length works.now)) }
 {
     let shared = SharedBroker::open(recorded);
-    match run_and_gather(rt, alloc, &shared, works, room, gate) {
-        Ok(done) => Ok(Ran {
-            found: shared.finish(),
-            first: noted,
-            done,
-        }),
-        Err(stop) => {
-            drop(shared);
-            drop(noted);
-            Err(stop)
-        }
-    }
+    let done = run_and_gather(rt, alloc, &shared, works, room, gate)?;
+    Ok(Ran {
+        found: shared.finish(),
+        first: noted,
+        done,
+    })
 }
 
 /// Runs the workers, and puts what they left into `room`. A worker that a fault names is one of
@@ -308,10 +278,7 @@ where
 {
     match run_workers(rt, alloc, shared, works, gate) {
         Ok(results) => gather(room, results),
-        Err(stop) => {
-            drop(room);
-            Err(stop)
-        }
+        Err(stop) => Err(stop),
     }
 }
 

@@ -98,10 +98,7 @@ fn end_of(
     } = ran;
     let transcripts = match transcripts_of(alloc, noted, done) {
         Ok(transcripts) => transcripts,
-        Err(refused) => {
-            drop(found);
-            return Err(FleetFault::Stopped(FleetStop::Memory(refused)));
-        }
+        Err(refused) => return Err(FleetFault::Stopped(FleetStop::Memory(refused))),
     };
     if let Some(difference) = difference {
         return Err(torn(difference, found, transcripts));
@@ -148,9 +145,6 @@ pub fn run_scripts<R: Threads + Wait + Sync, G: Gate + Sync>(
     ensures named { IfErr result (NamesWorkerWithin (vec_len scripts)) }
 {
     if scripts.len() > WORKER_LIMIT {
-        drop(broker);
-        drop(first);
-        drop(scripts);
         return Err(FleetFault::TooManyWorkers);
     }
     run_few(rt, alloc, broker, first, scripts, gate)
@@ -177,9 +171,6 @@ fn run_few<R: Threads + Wait + Sync, G: Gate + Sync>(
     ensures named { IfErr result (NamesWorkerWithin (vec_len scripts)) }
 {
     if !has_room(first.as_slice(), scripts.as_slice()) {
-        drop(broker);
-        drop(first);
-        drop(scripts);
         return Err(FleetFault::JournalFull);
     }
     run_fitting(rt, alloc, broker, first, scripts, gate)
@@ -206,17 +197,9 @@ fn run_fitting<R: Threads + Wait + Sync, G: Gate + Sync>(
 {
     let opening = match broker.opening(alloc) {
         Ok(opening) => opening,
-        Err(refused) => {
-            drop(broker);
-            drop(first);
-            drop(scripts);
-            return Err(FleetFault::Stopped(FleetStop::Memory(refused)));
-        }
+        Err(refused) => return Err(FleetFault::Stopped(FleetStop::Memory(refused))),
     };
-    let end = run_from(rt, alloc, &opening, broker, first, scripts.as_slice(), gate);
-    drop(opening);
-    drop(scripts);
-    end
+    run_from(rt, alloc, &opening, broker, first, scripts.as_slice(), gate)
 }
 
 /// Runs scripts over a broker that was opened with these settings, and compares the journal with
