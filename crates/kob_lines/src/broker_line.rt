@@ -70,9 +70,7 @@ impl<'a> BrokerServer<'a> {
         ensures fits { IfOk result (λ reply. Fits request reply) }
     {
         let mut event = event_of(alloc, &self.principal, &self.host, request)?;
-        let served = self.broker.serve_taking(alloc, &mut event);
-        drop(event);
-        let reply = served?;
+        let reply = self.broker.serve_taking(alloc, &mut event)?;
         Ok(reply)
     }
 }

@@ -103,7 +103,6 @@ impl Calls {
                 Delivery::Delivered(reply)
             }
             Err(refused) => {
-                drop(reply);
                 self.fault = Some(CallFault::Memory(refused));
                 self.made.push_reserved(Call {
                     request,

@@ -101,13 +101,10 @@ impl<S: Serve> Line for Connection<S> {
             request result self.new.calls.fault }
     {
         let Some(noted) = self.calls.room_for(alloc, &request) else {
-            drop(request);
             return Delivery::Lost;
         };
         let answer = self.server.serve(alloc, request);
         if let Err(CallFault::JournalFull) = answer {
-            drop(answer);
-            drop(noted);
             self.calls.refuse(CallFault::JournalFull);
             return Delivery::Lost;
         }
@@ -159,9 +156,8 @@ fn received(request: &Request, there: Option<Reply>) -> Option<Reply>
     ensures unheard { IfNone result (IfSome there (λ reply. MayAnswer request.now reply → ⊥)) }
 {
     let reply = there?;
-    if fits(request, &reply) && has_offsets_within(&reply) {
-        return Some(reply);
+    if !fits(request, &reply) || !has_offsets_within(&reply) {
+        return None;
     }
-    drop(reply);
-    None
+    Some(reply)
 }

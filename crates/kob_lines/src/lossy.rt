@@ -63,12 +63,9 @@ impl<L: Line> Serve for LossyServer<L> {
         let loss = self.loss;
         self.loss = Loss::None;
         match loss {
-            Loss::BeforeServe => {
-                drop(request);
-                Ok(None)
-            }
+            Loss::BeforeServe => Ok(None),
             Loss::AfterServe => {
-                drop(self.line.send(alloc, request));
+                self.line.send(alloc, request);
                 Ok(None)
             }
             Loss::None => match self.line.send(alloc, request) {

@@ -57,7 +57,6 @@ impl<'a> Connection<RecordedServer<'a>> {
 impl<'a> RecordedServer<'a> {
     /// Serves one request of the principal, which is not noted as a call. The journal gets one
     /// entry, of this worker with this event and its reply. After a fault it is as before.
-    #[tactic(auto, using(kob_shared::proofs::Journals::reply_fits, kob_shared::proofs::Journals::offsets_bounded))]
     pub fn call(&mut self, alloc: Global, request: Request) -> Result<Reply, CallFault>
         ensures same_broker { self.new.recorded.ghost_name ≡ self.old.recorded.ghost_name }
         ensures worker { self.new.worker ≡ self.old.worker }
@@ -77,13 +76,8 @@ impl<'a> RecordedServer<'a> {
         ensures offsets { IfOk result (λ reply. OffsetsWithin reply) }
     {
         let event = event_of(alloc, &self.principal, &self.host, request)?;
-        let _ = self.recorded.journal();
-        let served = self.recorded.serve_as(alloc, self.worker, &event);
-        drop(event);
-        match served {
-            Ok(receipt) => Ok(receipt.reply),
-            Err(fault) => Err(fault),
-        }
+        let receipt = self.recorded.serve_as(alloc, self.worker, &event)?;
+        Ok(receipt.reply)
     }
 }
 

@@ -125,12 +125,20 @@ fn unquoted(alloc: Global, word: &[u8]) -> Result<Vec<u8>, AllocError> {
     let mut bytes = Vec::new(alloc);
     let mut quoting = Quoting::Plain;
     for byte in word {
+        if quoting == Quoting::DoubleEscaped && !is_escaped_in_double(*byte) {
+            bytes.push(b'\\')?;
+        }
         if quoting.keeps(*byte) {
             bytes.push(*byte)?;
         }
         quoting = quoting.after(*byte);
     }
     Ok(bytes)
+}
+
+/// Whether a backslash before a byte goes in double quotes; it stays before any other byte.
+fn is_escaped_in_double(byte: u8) -> bool {
+    matches!(byte, b'"' | b'\\' | b'$' | b'`')
 }
 
 /// The bytes of each word without its quotes.
