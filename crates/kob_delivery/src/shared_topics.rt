@@ -131,11 +131,7 @@ fn goes_to_topic(
         ≡ goes_to_topic (dispatch_of target.now) topic.now (stored_row row.now)) }
 {
     match record_of(alloc, &target.route, row) {
-        Ok(routed) => {
-            let is_there = routed.topic.as_str() == topic.as_str();
-            drop(routed);
-            Ok(is_there)
-        }
+        Ok(routed) => Ok(routed.topic.as_str() == topic.as_str()),
         Err(RecordFault::BadTopic) => Ok(false),
         Err(RecordFault::Memory(refused)) => Err(refused),
     }

@@ -30,13 +30,8 @@ pub fn opened(
 {
     let broker = fresh(alloc, settings)?;
     let mut recorded = Recorded::open(alloc, broker, limit)?;
-    match serve_all(alloc, &mut recorded, events) {
-        Ok(()) => Ok(recorded),
-        Err(fault) => {
-            drop(recorded);
-            Err(fault)
-        }
-    }
+    serve_all(alloc, &mut recorded, events)?;
+    Ok(recorded)
 }
 
 fn fresh(alloc: Global, settings: Settings) -> Result<Broker, OpenFault>
@@ -54,7 +49,7 @@ fn serve_all(alloc: Global, recorded: &mut Recorded, events: &[Event]) -> Result
         → OnOk result (All (λ x. x.worker ≡ 0) recorded.new.journal) }
 {
     for event in events {
-        drop(recorded.serve_as(alloc, 0, event)?);
+        recorded.serve_as(alloc, 0, event)?;
     }
     Ok(())
 }

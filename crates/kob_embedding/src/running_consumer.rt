@@ -144,10 +144,7 @@ impl<L: Line> RunningConsumer<L> {
     {
         let tick = self.tick(alloc);
         match fault_of(&tick) {
-            Some(fault) => {
-                drop(tick);
-                Err(fault)
-            }
+            Some(fault) => Err(fault),
             None => Ok(tick),
         }
     }
@@ -307,10 +304,9 @@ impl<L: IntoCalls> RunningConsumer<L> {
     {
         let RunningConsumer {
             receiver,
-            past,
+            past: _,
             line,
         } = self;
-        drop(past);
         let calls = line.into_calls();
         ConsumerEnd::new(Part { worker, calls }, receiver)
     }
@@ -326,17 +322,11 @@ impl<L: IntoCalls> RunningConsumer<L> {
     {
         let RunningConsumer {
             receiver,
-            past,
+            past: _,
             line,
         } = self;
-        drop(past);
-        match joined(earlier, line.into_calls()) {
-            Ok(calls) => Ok(ConsumerEnd::new(Part { worker, calls }, receiver)),
-            Err(refused) => {
-                drop(receiver);
-                Err(refused)
-            }
-        }
+        let calls = joined(earlier, line.into_calls())?;
+        Ok(ConsumerEnd::new(Part { worker, calls }, receiver))
     }
 }
 
@@ -356,12 +346,7 @@ impl<L: IntoCalls + Drop> RunningConsumer<L> {
         ensures ok { OnOk done (OnErr result ⊥) }
         ensures fault { IfErr done (λ fault. IsErrOf result fault) }
     {
-        match done {
-            Ok(()) => Ok(self.close(worker)),
-            Err(fault) => {
-                drop(self);
-                Err(fault)
-            }
-        }
+        done?;
+        Ok(self.close(worker))
     }
 }

@@ -162,10 +162,7 @@ impl<L: IntoCalls + Drop> Held<L> {
         ensures err { OnErr result (self.new ≡ self.old) }
     {
         let made = self.service.line().made_calls().len();
-        if let Err(refused) = self.earlier.reserve(made) {
-            drop(line);
-            return Err(refused);
-        }
+        self.earlier.reserve(made)?;
         let mut calls = self.service.change_line(line).into_calls();
         self.earlier.append(&mut calls).unwrap();
         Ok(())

@@ -119,12 +119,9 @@ impl<'a, R: Wait, G: Gate> DeskLine<'a, R, G> {
     {
         match loss {
             Loss::None => self.serve(alloc, request),
-            Loss::BeforeServe => {
-                drop(request);
-                None
-            }
+            Loss::BeforeServe => None,
             Loss::AfterServe => {
-                drop(self.serve(alloc, request));
+                self.serve(alloc, request);
                 None
             }
         }
@@ -198,7 +195,6 @@ impl<'a, R: Wait, G: Gate> Line for DeskLine<'a, R, G> {
         let loss = self.loss;
         self.loss = Loss::None;
         let Some(noted) = self.calls.room_for(alloc, &request) else {
-            drop(request);
             self.fault = self.calls.fault;
             return Delivery::Lost;
         };

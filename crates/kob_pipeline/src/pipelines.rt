@@ -88,13 +88,8 @@ fn opened(alloc: Global, plan: &Plan) -> Result<(Broker, Settings, Vec<Event>), 
 {
     let first = plan.first.copy(alloc)?;
     let broker = broker_of(alloc, &plan.settings)?;
-    match broker.opening(alloc) {
-        Ok(opening) => Ok((broker, opening, first.into_vec())),
-        Err(refused) => {
-            drop(broker);
-            Err(refused)
-        }
-    }
+    let opening = broker.opening(alloc)?;
+    Ok((broker, opening, first.into_vec()))
 }
 
 /// A broker with these settings. The error is out of memory.
@@ -127,7 +122,6 @@ fn end_of(
 {
     let _answered = ran.first.receipts();
     if !are_whole(&ran.done) {
-        drop(ran);
         return Err(PipelineFault::Store);
     }
     match find_tear(opening, &ran) {

@@ -162,8 +162,7 @@ impl Posting {
         ensures mark { IfOk result (λ left. left.mark ≡ self.relay.outbox.mark) }
     {
         let Posting { relay } = self;
-        let (mut outbox, router) = relay.into_parts();
-        drop(router);
+        let (mut outbox, _) = relay.into_parts();
         let mark = outbox.mark()?;
         let rows = rows_of(&mut outbox)?;
         Ok(OutboxEnd { rows, mark })

@@ -13,9 +13,9 @@ returns-clause-waits g c =
     let one : (0 < length rows) ↔ IsSome (next_row outbox) =
     one_is_read rows c.in_ok-mark.mark outbox c.in_ok-mark.ensures.value read in (
       λ waits.
-          let within : 0 < c.len-waits.result = search rules in
-          one.0 (omega (arith, within, c.len-waits.ensures)),
+          let within : 0 < c.len.result = search rules in
+          one.0 (omega (arith, within, c.len.ensures)),
       λ some.
           let within = one.1 some in
-          let many : 0 < c.len-waits.result = omega (arith, within, c.len-waits.ensures) in search rules,
+          let many : 0 < c.len.result = omega (arith, within, c.len.ensures) in search rules,
     )
