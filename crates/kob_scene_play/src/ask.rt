@@ -12,7 +12,6 @@ use std::alloc::Global;
 
 /// Serves an event as a worker's, unless it is lost before, and returns the reply, unless it is
 /// lost.
-#[tactic(auto, using(kob_shared::proofs::Journals::reply_fits, kob_shared::proofs::Journals::offsets_bounded))]
 pub(crate) fn ask(
     alloc: Global,
     recorded: &mut Recorded,
@@ -26,7 +25,6 @@ pub(crate) fn ask(
 {
     match loss {
         Loss::None => {
-            let _ = recorded.journal();
             let receipt = recorded.serve_as(alloc, worker, event)?;
             Ok(Some(receipt.reply))
         }

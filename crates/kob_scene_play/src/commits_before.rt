@@ -73,7 +73,6 @@ fn handle_body(
     match mem::replace(holding, Holding::Nothing) {
         Holding::Nothing => handle_due(alloc, receiver, holding, request, body),
         Holding::Fetched(held) => {
-            drop((request, body));
             *holding = Holding::Committed(held);
             Ok(Tick::Committed)
         }
@@ -146,19 +145,10 @@ fn take_records(alloc: Global, receiver: &mut Receiver, held: Held) -> Result<u6
         ≡ with_held receiver.old.fetcher.subscription (received_state receiver.old) held) }
 {
     let Held { asked, records } = held;
-    let is_due = is_due(alloc, receiver.consumer(), &asked);
-    drop(asked);
-    match is_due {
-        Ok(true) => took(receiver.hear(alloc, Body::Records(records))?),
-        Ok(false) => {
-            drop(records);
-            Err(TickFault::NotDue)
-        }
-        Err(refused) => {
-            drop(records);
-            Err(TickFault::Memory(refused))
-        }
+    if !is_due(alloc, receiver.consumer(), &asked)? {
+        return Err(TickFault::NotDue);
     }
+    took(receiver.hear(alloc, Body::Records(records))?)
 }
 
 /// Whether this FETCH is due to the consumer.
@@ -167,16 +157,8 @@ fn is_due(alloc: Global, consumer: &Consumer, asked: &Fetch) -> Result<bool, All
         consumer.now.cursors.items consumer.now.turn ≡ Some (Request.Fetch asked.now)) }
 {
     match consumer.due(alloc)? {
-        Some(Request::Fetch(due)) => {
-            let is = due.same(asked);
-            drop(due);
-            Ok(is)
-        }
-        Some(other) => {
-            drop(other);
-            Ok(false)
-        }
-        None => Ok(false),
+        Some(Request::Fetch(due)) => Ok(due.same(asked)),
+        _ => Ok(false),
     }
 }
 
@@ -198,15 +180,10 @@ fn count_committed(alloc: Global, receiver: &mut Receiver) -> Result<(), TickFau
         (received_state receiver.old) (received_state receiver.new)) }
 {
     match receiver.consumer().due(alloc)? {
-        Some(Request::OffsetCommit(commit)) => {
-            drop(commit);
+        Some(Request::OffsetCommit(_)) => {
             receiver.hear(alloc, Body::Committed)?;
             Ok(())
         }
-        Some(other) => {
-            drop(other);
-            Err(TickFault::NotDue)
-        }
-        None => Err(TickFault::NotDue),
+        _ => Err(TickFault::NotDue),
     }
 }

@@ -130,10 +130,7 @@ impl ConsumerWorker {
             Ok(heard) => {
                 handle_reply(alloc, &mut self.receiver, &mut self.holding, event, heard)
             }
-            Err(fault) => {
-                drop(event);
-                Err(TickFault::from(fault))
-            }
+            Err(fault) => Err(TickFault::from(fault)),
         }
     }
 

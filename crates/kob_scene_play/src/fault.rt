@@ -222,14 +222,8 @@ pub(crate) fn unless<T: Drop>(
 {
     match fault {
         None if is_lost => Ok(answer),
-        None => {
-            drop(answer);
-            Err(TickFault::NotLost)
-        }
-        Some(fault) => {
-            drop(answer);
-            Err(fault)
-        }
+        None => Err(TickFault::NotLost),
+        Some(fault) => Err(fault),
     }
 }
 

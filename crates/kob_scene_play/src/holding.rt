@@ -78,10 +78,7 @@ pub(crate) fn held_of(request: Request, body: Body) -> Result<Held, Body>
             Body::Records(records) => held_records(asked, records),
             other => Err(other),
         },
-        other => {
-            drop(other);
-            Err(body)
-        }
+        _ => Err(body),
     }
 }
 
@@ -89,7 +86,6 @@ fn held_records(asked: Fetch, records: Items<(u64, Record)>) -> Result<Held, Bod
     ensures { result ≡ held_or (Request.Fetch asked) (bodies.Records records) }
 {
     if records.len() == 0 {
-        drop(asked);
         return Err(Body::Records(records));
     }
     Ok(Held { asked, records })

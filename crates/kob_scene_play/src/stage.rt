@@ -92,33 +92,15 @@ impl<'s> Stage<'s> {
         ensures met { IfOk result (λ stage. stage.unmet ≡ all_met) }
         ensures stopped { IfErr result (MayNotOpen settings) }
     {
-        let services = match all_services(alloc, services) {
-            Ok(services) => services,
-            Err(fault) => {
-                drop(consumers);
-                return Err(fault);
-            }
-        };
-        let consumers = match all_consumers(alloc, consumers) {
-            Ok(consumers) => consumers,
-            Err(fault) => {
-                drop(services);
-                return Err(fault);
-            }
-        };
-        match recorded_by(alloc, settings) {
-            Ok(recorded) => Ok(Stage {
-                recorded,
-                services,
-                consumers,
-                unmet: Unmet::none(),
-            }),
-            Err(fault) => {
-                drop(services);
-                drop(consumers);
-                Err(fault)
-            }
-        }
+        let services = all_services(alloc, services)?;
+        let consumers = all_consumers(alloc, consumers)?;
+        let recorded = recorded_by(alloc, settings)?;
+        Ok(Stage {
+            recorded,
+            services,
+            consumers,
+            unmet: Unmet::none(),
+        })
     }
 
     /// The name of a worker; `-` for worker 0, which has none.
@@ -221,7 +203,6 @@ fn add_service<'s>(
     ensures stopped { IfErr result IsMemoryOrStore }
 {
     if let Err(refused) = all.reserve(1) {
-        drop(service);
         return Err(PlayFault::Memory(refused));
     }
     let Service {
@@ -239,10 +220,7 @@ fn add_service<'s>(
             all.push_reserved(PlayedService { name, service });
             Ok(())
         }
-        Err(fault) => {
-            drop(name);
-            Err(PlayFault::from(fault))
-        }
+        Err(fault) => Err(PlayFault::from(fault)),
     }
 }
 
@@ -270,7 +248,6 @@ fn add_consumer(
     ensures stopped { IfErr result IsMemoryOrStore }
 {
     if let Err(refused) = all.reserve(1) {
-        drop(consumer);
         return Err(PlayFault::Memory(refused));
     }
     let Consumer {
@@ -287,9 +264,6 @@ fn add_consumer(
             all.push_reserved(PlayedConsumer { name, consumer });
             Ok(())
         }
-        Err(fault) => {
-            drop(name);
-            Err(PlayFault::from(fault))
-        }
+        Err(fault) => Err(PlayFault::from(fault)),
     }
 }
