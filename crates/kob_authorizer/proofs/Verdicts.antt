@@ -1,5 +1,7 @@
 -- Whether a binding in force matches a resource, by the test and by what it means.
-use Rattle.kob_authorizer.proofs.Words.{ArePatternsOf, Binding, Contains, Decides, List, Matches, NoneMatches, Question, SomeMatches, arith, false, is_match, list_any, nat_tests, resource_decides, true, ℕ, ◌≡◌, Allow, Bool, Contains-from_any, Contents, Decides-and, Decides-like, Deny, IsEarliest, IsRising, IsTrue, IsTrueVerdict, None, NoneHits, Option, Permission, Some, both_ways, bytes_eq-Decides, covers, decide, decide_by_bindings, first_serial, hits, is_granted, is_hit, is_super, list_any-from_Contains, matches, nat_list_eq_equiv, not, permission_decides, reaches, refl, unless_open, verdict_of, ◌&&◌, ◌↔◌, ◌≤◌, AreRising, Contains-append_left, Contains-append_right, Decides-eqb, Held, Index, Indexes, IsIndex, Literal, Place, PrefixMap, Prefixed, ResourceKind, along_has_literal, along_has_prefixed, and_from, and_parts, behind, codes, drop, entries_on, filter, held, inl, inr, is_equal, is_place, key_place, keys_on, kind_in_tree, least_passing, length, matches_by, matching_serials, nat_eq, or_cases, pattern_place, same_binding_decides, same_resource, same_text, serial_of, serials_along, serials_for, serials_from, serials_of, starts_is, starts_with, subst, sym, tree_of, ◌++◌, ◌||◌, Verdict, common_steps, Contains-append_cases, [], is_unmatched, ne_eqb, same_kind, walk_of, walk_only, ◌==◌, ◌∷◌}
+use Rattle.kob_names.specs.declared.kinds.Operation.TheVariants.{All}
+use Rattle.kob_authorizer.specs.Decide.{has_match}
+use Rattle.kob_authorizer.proofs.Words.{ap, ◌∙◌, question_of, ArePatternsOf, Binding, Contains, Decides, List, Matches, NoneMatches, Question, SomeMatches, arith, false, is_match, list_any, nat_tests, resource_decides, true, ℕ, ◌≡◌, Allow, Bool, Contains-from_any, Contents, Decides-and, Decides-like, Deny, IsEarliest, IsRising, IsTrue, IsTrueVerdict, None, NoneHits, Option, Permission, Some, both_ways, bytes_eq-Decides, covers, decide, decide_by_bindings, first_serial, hits, is_granted, is_hit, is_super, list_any-from_Contains, matches, nat_list_eq_equiv, not, permission_decides, reaches, refl, unless_open, verdict_of, ◌&&◌, ◌↔◌, ◌≤◌, AreRising, Contains-append_left, Contains-append_right, Decides-eqb, Held, Index, Indexes, IsIndex, Literal, Place, PrefixMap, Prefixed, ResourceKind, along_has_literal, along_has_prefixed, and_from, and_parts, behind, codes, drop, entries_on, filter, held, inl, inr, is_equal, is_place, key_place, keys_on, kind_in_tree, least_passing, length, matches_by, matching_serials, nat_eq, or_cases, pattern_place, same_binding_decides, same_resource, same_text, serial_of, serials_along, serials_for, serials_from, serials_of, starts_is, starts_with, subst, sym, tree_of, ◌++◌, ◌||◌, Verdict, common_steps, Contains-append_cases, [], is_unmatched, ne_eqb, same_kind, walk_of, walk_only, ◌==◌, ◌∷◌}
 use Rattle.kob_authorizer.proofs.Entries.{any_passes, each, of_each, passing, first_is, least_is, none_is, first_serial_found, among_mapped, kept_by_filter, at_head, given_by, was_kept}
 use Rattle.kob_authorizer.specs.Decide.{Hits}
 use Rattle.kob_authorizer.specs.declared.patterns.Patterns.{Patterns}
@@ -315,3 +317,16 @@ module _ (index : Index) (entries : List (ℕ × Binding)) (indexed : Indexes in
 
   pub none_given : (length (matching_serials (held tree) question.name) == 0) ≡ is_unmatched entries question
   none_given = grind (arith, nat_tests, none_by)
+
+not_twice : (b : Bool) → not (not b) ≡ b
+not_twice true = refl
+not_twice false = refl
+
+-- a serial is given for the name if the pattern of a binding takes it
+pub some_given : (index : Index) (entries : List (ℕ × Binding)) → Indexes index entries
+    → (resource : ResourceKind) (name : List ℕ)
+    → not (length (matching_serials (held (tree_of index.patterns resource)) name) == 0)
+    ≡ has_match entries resource name
+some_given index entries indexed resource name =
+    let question = question_of [] [] All resource name in
+    ap not (none_given index entries indexed question) ∙ not_twice (list_any (is_match question) entries)

@@ -90,10 +90,18 @@ decide_by_bindings entries supers question =
     verdict_of (is_super supers question.principal)
     (first_serial (hits entries Deny question)) (first_serial (hits entries Allow question))
 
+-- the pattern of the binding takes the name on the kind of resource
+abbrev pub takes_name : ResourceKind → List ℕ → Binding → Bool
+takes_name resource name binding =
+    same_resource binding.resource resource && matches binding.pattern name
+
+-- the pattern of a binding takes the name
+abbrev pub has_match : List (ℕ × Binding) → ResourceKind → List ℕ → Bool
+has_match entries resource name = list_any (λ entry. takes_name resource name entry.1) entries
+
 -- the binding is for the kind of resource, and its pattern matches the name
 abbrev pub is_match : Question → ℕ × Binding → Bool
-is_match question entry =
-    same_resource entry.1.resource question.resource && matches entry.1.pattern question.name
+is_match question entry = takes_name question.resource question.name entry.1
 
 -- no binding matches the resource, whatever its principal, host, operation and permission
 abbrev pub is_unmatched : List (ℕ × Binding) → Question → Bool

@@ -4,7 +4,7 @@ ghost use Rattle.std.specs.Prelude.{◌≡◌, ◌≢◌, ◌≤◌, IfErr, IfOk
 ghost use Rattle.std.specs.Prelude.{alloc_error};
 ghost use Rattle.kob_authorizer.specs.Decide.{IsRising, fresh_contents};
 ghost use Rattle.kob_authorizer.specs.Creation.{CanCreate, Creates, addition, with_creation};
-ghost use Rattle.kob_authorizer.specs.Decide.{decide, question_of, IsTrueVerdict};
+ghost use Rattle.kob_authorizer.specs.Decide.{decide, has_match, question_of, IsTrueVerdict};
 ghost use Rattle.kob_authorizer.specs.Deletion.{CanDelete, bindings_left, bindings_taken};
 ghost use Rattle.kob_authorizer.specs.Deletion.{without_taken};
 ghost use Rattle.kob_authorizer.specs.Creation.{binding_limit, create_fault};
@@ -14,7 +14,7 @@ use crate::deletion::{PreparedDelete, copies_taken, remove_taken};
 use crate::entry_list::EntryList;
 use crate::fault::CreateFault;
 use crate::index::{Index, put_all, remove_keys};
-use crate::look_up::verdict;
+use crate::look_up::{is_unmatched, verdict};
 use crate::patterns::remove_all;
 use crate::question::Question;
 use crate::super_users::SuperUsers;
@@ -144,6 +144,14 @@ impl Authorizer {
                 &question,
             )
         }
+    }
+
+    /// Whether the pattern of a binding in force takes the name, for whomever and whatever the binding
+    /// is. No binding is examined.
+    pub fn has_match(&self, resource: ResourceKind, name: &str) -> bool
+        ensures { result ≡ has_match self.now.contents.entries resource name.now }
+    {
+        !is_unmatched(&self.index, resource, name)
     }
 
     /// Puts bindings in force, all or none, and returns their serials in the order of the bindings.

@@ -16,7 +16,7 @@ use crate::hits::Hits;
 use crate::index::Index;
 use crate::key::{SEPARATOR, keys_on};
 use crate::question::Question;
-use kob_names::{Binding, Permission, Verdict};
+use kob_names::{Binding, Permission, ResourceKind, Verdict};
 use kob_prefix_tree::{Part, PatternKind};
 
 /// The verdict for a principal that is not a super user. A deny wins over every allow. Without
@@ -40,7 +40,8 @@ pub fn verdict(
         Some(serial) => Verdict::DeniedBy(serial),
         None => match hits.allow {
             Some(serial) => Verdict::AllowedBy(serial),
-            None if everyone && is_unmatched(index, question) => Verdict::NoAclFound,
+            None if everyone && is_unmatched(index, question.resource, question.name) =>
+                Verdict::NoAclFound,
             None => Verdict::NoAllow,
         },
     }
@@ -48,13 +49,12 @@ pub fn verdict(
 
 /// Whether no binding matches the resource, whatever its other parts: the trees have no serial for
 /// the name. No binding is examined.
-fn is_unmatched(index: &Index, question: &Question) -> bool
+pub fn is_unmatched(index: &Index, resource: ResourceKind, name: &str) -> bool
     ensures { result ≡ (length (matching_serials
-        (held (tree_of index.now.patterns question.now.resource)) question.now.name.now) == 0) }
+        (held (tree_of index.now.patterns resource)) name.now) == 0) }
 {
-    let tree = index.patterns.tree(question.resource);
-    tree.walk(question.name.as_bytes()).next().is_none()
-        && tree.literal("*".as_bytes()).next().is_none()
+    let tree = index.patterns.tree(resource);
+    tree.walk(name.as_bytes()).next().is_none() && tree.literal("*".as_bytes()).next().is_none()
 }
 
 /// The least serials of a deny and of an allow that hit the question.

@@ -1,5 +1,5 @@
 -- What a broker does: one event is one step; what a prepared change does, and when it can be made.
-use Rattle.std.specs.Prelude.{◌≡◌, ◌<◌, ◌≤◌, ◌+◌, ◌++◌, true, [], ◌∷◌, ℕ, Bool, List, Option, Some, None}
+use Rattle.std.specs.Prelude.{◌≡◌, ◌≢◌, ◌<◌, ◌≤◌, ◌+◌, ◌++◌, true, [], ◌∷◌, ℕ, Bool, List, Option, Some, None}
 use Rattle.kob_groups.specs.Kept.{groups_of}
 use Rattle.kob_broker.specs.Batches.{produce_left}
 use Rattle.kob_broker.specs.Records.{producer_limit, code_of, delete_records_after, delete_records_reasons, fetch_reasons, fetched_at, init_producer_reasons, judged_at, offset_at, offset_told, produce_after, produce_reasons, start_after}
@@ -10,7 +10,7 @@ use Rattle.kob_broker.specs.declared.prepared.Change.{Change}
 use Rattle.kob_broker.specs.declared.prepared.Prepared.{Prepared}
 use Rattle.kob_rights.specs.declared.reply.Body.{Body}
 pub use Rattle.kob_rights.specs.declared.request.Request.TheVariants.{Produce, Fetch, ListOffsets, Metadata, OffsetCommit, OffsetFetch, ListGroups, DeleteGroups, CreateTopics, DeleteTopics, DeleteRecords, InitProducerId, DescribeAcls, CreateAcls, DeleteAcls}
-use Rattle.std.specs.List.{flat_map}
+use Rattle.std.specs.List.{enumerate_from, flat_map}
 use Rattle.kob_broker.specs.Bindings.{create_acls_reasons, created_serials, draft_reasons}
 use Rattle.kob_broker.specs.Denial.{Done, Refused, denial_of, end_at, first_reason, named_reasons}
 use Rattle.kob_broker.specs.Groups.{delete_groups_reasons, groups_shown, offset_commit_after, offset_commit_reasons, offset_committed, offset_fetch_reasons}
@@ -18,6 +18,8 @@ use Rattle.kob_groups.specs.Groups as groups
 use Rattle.kob_groups.specs.Kept as groups_kept
 use Rattle.kob_broker.specs.declared.prepared.Change.TheVariants as changes
 use Rattle.kob_rights.specs.declared.reply.Body.TheVariants as bodies
+use Rattle.kob_rights.specs.declared.on_partitions.Fetch as asked
+use Rattle.kob_partition.specs.Meaning.{Lent}
 
 -- The tables say what each kind of request does.
 
@@ -166,6 +168,22 @@ module _ {P : Type 0} (m : Meaning P) where
   abbrev pub state_after : List Event → State P → State P
   state_after [] s = s
   state_after (event ∷ events) s = state_after events (step s event).state
+
+-- Records that are lent, and not copied.
+
+-- a FETCH that is done tells these records, and leaves the state as it was
+abbrev pub lent_outcome : State Retained → Lent → Outcome Retained
+lent_outcome s lent = record {
+  reply = Done (bodies.Records (enumerate_from lent.first lent.records));
+  state = s;
+}
+
+-- what a FETCH tells that is done, and nothing for any other event
+abbrev pub IsLent : State Retained → Event → Option Lent → Type 0
+IsLent s event (Some lent) = step retained_meaning s event ≡ lent_outcome s lent
+IsLent s event None =
+    (fetch : asked.Fetch) → event.request ≡ Fetch fetch → (body : Body)
+    → (step retained_meaning s event).reply ≢ Done body
 
 -- what a fresh broker keeps of no batches is what a fresh broker over all accepted batches has
 abbrev pub OpensAlike : Settings → Type 0

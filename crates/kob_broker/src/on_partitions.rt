@@ -1,19 +1,20 @@
 //! What is done about the records of a partition, except for a batch.
 
-ghost use Rattle.std.specs.Prelude.{◌≡◌, IfErr, IfOk, OnErr, OnOk, Some, true};
-ghost use Rattle.kob_broker.specs.Step.{MakesFor, NeedsMemory, state_of};
-ghost use Rattle.kob_broker.specs.Denial.{IsUnnamed};
+ghost use Rattle.std.specs.Prelude.{◌≡◌, ◌≢◌, IfErr, IfOk, None, OnErr, OnOk, Some, true};
+ghost use Rattle.kob_broker.specs.Step.{IsLent, MakesFor, NeedsMemory, state_of};
+ghost use Rattle.kob_broker.specs.Denial.{IsUnnamed, denial_of};
 ghost use Rattle.kob_catalog.specs.Kept.{topics_of};
 ghost use Rattle.kob_catalog.specs.Topics.{has_topic, partition_of};
 ghost use Rattle.kob_partition.specs.Retained.{retained_meaning};
 ghost use Rattle.kob_rights.specs.declared.request.Request.TheVariants as requests;
 
 use crate::broker::Broker;
+use crate::denial::denial_of;
 use crate::prepared::{Change, Prepared};
 use kob_catalog::PartitionFault;
 use kob_names::{PlainValue, Text};
-use kob_partition::{AdvanceFault, FetchFault, PartitionLog};
-use kob_rights::{Before, Body, DeleteRecords, Fetch, ListOffsets, Reason, Which};
+use kob_partition::{AdvanceFault, FetchFault, LentRecords, PartitionLog};
+use kob_rights::{Before, Body, DeleteRecords, Event, Fetch, ListOffsets, Reason, Request, Which};
 use std::alloc::{AllocError, Global};
 
 impl Broker {
@@ -48,6 +49,29 @@ impl Broker {
             Ok(records) => Ok(Prepared::done(Body::Records(records), Change::Unchanged)),
             Err(FetchFault::OutOfRange) => Ok(Prepared::refused(Reason::OutOfRange)),
             Err(FetchFault::Memory(refused)) => Err(refused),
+        }
+    }
+
+    /// The records of the reply to a FETCH that is done, lent from the log, where `serve` copies them.
+    /// Nothing is lent if the FETCH is denied or refused, or for any other request. The error is out
+    /// of memory, which only a denial can meet.
+    pub fn lend_records(
+        &self,
+        alloc: Global,
+        event: &Event,
+    ) -> Result<Option<LentRecords<'_>>, AllocError>
+        ensures lent { IfOk result (IsLent (state_of self.now) event.now) }
+        ensures memory { OnErr result (denial_of (state_of self.now).access event.now ≢ None) }
+    {
+        let Request::Fetch(fetch) = &event.request else {
+            return Ok(None);
+        };
+        if denial_of(alloc, &self.authorizer, event)?.is_some() {
+            return Ok(None);
+        }
+        match self.named(&fetch.topic, fetch.partition) {
+            Ok(log) => Ok(log.lend(fetch.offset, fetch.max)),
+            Err(_) => Ok(None),
         }
     }
 

@@ -11,18 +11,12 @@ use Rattle.kob_rights.specs.declared.reply.Body.{Body}
 use Rattle.kob_rights.specs.declared.reply.Reply.TheVariants.{Denied, Refused, Done}
 use Rattle.kob_rights.specs.declared.reply.Reply.{Reply}
 use Rattle.kob_script.specs.declared.fault.Fault.{Fault}
-use Rattle.kob_words.specs.Words.{binding_text, bytes_text}
+use Rattle.kob_words.specs.Words.{binding_text, bytes_text, counted, spaced}
 use Rattle.kob_script.specs.Words.{FaultKind, rank}
 
--- an item of a list, after a space
-abbrev pub serial_item : ℕ → List ℕ
-serial_item serial = codes " " ++ decimal serial
-
-abbrev pub group_item : List ℕ → List ℕ
-group_item name = codes " " ++ bytes_text name
-
+-- NAME:PARTITIONS, after a space
 abbrev pub topic_item : List ℕ × ℕ → List ℕ
-topic_item (name, partitions) = codes " " ++ bytes_text name ++ codes ":" ++ decimal partitions
+topic_item (name, partitions) = spaced name ++ codes ":" ++ decimal partitions
 
 -- KEY=, or nothing without a key
 abbrev pub key_text : Option (List ℕ) → List ℕ
@@ -32,7 +26,7 @@ key_text (Some key) = bytes_text key ++ codes "="
 -- OFFSET:KEY=VALUE or OFFSET:VALUE; headers aren't printed
 abbrev pub record_item : ℕ × Record → List ℕ
 record_item (offset, message) =
-    codes " " ++ decimal offset ++ codes ":" ++ key_text message.key ++ bytes_text message.value
+    counted offset ++ codes ":" ++ key_text message.key ++ bytes_text message.value
 
 -- a line of its own
 abbrev pub binding_item : ℕ × Binding → List ℕ
@@ -42,7 +36,7 @@ abbrev pub body_text : Body → List ℕ
 body_text Created = codes "created"
 body_text Deleted = codes "deleted"
 body_text Committed = codes "committed"
-body_text (Serials serials) = codes "serials" ++ flat_map serial_item serials
+body_text (Serials serials) = codes "serials" ++ flat_map counted serials
 body_text (Bindings bindings) =
     codes "bindings " ++ decimal (length bindings) ++ flat_map binding_item bindings
 body_text (Offset offset) = codes "offset " ++ decimal offset
@@ -51,7 +45,7 @@ body_text (Commit None) = codes "commit -1"
 body_text (Commit (Some offset)) = codes "commit " ++ decimal offset
 body_text (Records records) = codes "records" ++ flat_map record_item records
 body_text (Topics topics) = codes "topics" ++ flat_map topic_item topics
-body_text (Groups groups) = codes "groups" ++ flat_map group_item groups
+body_text (Groups groups) = codes "groups" ++ flat_map spaced groups
 body_text (Producer id epoch) = codes "producer " ++ decimal id ++ codes " " ++ decimal epoch
 
 -- a denial has none but the verdicts of denials

@@ -160,9 +160,10 @@ fn after_acl<'w, 'l>(words: &'w [Word<'l>]) -> Option<&'w [Word<'l>]>
     }
 }
 
-/// The commands of `clap`'s answer to the words of a line. The fault is `Usage` for `None`.
+/// The commands of `clap`'s answer to the words of a line, or the first fault of its options. The
+/// fault is `Usage` for `None`.
 #[tactic(auto, using(crate::proofs::LineFaults::fails_first_of))]
-fn acl_commands(alloc: Global, answer: Option<&CliArgs>) -> Result<Vec<AclCommand>, LineError>
+pub fn acl_commands(alloc: Global, answer: Option<&CliArgs>) -> Result<Vec<AclCommand>, LineError>
     ensures { GivesSeen (λ commands. commands.items) result
         (acl_commands (option_copied answer.entry)) }
 {

@@ -16,12 +16,12 @@ mod values;
 mod words;
 
 pub use checked::CheckedScript;
-pub use command_lines::{answer_to, events_of};
+pub use command_lines::{acl_commands, answer_to, events_of};
 pub use fault::{Fault, FaultKind, LineError, ScriptError};
 pub use laws::{faults_come_in_their_order, plain_scripts_have_one_reading};
 pub use place::fault_place;
-pub use printed::{print_fault, print_reply, push_outcome};
+pub use printed::{kind_text, print_fault, print_reply, push_outcome, push_record};
 pub use requests::Requests;
 pub use script::{Script, check_script, everyone_of, is_setting, is_super, read_script, super_of};
-pub use values::{host_of, lent_text_of, number_of, principal_of, text_of};
+pub use values::{host_of, lent_text_of, number_of, principal_of, text_of, texts_of};
 pub use words::{Word, words_of};

@@ -2,16 +2,18 @@
 #![tactic(auto, using(kob_words::proofs::Appending::kept))]
 
 ghost use Rattle.std.specs.Prelude.{◌≡◌, ◌++◌, ℕ, List, OnErr, OnOk, decimal, flat_map};
-ghost use Rattle.kob_words.specs.Words.{IsKept};
+ghost use Rattle.kob_words.specs.Words.{IsKept, counted, spaced};
 ghost use Rattle.kob_script.specs.Printed.{binding_item, body_text, code_text, fault_text};
-ghost use Rattle.kob_script.specs.Printed.{group_item, kind_text, outcome_text, record_item};
-ghost use Rattle.kob_script.specs.Printed.{reply_text, serial_item, topic_item, verdict_item};
+ghost use Rattle.kob_script.specs.Printed.{kind_text, outcome_text, record_item};
+ghost use Rattle.kob_script.specs.Printed.{reply_text, topic_item, verdict_item};
 ghost use Rattle.kob_script.specs.Printed.{verdict_text, verdicts_text};
 
 use crate::fault::{Fault, FaultKind};
 use kob_names::{Binding, Record, Text, Verdict};
 use kob_rights::{Body, Code, Reply};
-use kob_words::{print_binding, push_bytes, push_number, whole_or_nothing};
+use kob_words::{
+    print_binding, push_bytes, push_counted, push_number, push_spaced, whole_or_nothing,
+};
 use std::alloc::AllocError;
 
 /// Prints the number of a reply, the reply and a line feed. On an error `out` is as it was.
@@ -168,11 +170,10 @@ impl Item for Verdict {
 }
 
 impl Item for u64 {
-    ghost text = { serial_item };
+    ghost text = { counted };
 
     fn push(&self, out: &mut Vec<u8>) -> Result<(), AllocError> {
-        out.push(b' ')?;
-        push_number(out, *self)
+        push_counted(out, *self)
     }
 }
 
@@ -189,14 +190,7 @@ impl Item for (u64, Record) {
     ghost text = { record_item };
 
     fn push(&self, out: &mut Vec<u8>) -> Result<(), AllocError> {
-        out.push(b' ')?;
-        push_number(out, self.0)?;
-        out.push(b':')?;
-        if let Some(key) = &self.1.key {
-            push_bytes(out, key.as_slice())?;
-            out.push(b'=')?;
-        }
-        push_bytes(out, self.1.value.as_slice())
+        push_record(out, self.0, &self.1)
     }
 }
 
@@ -211,12 +205,26 @@ impl Item for (Text, u64) {
 }
 
 impl Item for Text {
-    ghost text = { group_item };
+    ghost text = { spaced };
 
     fn push(&self, out: &mut Vec<u8>) -> Result<(), AllocError> {
-        out.push(b' ')?;
-        push_bytes(out, self.as_str().as_bytes())
+        push_spaced(out, self.as_str().as_bytes())
     }
+}
+
+/// Prints a space, the offset of a record, its key if it has one, and its value:
+/// ` OFFSET:KEY=VALUE` or ` OFFSET:VALUE`. Headers are not printed.
+pub fn push_record(out: &mut Vec<u8>, offset: u64, message: &Record) -> Result<(), AllocError>
+    ensures text { OnOk result (out.new.items ≡ out.old.items ++ record_item (offset, message.now)) }
+    ensures kept { OnErr result (IsKept out.old.items out.new.items) }
+{
+    push_counted(out, offset)?;
+    out.push(b':')?;
+    if let Some(key) = &message.key {
+        push_bytes(out, key.as_slice())?;
+        out.push(b'=')?;
+    }
+    push_bytes(out, message.value.as_slice())
 }
 
 /// Prints the line `fault line LINE KIND` with its line feed. On an error `out` is as it was.
@@ -239,7 +247,8 @@ fn push_fault(out: &mut Vec<u8>, fault: Fault) -> Result<(), AllocError>
     out.extend_from_slice(b"\n")
 }
 
-fn kind_text(kind: FaultKind) -> &'static str
+/// The name of a kind of fault, as it is printed.
+pub fn kind_text(kind: FaultKind) -> &'static str
     ensures { result.now ≡ kind_text kind }
 {
     match kind {

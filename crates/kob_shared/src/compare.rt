@@ -31,7 +31,7 @@ fn walk(journal: &Journal, worker: usize, events: &[Event], told: &[Receipt]) ->
 {
     let mut next = 0;
     for place in 0..journal.len() {
-        let entry = journal.at(place);
+        let entry = journal.entry_at(place);
         if entry.worker != worker {
             continue;
         }
@@ -102,7 +102,7 @@ fn find_stranger(journal: &Journal, workers: usize) -> Option<Difference>
         × All (λ x. x.worker < workers) (take d.place journal.now)) }
 {
     for place in 0..journal.len() {
-        let entry = journal.at(place);
+        let entry = journal.entry_at(place);
         if entry.worker >= workers {
             return Some(Difference {
                 worker: entry.worker,

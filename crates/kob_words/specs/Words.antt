@@ -101,6 +101,14 @@ bytes_text bytes = flat_map byte_text bytes
 abbrev pub plain_length : List ℕ → ℕ
 plain_length bytes = prefix_len is_plain bytes
 
+-- bytes after a space
+abbrev pub spaced : List ℕ → List ℕ
+spaced bytes = codes " " ++ bytes_text bytes
+
+-- a number after a space
+abbrev pub counted : ℕ → List ℕ
+counted number = codes " " ++ decimal number
+
 -- What there was still stands at the front.
 abbrev pub IsKept : List ℕ → List ℕ → Type 0
 IsKept old new = take (length old) new ≡ old

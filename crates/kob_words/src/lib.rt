@@ -19,5 +19,7 @@ pub use operation::{operation_name, operation_named};
 pub use pattern::{filter_pattern_named, pattern_name, pattern_named};
 pub use permission::{permission_name, permission_named};
 pub use printed_binding::print_binding;
-pub use printed_text::{push_bytes, push_number, whole_or_nothing};
+pub use printed_text::{
+    hex_digit, push_bytes, push_counted, push_number, push_spaced, whole_or_nothing,
+};
 pub use resource::{resource_name, resource_named};

@@ -6,6 +6,7 @@ ghost use Rattle.std.specs.Fmt.{decimal};
 ghost use Rattle.std.specs.List.{list_all};
 ghost use Rattle.std.specs.Str.{IsAscii};
 ghost use Rattle.kob_words.specs.Words.{IsKept, is_plain, byte_text, bytes_text, plain_length};
+ghost use Rattle.kob_words.specs.Words.{counted, spaced};
 
 use itoa::Buffer;
 use std::alloc::AllocError;
@@ -106,7 +107,8 @@ fn is_plain(byte: u8) -> bool
     (0x21 <= byte) & (byte <= 0x7e) & (byte != b'%') & (byte != b'=')
 }
 
-fn hex_digit(digit: u8) -> u8
+/// The hexadecimal digit for a number below 16, in lower case.
+pub fn hex_digit(digit: u8) -> u8
     requires { digit < 16 }
     ensures { result ≡ digit_char digit }
 {
@@ -115,6 +117,26 @@ fn hex_digit(digit: u8) -> u8
     } else {
         b'a' + (digit - 10)
     }
+}
+
+/// Prints a space and bytes, as `push_bytes` prints them.
+#[tactic(auto, using(crate::proofs::Appending::kept))]
+pub fn push_spaced(out: &mut Vec<u8>, text: &[u8]) -> Result<(), AllocError>
+    ensures text { OnOk result (out.new.items ≡ out.old.items ++ spaced text.now) }
+    ensures kept { OnErr result (IsKept out.old.items out.new.items) }
+{
+    out.extend_from_slice(b" ")?;
+    push_bytes(out, text)
+}
+
+/// Prints a space and a number, as `push_number` prints it.
+#[tactic(auto, using(crate::proofs::Appending::kept))]
+pub fn push_counted(out: &mut Vec<u8>, number: u64) -> Result<(), AllocError>
+    ensures text { OnOk result (out.new.items ≡ out.old.items ++ counted number) }
+    ensures kept { OnErr result (IsKept out.old.items out.new.items) }
+{
+    out.extend_from_slice(b" ")?;
+    push_number(out, number)
 }
 
 /// Prints a number in decimal digits. On an error `out` is as it was.
