@@ -1,9 +1,8 @@
 //! Rules whose bindings are looked up by the names of their patterns.
 
-ghost use Rattle.std.specs.Prelude.{◌≡◌, ◌<◌, ◌++◌, ℕ, Contains, IfOk, None, OnOk, Some, filter, get_or, length};
-ghost use Rattle.std.specs.Option.{MatchOption, option_copied};
+ghost use Rattle.std.specs.Prelude.{◌≡◌, ◌++◌, ℕ, Contains, IfOk, OnOk, filter};
 ghost use Rattle.kob_names.specs.Binding.{Binding};
-ghost use Rattle.kob_authorizer.specs.Index.{AreRising, IsIndex, entry_at, kind_in_tree};
+ghost use Rattle.kob_authorizer.specs.Index.{AreRising, IsIndex};
 ghost use Rattle.kob_authorizer.specs.Index.{matching_serials, pattern_place};
 ghost use Rattle.kob_prefix_tree.specs.Held.{held};
 ghost use Rattle.kob_policy_review.specs.Classes.{is_on};
@@ -11,8 +10,8 @@ ghost use Rattle.kob_policy_review.specs.Finding.{RiseFrom, found, names_in, pic
 
 use crate::class::{Names, Target};
 use crate::matching::matching;
-use kob_authorizer::Authorizer;
-use kob_names::{Binding, PatternKind, PlainValue, Text};
+use kob_authorizer::{Authorizer, entry_of, kind_in_tree};
+use kob_names::{Binding, PlainValue, Text};
 use kob_prefix_tree::PrefixTree;
 use std::alloc::{AllocError, Global};
 use std::marker::Model;
@@ -89,16 +88,6 @@ fn add_name(alloc: Global, names: &mut PrefixTree, entry: &(u64, Binding)) -> Re
     names.add(alloc, pattern.name.as_str().as_bytes(), kind, entry.0)
 }
 
-/// The kind of a pattern, as a tree has it.
-pub fn kind_in_tree(kind: PatternKind) -> kob_prefix_tree::PatternKind
-    ensures { result ≡ kind_in_tree kind }
-{
-    match kind {
-        PatternKind::Literal => kob_prefix_tree::PatternKind::Literal,
-        PatternKind::Prefixed => kob_prefix_tree::PatternKind::Prefixed,
-    }
-}
-
 /// A tree of the names of the entries' patterns.
 #[tactic(auto, using(std::proofs::lemmas::List::Sums::fold_more))]
 fn names_in(alloc: Global, entries: &[(u64, Binding)]) -> Result<PrefixTree, AllocError>
@@ -130,27 +119,6 @@ pub fn in_order(walked: Vec<u64>) -> Vec<u64>
     serials.sort_unstable();
     serials.dedup();
     serials
-}
-
-/// The entry with a serial.
-fn entry_of(entries: &[(u64, Binding)], serial: u64) -> Option<&(u64, Binding)>
-    requires { AreRising entries.now }
-    ensures { option_copied result ≡ entry_at entries.now serial }
-{
-    match place_of(entries, serial) {
-        Some(place) => Some(&entries[place]),
-        None => None,
-    }
-}
-
-/// The place of the entry with a serial, by binary search.
-fn place_of(entries: &[(u64, Binding)], serial: u64) -> Option<usize>
-    requires { AreRising entries.now }
-    ensures { MatchOption result (None ≡ entry_at entries.now serial)
-        (λ place. (place < length entries.now) × ((d : ℕ × Binding)
-        → Some (get_or entries.now place d) ≡ entry_at entries.now serial)) }
-{
-    entries.binary_search_by_key(&serial, |entry| entry.0).ok()
 }
 
 fn push_found(

@@ -25,7 +25,6 @@ mod targets;
 pub use below::{Reach, Share, who_below};
 pub use class::{Class, Names, Target};
 pub use difference::{Change, Outcome, changes, names_all};
-pub use finder::kind_in_tree;
 pub use granting::{Answer, who};
 pub use holding::{Holding, rights};
 pub use laws::representatives_decide;

@@ -9,7 +9,7 @@ use Rattle.kob_names.specs.declared.verdict.Verdict.{Verdict}
 use Rattle.kob_names.specs.declared.verdict.Verdict.TheVariants.{AllowedBy, DeniedBy, NoAclFound, NoAllow, Super}
 use Rattle.kob_policy_text.specs.Policy.{Policy}
 use Rattle.kob_policy_text.specs.Quoted.{name_text}
-use Rattle.kob_policy_text.specs.Taking.{takes_name}
+use Rattle.kob_authorizer.specs.Decide.{takes_name}
 
 abbrev pub names : List ℕ → Binding → Bool
 names principal binding = same_text binding.principal principal

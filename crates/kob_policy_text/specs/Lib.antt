@@ -29,4 +29,3 @@ pub mod Rows
 pub mod Shell
 pub mod Steps
 pub mod Summary
-pub mod Taking

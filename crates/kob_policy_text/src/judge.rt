@@ -3,19 +3,17 @@
 ghost use Rattle.std.specs.Prelude.{◌≡◌, ◌≢◌, [], IfErr, IfOk, OnOk, Some, alloc_error};
 ghost use Rattle.kob_policy_text.specs.AtHand.{principals_named};
 ghost use Rattle.kob_policy_text.specs.Hints.{is_name_taken, is_named, is_taken};
-ghost use Rattle.kob_policy_text.specs.Taking.{taken_of};
 ghost use Rattle.kob_policy_text.specs.Policy.{added, closed, contents_of, deciding, is_yes, may};
 ghost use Rattle.kob_policy_text.specs.Policy.{open_fault, place_of, serials_of};
 
 use crate::asked::Asked;
 use crate::at_hand::principals_named;
-use crate::patterns::Patterns;
 use crate::policy::Policy;
 use crate::serials::Serials;
 use crate::texts::Texts;
 use kob_authorizer::{Authorizer, CreateFault};
 use kob_names::{Items, Principal, ResourceKind, Verdict};
-use std::alloc::{AllocError, Global};
+use std::alloc::Global;
 use std::marker::Model;
 
 /// A policy, and the authorizer that decides by it. Contracts see the policy.
@@ -25,14 +23,12 @@ pub struct Judge {
     authorizer: Authorizer,
     serials: Serials,
     users: Texts,
-    patterns: Patterns,
 }
 
 impl Model for Judge {
     ghost use Rattle.std.specs.Prelude.{◌≡◌};
     ghost use Rattle.kob_policy_text.specs.AtHand.{principals_named};
     ghost use Rattle.kob_policy_text.specs.Policy.{contents_of, serials_of};
-    ghost use Rattle.kob_policy_text.specs.Taking.{taken_of};
     ghost use Rattle.kob_policy_text.specs.Policy as seen;
 
     ghost Value = { seen.Policy };
@@ -41,8 +37,7 @@ impl Model for Judge {
 
     ghost invariant = { λ judge. (judge.authorizer.contents ≡ contents_of judge.policy)
         × ((judge.serials ≡ serials_of judge.policy)
-        × ((judge.users ≡ principals_named judge.policy.bindings)
-        × (judge.patterns ≡ taken_of judge.policy))) };
+        × (judge.users ≡ principals_named judge.policy.bindings)) };
 }
 
 impl Judge {
@@ -53,13 +48,12 @@ impl Judge {
         ensures fault { IfErr result (λ fault. fault ≢ CreateFault.Memory alloc_error
             → open_fault policy ≡ Some fault) }
     {
-        let (named, authorizer, serials) = parts_of(alloc, &policy)?;
+        let (users, authorizer, serials) = parts_of(alloc, &policy)?;
         Ok(Judge {
             policy,
             authorizer,
             serials,
-            users: named.users,
-            patterns: named.patterns,
+            users,
         })
     }
 
@@ -123,7 +117,7 @@ impl Judge {
     pub fn is_name_taken(&self, resource: ResourceKind, name: &str) -> bool
         ensures { result ≡ is_name_taken self.now resource name.now }
     {
-        self.patterns.take(resource, name)
+        self.authorizer.has_match(resource, name)
     }
 
     /// The serials of the bindings, in their order.
@@ -134,42 +128,17 @@ impl Judge {
     }
 }
 
-/// The principals and the names that bindings have.
-#[derive(Drop)]
-struct Named {
-    users: Texts,
-    patterns: Patterns,
-}
-
-#[tactic(auto, unfolding(crate::specs::Taking::taken_of))]
-fn patterns_in(alloc: Global, policy: &Policy) -> Result<Patterns, AllocError>
-    ensures { IfOk result (λ made. made ≡ taken_of policy.now) }
-{
-    let mut patterns = Patterns::of(alloc, policy.bindings())?;
-    patterns.add_all(alloc, policy.closings())?;
-    Ok(patterns)
-}
-
-fn named_in(alloc: Global, policy: &Policy) -> Result<Named, AllocError>
-    ensures { IfOk result (λ made. (made.users ≡ principals_named policy.now.bindings)
-        × (made.patterns ≡ taken_of policy.now)) }
-{
-    let users = principals_named(alloc, policy.bindings())?;
-    let patterns = patterns_in(alloc, policy)?;
-    Ok(Named { users, patterns })
-}
-
-fn parts_of(alloc: Global, policy: &Policy) -> Result<(Named, Authorizer, Serials), CreateFault>
-    ensures named { IfOk result (λ made. (made.0.users ≡ principals_named policy.now.bindings)
-        × (made.0.patterns ≡ taken_of policy.now)) }
+/// The principals that bindings name, the authorizer, and the serials of the bindings.
+fn parts_of(alloc: Global, policy: &Policy) -> Result<(Texts, Authorizer, Serials), CreateFault>
+    ensures named { IfOk result (λ made. made.0 ≡ principals_named policy.now.bindings) }
     ensures made { IfOk result (λ made. (made.1.contents ≡ contents_of policy.now)
         × (made.2 ≡ serials_of policy.now)) }
     ensures fault { IfErr result (λ fault. fault ≢ CreateFault.Memory alloc_error
         → open_fault policy.now ≡ Some fault) }
 {
-    let named = named_in(alloc, policy)?;
+    let users = principals_named(alloc, policy.bindings())?;
     let (authorizer, serials) = in_force(alloc, policy)?;
-    Ok((named, authorizer, serials))
+    Ok((users, authorizer, serials))
 }
 
 /// The authorizer with the bindings of a policy, and their serials.

@@ -31,7 +31,6 @@ mod options;
 mod origin;
 mod other_operations;
 mod parts;
-mod patterns;
 mod pieces;
 mod policy;
 mod printed;

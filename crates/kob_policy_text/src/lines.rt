@@ -10,7 +10,7 @@ ghost use Rattle.kob_policy_text.specs.Lines.{listed_item, listed_items, names_o
 ghost use Rattle.kob_policy_text.specs.Lines.{release_line, rules_in, rules_of, setting_items};
 ghost use Rattle.kob_policy_text.specs.Lines.{texts_behind, words_items};
 ghost use Rattle.kob_policy_text.specs.Outcomes.{MayGive};
-ghost use Rattle.kob_script.specs.Words.{Gives, GivesSeen, each, text_of, words_of};
+ghost use Rattle.kob_script.specs.Words.{Gives, GivesSeen, words_of};
 ghost use Rattle.kob_script.specs.Script.{asks_clap};
 
 use crate::item::Item;
@@ -25,7 +25,7 @@ use crate::users::{OTHER_PRINCIPAL, is_other_kind};
 use kob_rights::{Event, Request};
 use kob_script::{
     FaultKind, LineError, Word, events_of, everyone_of, host_of, is_setting, is_super,
-    lent_text_of, principal_of, words_of,
+    lent_text_of, principal_of, texts_of, words_of,
 };
 use std::alloc::{AllocError, Global};
 use std::collections::VecDeque;
@@ -204,20 +204,6 @@ fn words_items(alloc: Global, words: Vec<Word<'_>>) -> Result<Vec<Item>, LineErr
     }
     let held = held_words(alloc, words)?;
     rules_of(alloc, events_of(alloc, &held, &None)?)
-}
-
-/// The texts of words, borrowed from them.
-fn texts_of<'w>(alloc: Global, words: &'w [Word<'_>]) -> Result<Vec<&'w str>, LineError>
-    ensures { GivesSeen (λ lent. texts lent.items) result (each text_of words.entry.now) }
-{
-    let mut texts = Vec::with_capacity(alloc, words.len())?;
-    for word in words {
-        match lent_text_of(word) {
-            Ok(text) => texts.push(text)?,
-            Err(kind) => return Err(LineError::Fault(kind)),
-        }
-    }
-    Ok(texts)
 }
 
 /// The texts after `acl`, borrowed from the words.

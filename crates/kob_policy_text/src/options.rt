@@ -15,7 +15,6 @@ ghost use Rattle.kob_policy_text.specs.Listing.{held_name};
 ghost use Rattle.kob_policy_text.specs.Outcomes.{MayGive};
 ghost use Rattle.kob_policy_text.specs.declared.options.Place.TheVariants.{Anywhere};
 ghost use Rattle.kob_script.specs.Script.{MayAnswer};
-ghost use Rattle.kob_script.specs.CommandLines.{acl_commands, error_of};
 ghost use Rattle.kob_script.specs.Words.{GivesSeen};
 
 use crate::item::Item;
@@ -24,9 +23,9 @@ use crate::other_operations::{
     own_operations,
 };
 use crate::users::{OTHER_RESOURCE, held_name};
-use kob_acl_cli::{AclCommand, CliArgs, CommandFault, LineFault, commands_of, read_line};
+use kob_acl_cli::{AclCommand, CliArgs, LineFault, read_line};
 use kob_names::{Draft, Items, Text};
-use kob_script::{FaultKind, LineError};
+use kob_script::{FaultKind, LineError, acl_commands};
 use std::alloc::{AllocError, Global};
 use std::mem;
 
@@ -200,34 +199,10 @@ fn only_command(mut commands: Vec<AclCommand>) -> Option<AclCommand>
     commands.pop()
 }
 
-fn error_of(fault: &CommandFault) -> LineError
-    ensures { result ≡ error_of fault.now }
-{
-    match fault {
-        CommandFault::NoAction => LineError::Fault(FaultKind::NoAction),
-        CommandFault::BadName(_) => LineError::Fault(FaultKind::BadName),
-        CommandFault::BadMix => LineError::Fault(FaultKind::BadMix),
-        CommandFault::NoResource => LineError::Fault(FaultKind::NoResource),
-        CommandFault::NoPrincipal => LineError::Fault(FaultKind::NoPrincipal),
-        CommandFault::Memory(error) => LineError::Memory(*error),
-    }
-}
-
-/// The commands of options, of which the first fault counts.
-#[tactic(auto, using(kob_script::proofs::LineFaults::fails_first_of))]
-fn commands_by(alloc: Global, args: &CliArgs) -> Result<Vec<AclCommand>, LineError>
-    ensures { GivesSeen (λ commands. commands.items) result (acl_commands (Some args.now)) }
-{
-    match commands_of(alloc, args) {
-        Ok(commands) => Ok(commands),
-        Err(fault) => Err(error_of(&fault)),
-    }
-}
-
 fn drafts_from(alloc: Global, args: &CliArgs) -> Result<Vec<Draft>, LineError>
     ensures { GivesSeen (λ drafts. drafts.items) result (drafts_from args.now) }
 {
-    let commands = commands_by(alloc, args)?;
+    let commands = acl_commands(alloc, Some(args))?;
     added_of(only_command(commands))
 }
 

@@ -9,6 +9,6 @@ pub returns : goal.returns
 returns c =
     c.knows.ensures
     ∙ ap (is_known c.self.inside.users) c.as_str.ensures.text
-    ∙ ap (λ (us : List (List ℕ)). is_known us c.args.principal.now) c.self.invariant.1.1.0
+    ∙ ap (λ (us : List (List ℕ)). is_known us c.args.principal.now) c.self.invariant.1.1
     ∙ named_is c.self.inside.policy c.args.principal.now
     ∙ ap (λ (p : Policy). is_named p c.args.principal.now) c.self.view_is
