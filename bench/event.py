@@ -72,8 +72,8 @@ SOURCES = {
 # its committed offset.
 DAY = 8_640_000
 PARTITIONS = 16
-NEEDS = "kob_names kob_rights kob_broker kob_outbox kob_router kob_inbox kob_shared kob_lines".split()
-NEEDS += ["kob_pipeline", "kob_embedding"]
+NEEDS = "kob_names kob_rights kob_broker kob_outbox kob_router kob_inbox kob_shared kob_connections".split()
+NEEDS += ["kob_pipeline", "kob_endpoints"]
 NEEDS += ["uuid", "anyhow"]
 CALLS = (
     "record",

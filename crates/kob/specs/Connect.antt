@@ -4,7 +4,7 @@ use Rattle.std.specs.List.{list_all}
 use Rattle.std.specs.Prelude.{ℕ, ◌==◌, ◌&&◌, ◌||◌, Bool, List, [], ◌++◌, Option, Some, None, Result, Ok, Err, bytes_eq, codes, if◌then◌else◌, length, nat_le, slice_get}
 use Rattle.kob.specs.declared.connect.Database.{Database}
 use Rattle.kob.specs.declared.connect.Database.TheVariants.{Postgresql, Mysql}
-use Rattle.kob.specs.declared.exporting.Unexported.{Unexported}
+use Rattle.kob.specs.declared.exporting.ExportFault.{ExportFault}
 use Rattle.kob_router.specs.declared.settings.RouteBy.{RouteBy}
 use Rattle.kob_router.specs.declared.settings.RouteBy.TheVariants.{AggregateType, AggregateId}
 use Rattle.kob_router.specs.declared.settings.RouteSettings.{RouteSettings}
@@ -118,7 +118,7 @@ connector_at database None = []
 connector_at database (Some service) = connect_text database service
 
 -- the document for the service at the place that was chosen
-abbrev pub connector_text : Database → Result ℕ Unexported → List Service → List ℕ
+abbrev pub connector_text : Database → Result ℕ ExportFault → List Service → List ℕ
 connector_text database (Ok place) services = connector_at database (slice_get services place)
 connector_text database (Err why) services = []
 

@@ -4,8 +4,8 @@ use Rattle.std.specs.Prelude.{◌≡◌, ℕ, Bool, true, false, List, [], ◌�
 use Rattle.std.specs.Result.{is_ok}
 use Rattle.kob.specs.Connect.{connector_text, table_of}
 use Rattle.kob.specs.Export.{export_text}
-use Rattle.kob.specs.declared.exporting.Unexported.{Unexported}
-use Rattle.kob.specs.declared.exporting.Unexported.TheVariants as why
+use Rattle.kob.specs.declared.exporting.ExportFault.{ExportFault}
+use Rattle.kob.specs.declared.exporting.ExportFault.TheVariants as why
 use Rattle.kob.specs.declared.options.ExportForm.{ExportForm}
 use Rattle.kob.specs.declared.options.ExportForm.TheVariants.{Commands, Connect, Table}
 use Rattle.kob.specs.declared.report.Report.{Report}
@@ -20,12 +20,12 @@ use Rattle.kob_scene_text.specs.declared.scene.Service.{Service}
 abbrev pub service_named : List Service → List ℕ → Option ℕ
 service_named services name = position (λ service. bytes_eq service.name name) services
 
-abbrev pub if_known : Option ℕ → Result ℕ Unexported
+abbrev pub if_known : Option ℕ → Result ℕ ExportFault
 if_known None = Err why.UnknownService
 if_known (Some place) = Ok place
 
 -- of several services one has to be named
-abbrev pub chosen : Option (List ℕ) → List Service → Result ℕ Unexported
+abbrev pub chosen : Option (List ℕ) → List Service → Result ℕ ExportFault
 chosen (Some name) services = if_known (service_named services name)
 chosen None [] = Err why.NoService
 chosen None (service ∷ []) = Ok 0
@@ -50,7 +50,7 @@ export_by (Connect database) named scene =
 export_by (Table database) named scene = table_of database
 
 -- what is reported of a scene that is not exported
-abbrev pub refusal : Unexported → Bor (List ℕ) → Bor (List ℕ) → Report
+abbrev pub refusal : ExportFault → Bor (List ℕ) → Bor (List ℕ) → Report
 refusal (why.Memory refused) name service = report.OutOfMemory name refused
 refusal why.TooMany name service = report.TooMany
 refusal why.NoService name service = report.File (file.NoService name)

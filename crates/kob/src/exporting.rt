@@ -22,7 +22,7 @@ use std::alloc::{AllocError, Global};
 
 /// Why a scene is not exported.
 #[derive(Clone, Copy)]
-pub enum Unexported {
+pub enum ExportFault {
     Memory(AllocError),
     /// Its settings have more bindings than can be in force.
     TooMany,
@@ -89,15 +89,15 @@ fn export_fault<R: AllocGlobal + Print + Eprint>(
 }
 
 /// What is reported of a scene that is not exported.
-fn refusal_of<'a>(why: Unexported, name: &'a str, service: &'a str) -> Report<'a>
+fn refusal_of<'a>(why: ExportFault, name: &'a str, service: &'a str) -> Report<'a>
     ensures { result ≡ refusal why name.entry service.entry }
 {
     match why {
-        Unexported::Memory(refused) => Report::OutOfMemory(name, refused),
-        Unexported::TooMany => Report::TooMany,
-        Unexported::NoService => Report::File(FileReport::NoService(name)),
-        Unexported::SeveralServices => Report::File(FileReport::SeveralServices(name)),
-        Unexported::UnknownService => Report::File(FileReport::UnknownService { name, service }),
+        ExportFault::Memory(refused) => Report::OutOfMemory(name, refused),
+        ExportFault::TooMany => Report::TooMany,
+        ExportFault::NoService => Report::File(FileReport::NoService(name)),
+        ExportFault::SeveralServices => Report::File(FileReport::SeveralServices(name)),
+        ExportFault::UnknownService => Report::File(FileReport::UnknownService { name, service }),
     }
 }
 
@@ -108,7 +108,7 @@ fn push_export(
     form: ExportForm,
     service: Option<&str>,
     scene: &Scene,
-) -> Result<(), Unexported>
+) -> Result<(), ExportFault>
     ensures printed { OnOk result (out.new.items ≡ out.old.items
         ++ export_by form (option_map (λ name. name.now) service.entry) scene.now) }
     ensures chosen { OnOk result (has_export form
@@ -117,13 +117,13 @@ fn push_export(
     match form {
         ExportForm::Commands => match export_scene(alloc, out, scene) {
             Ok(()) => Ok(()),
-            Err(OpenFault::Memory(refused)) => Err(Unexported::Memory(refused)),
-            Err(OpenFault::TooMany) => Err(Unexported::TooMany),
+            Err(OpenFault::Memory(refused)) => Err(ExportFault::Memory(refused)),
+            Err(OpenFault::TooMany) => Err(ExportFault::TooMany),
         },
         ExportForm::Connect(database) => push_chosen(out, database, service, &scene.services),
         ExportForm::Table(database) => out
             .extend_from_slice(table_of(database).as_bytes())
-            .map_err(Unexported::Memory),
+            .map_err(ExportFault::Memory),
     }
 }
 
@@ -133,7 +133,7 @@ fn push_chosen(
     database: Database,
     named: Option<&str>,
     services: &[Service],
-) -> Result<(), Unexported>
+) -> Result<(), ExportFault>
     ensures printed { OnOk result (out.new.items ≡ out.old.items
         ++ connector_text database (chosen (option_map (λ name. name.now) named.entry) services.now)
         services.now) }
@@ -141,21 +141,21 @@ fn push_chosen(
         (chosen (option_map (λ name. name.now) named.entry) services.now) ≡ true) }
 {
     let place = chosen(named, services)?;
-    push_connector(out, database, services, place).map_err(Unexported::Memory)
+    push_connector(out, database, services, place).map_err(ExportFault::Memory)
 }
 
 /// The place of the service of this name, or of the only one.
-fn chosen(named: Option<&str>, services: &[Service]) -> Result<usize, Unexported>
+fn chosen(named: Option<&str>, services: &[Service]) -> Result<usize, ExportFault>
     ensures { result ≡ chosen (option_map (λ name. name.now) named.entry) services.now }
 {
     match (named, services) {
         (Some(name), _) => match service_named(services, name) {
             Some(place) => Ok(place),
-            None => Err(Unexported::UnknownService),
+            None => Err(ExportFault::UnknownService),
         },
-        (None, []) => Err(Unexported::NoService),
+        (None, []) => Err(ExportFault::NoService),
         (None, [_]) => Ok(0),
-        (None, _) => Err(Unexported::SeveralServices),
+        (None, _) => Err(ExportFault::SeveralServices),
     }
 }
 

@@ -14,7 +14,7 @@ use crate::input::{Kind, text_of};
 use crate::marks::push_mistake;
 use crate::options::ExportForm;
 use crate::report::{self, FileReport, Report, tell, tell_file, tell_lines, write};
-use crate::watched::Watched;
+use crate::watched::ReportedOutput;
 use kob_mistakes::{
     Mistake, doubtful_state, mistake_in, push_doubtful, push_misused, push_quoted, quoted_name,
     word_at,
@@ -123,7 +123,7 @@ fn do_file<R: AllocGlobal + Clock + Files + Input + Print + Eprint>(
     };
     match work {
         Work::Play { form, is_watched } => {
-            let mut writer = Watched::new(rt, file, is_watched);
+            let mut writer = ReportedOutput::new(rt, file, is_watched);
             let played = play_text(rt.alloc(), form, &text, &mut writer);
             report_play(rt, file, &text, played)
         }

@@ -13,13 +13,13 @@ ghost use Rattle.kob_policy_text.specs.Questions.{with_questions, with_topics};
 use crate::ending::Ending;
 use crate::logs::answer_logs;
 use crate::policy_answers::{lead, push_answers, push_changes, push_heading};
-use crate::policy_lists::{Listed, Side, Stop, judge_of, list_of, stop_by};
+use crate::policy_lists::{ListInForce, Side, Stop, judge_of, list_of, stop_by};
 use crate::policy_options::{AnswerForm, Options, parts_of};
 use crate::report::{self, Report, tell};
 use crate::running::say;
 use crate::source::questions_in;
 use crate::stages::{Stage, Stages};
-use crate::unmet::{Asked, say_unmet};
+use crate::unmet::{QuestionText, say_unmet};
 use kob_policy_rows::is_table;
 use kob_policy_text::{Judge, Query, Question, Questions, read_questions, read_topics};
 use std::alloc::AllocError;
@@ -121,7 +121,7 @@ fn answer_asked<R: AllocGlobal + Clock + Files + Input + Eprint>(
     out: &mut Vec<u8>,
     options: &Options,
     questions: &mut Questions,
-    asked: &mut Vec<Asked>,
+    asked: &mut Vec<QuestionText>,
 ) -> Result<Ending, Stop>
     ensures failure { IfErr result IsFailedStop }
     ensures commands { IfOk result (λ ending. can_differ_by options.now ≡ false
@@ -199,7 +199,7 @@ fn push_questions<R: AllocGlobal + Files + Input + Eprint>(
     rt: &R,
     out: &mut Vec<u8>,
     questions: &mut Questions,
-    asked: &mut Vec<Asked>,
+    asked: &mut Vec<QuestionText>,
     options: &Options,
 ) -> Result<(), Stop>
     ensures { IfErr result IsFailedStop }
@@ -250,7 +250,7 @@ fn push_asked<R: AllocGlobal + Eprint>(
     form: AnswerForm,
     out: &mut Vec<u8>,
     questions: &mut Questions,
-    asked: &mut Vec<Asked>,
+    asked: &mut Vec<QuestionText>,
     name: &str,
     text: Vec<u8>,
 ) -> Result<(), Stop>
@@ -262,7 +262,7 @@ fn push_asked<R: AllocGlobal + Eprint>(
         drop(text);
         return Err(stop);
     }
-    let made = Asked::new(rt.alloc(), name, text, questions.asked().len())?;
+    let made = QuestionText::new(rt.alloc(), name, text, questions.asked().len())?;
     asked.push(made).map_err(AllocError::from)?;
     Ok(())
 }
@@ -273,7 +273,7 @@ fn answer_by_one<R: AllocGlobal + Clock + Files + Input + Eprint>(
     out: &mut Vec<u8>,
     options: &Options,
     questions: &Questions,
-    asked: &[Asked],
+    asked: &[QuestionText],
 ) -> Result<Ending, Stop>
     ensures { IfErr result IsFailedStop }
 {
@@ -298,7 +298,7 @@ fn answer_about<R: AllocGlobal + Files + Input + Eprint>(
     out: &mut Vec<u8>,
     options: &Options,
     questions: &Questions,
-    asked: &[Asked],
+    asked: &[QuestionText],
     judge: &Judge,
 ) -> Result<Ending, AllocError>
     ensures { IfOk result (λ ending. ending ≡ Ending.Whole
@@ -317,7 +317,7 @@ fn review<R: AllocGlobal + Clock + Files + Input + Eprint>(
     out: &mut Vec<u8>,
     options: &Options,
     questions: &Questions,
-    asked: &[Asked],
+    asked: &[QuestionText],
 ) -> Result<Ending, Stop>
     ensures failure { IfErr result IsFailedStop }
     ensures commands { IfOk result (λ ending. options.now.commands ≡ true
@@ -335,8 +335,8 @@ fn review_from<R: AllocGlobal + Clock + Files + Input + Eprint>(
     out: &mut Vec<u8>,
     options: &Options,
     questions: &Questions,
-    asked: &[Asked],
-    before: &Listed,
+    asked: &[QuestionText],
+    before: &ListInForce,
 ) -> Result<Ending, Stop>
     requires { before.now.side ≡ Side.Before }
     ensures failure { IfErr result IsFailedStop }
@@ -361,9 +361,9 @@ fn compare<R: AllocGlobal + Files + Input + Eprint>(
     out: &mut Vec<u8>,
     options: &Options,
     questions: &Questions,
-    asked: &[Asked],
-    before: &Listed,
-    after: &Listed,
+    asked: &[QuestionText],
+    before: &ListInForce,
+    after: &ListInForce,
 ) -> Result<Ending, AllocError>
     requires before { before.now.side ≡ Side.Before }
     requires after { after.now.side ≡ Side.After }

@@ -27,7 +27,7 @@ use kob_policy_rows::{
 use kob_policy_text::{
     Judge, Policy, Questions, any_fails, print_answers, print_changes, print_moved, print_omissions,
 };
-use kob_script::{Fault, FaultKind, print_fault};
+use kob_script::{Fault, kind_text, print_fault};
 use std::alloc::{AllocError, Global};
 
 /// The names of the files of bindings: `==` and each of them, or an object of JSON.
@@ -132,30 +132,8 @@ fn push_fault_object(
         ++ lines_text fault_columns (fault_row name.now fault.line (kind_text fault.kind) ∷ [])) }
 {
     let mut rows = Vec::new(alloc);
-    rows.push(fault_row(alloc, name, fault.line, kind_name(fault.kind))?)?;
+    rows.push(fault_row(alloc, name, fault.line, kind_text(fault.kind))?)?;
     print_json(alloc, out, fault_columns(), &rows)
-}
-
-/// The name of a kind, as a fault is printed.
-fn kind_name(kind: FaultKind) -> &'static str
-    ensures { result.now ≡ kind_text kind }
-{
-    match kind {
-        FaultKind::BadEscape => "BadEscape",
-        FaultKind::LateSetting => "LateSetting",
-        FaultKind::BadLine => "BadLine",
-        FaultKind::BadText => "BadText",
-        FaultKind::BadPrincipal => "BadPrincipal",
-        FaultKind::BadHost => "BadHost",
-        FaultKind::BadNumber => "BadNumber",
-        FaultKind::BadWord => "BadWord",
-        FaultKind::Usage => "Usage",
-        FaultKind::NoAction => "NoAction",
-        FaultKind::BadName => "BadName",
-        FaultKind::BadMix => "BadMix",
-        FaultKind::NoResource => "NoResource",
-        FaultKind::NoPrincipal => "NoPrincipal",
-    }
 }
 
 /// What is left out, each on a line. Beside a table it is said on standard error.

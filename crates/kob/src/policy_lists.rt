@@ -109,7 +109,7 @@ pub(crate) enum Side {
 
 /// A list in force.
 #[derive(Drop)]
-pub(crate) struct Listed {
+pub(crate) struct ListInForce {
     pub(crate) side: Side,
     pub(crate) judge: Judge,
 }
@@ -133,7 +133,7 @@ pub(crate) fn judge_of<R: AllocGlobal + Clock + Files + Input + Eprint>(
     out: &mut Vec<u8>,
     options: &Options,
     side: Side,
-) -> Result<Listed, Stop>
+) -> Result<ListInForce, Stop>
     ensures side { IfOk result (λ listed. listed.side ≡ side) }
     ensures whole { IfOk result (λ listed. options.now.skip ≡ false → listed.judge.omissions ≡ []) }
     ensures failure { IfErr result IsFailedStop }
@@ -148,7 +148,7 @@ pub(crate) fn judge_of<R: AllocGlobal + Clock + Files + Input + Eprint>(
         files_of(options, side),
     )?;
     let judge = open_judge(rt, stages, out, options, policy)?;
-    Ok(Listed { side, judge })
+    Ok(ListInForce { side, judge })
 }
 
 /// Reads the files of `--policy`, and then the others of a list.

@@ -13,25 +13,25 @@ use std::alloc::{AllocError, Global};
 
 /// A text of questions, and how many questions were asked up to its end.
 #[derive(Drop)]
-pub(crate) struct Asked {
+pub(crate) struct QuestionText {
     pub(crate) name: Text,
     pub(crate) text: Vec<u8>,
     pub(crate) until: usize,
 }
 
-impl Asked {
+impl QuestionText {
     pub(crate) fn new(
         alloc: Global,
         name: &str,
         text: Vec<u8>,
         until: usize,
-    ) -> Result<Asked, AllocError>
+    ) -> Result<QuestionText, AllocError>
         ensures name { IfOk result (λ asked. asked.name ≡ name.now) }
         ensures text { IfOk result (λ asked. asked.text ≡ text) }
         ensures until { IfOk result (λ asked. asked.until ≡ until) }
     {
         let name = Text::copied(alloc, name)?;
-        Ok(Asked { name, text, until })
+        Ok(QuestionText { name, text, until })
     }
 }
 
@@ -41,7 +41,7 @@ pub(crate) fn say_unmet<R: AllocGlobal + Eprint>(
     rt: &R,
     judge: &Judge,
     queries: &[Query],
-    asked: &[Asked],
+    asked: &[QuestionText],
 ) -> Result<(), AllocError> {
     let mut from = 0;
     for text in asked {

@@ -11,7 +11,7 @@ const PATIENCE: u64 = 2;
 
 /// Standard output, the name of the text that is played, and how many bytes of answers were written.
 #[derive(Drop)]
-pub struct Watched<'a, R> {
+pub struct ReportedOutput<'a, R> {
     rt: &'a R,
     pub name: &'a str,
     pub bytes: u64,
@@ -19,9 +19,9 @@ pub struct Watched<'a, R> {
     pub reported: Option<Instant>,
 }
 
-impl<'a, R: Clock> Watched<'a, R> {
+impl<'a, R: Clock> ReportedOutput<'a, R> {
     /// Standard output for the answers of a text, which are reported if `is_watched`.
-    pub fn new(rt: &'a R, name: &'a str, is_watched: bool) -> Watched<'a, R>
+    pub fn new(rt: &'a R, name: &'a str, is_watched: bool) -> ReportedOutput<'a, R>
         ensures name { result.name ≡ name.entry }
         ensures bytes { result.bytes ≡ 0 }
         ensures reported { is_watched ≡ false → result.reported ≡ None }
@@ -31,7 +31,7 @@ impl<'a, R: Clock> Watched<'a, R> {
         } else {
             None
         };
-        Watched {
+        ReportedOutput {
             rt,
             name,
             bytes: 0,
@@ -40,7 +40,7 @@ impl<'a, R: Clock> Watched<'a, R> {
     }
 }
 
-impl<R: Clock + Eprint> Watched<'_, R> {
+impl<R: Clock + Eprint> ReportedOutput<'_, R> {
     /// Counts what is written, and reports after two seconds.
     fn count(&mut self, written: &[u8]) {
         self.bytes = self.bytes.saturating_add(written.len() as u64);
@@ -61,7 +61,7 @@ impl<R: Clock + Eprint> Watched<'_, R> {
     }
 }
 
-impl<R: Clock + Print + Eprint> Write for Watched<'_, R> {
+impl<R: Clock + Print + Eprint> Write for ReportedOutput<'_, R> {
     fn write(&mut self, buf: &[u8]) -> io::Result<usize> {
         self.count(buf);
         io::writer(self.rt).write(buf)

@@ -6,7 +6,7 @@ pub use Rattle.kob_inbox.proofs.Ticking.{run_takes_in}
 pub use Rattle.kob_inbox.specs.Contents.{Intake, arrivals, intake_of, is_there, with_intake, with_record}
 pub use Rattle.kob_inbox.specs.Run.{cursor_of, with_cursor, with_progress, IsDue, after_answer, behind, taken_by}
 pub use Rattle.kob_inbox.specs.declared.cursors.Cursor.{Cursor}
-pub use Rattle.kob_lines.specs.Calls.{served_in}
+pub use Rattle.kob_connections.specs.Calls.{served_in}
 pub use Rattle.kob_names.specs.Binding.{Binding}
 pub use Rattle.kob_names.specs.declared.batch.Batch.{Batch}
 pub use Rattle.kob_names.specs.declared.batch.Idem.{Idem}

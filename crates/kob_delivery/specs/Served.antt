@@ -4,7 +4,7 @@ use Rattle.kob_delivery.specs.Types.{Served, AreServed, Entry, dispatch_of, Subs
 use Rattle.kob_router.specs.declared.dispatch.Target.{Target}
 use Rattle.kob_router.specs.Run as router
 use Rattle.kob_inbox.specs.Run as consumer
-use Rattle.kob_lines.specs.Calls.{served_in}
+use Rattle.kob_connections.specs.Calls.{served_in}
 
 -- what the journal says that a worker was served, in order
 abbrev pub served_to : ℕ → List Entry → List Served

@@ -12,7 +12,7 @@ ghost use Rattle.kob_delivery.specs.Reserved.{IsFirstUnreserved, LeaveReserved, 
 ghost use Rattle.kob_delivery.specs.Reserved.{is_open_to_others};
 ghost use Rattle.kob_delivery.specs.View.{IsReserved, IsReservedFor};
 
-use crate::asked::{entry_at, sum};
+use crate::asked::sum;
 use crate::bindings_on::{create_opening, follow, is_open_to_others};
 use kob_names::{Draft, Operation, Principal, ResourceKind, Settings, Text};
 use kob_shared::Journal;
@@ -172,7 +172,7 @@ fn first_open(
             if others {
                 return Ok(Some(sum(before, place)?));
             }
-            let entry = entry_at(*journal, place);
+            let entry = journal.entry_at(place);
             let request = &entry.event.request;
             let changed = follow(alloc, bindings, request, &entry.reply, resource, name)?;
             others = others_after(changed, bindings.as_slice(), everyone, principal, operation);

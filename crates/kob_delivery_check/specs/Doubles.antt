@@ -3,7 +3,8 @@ use Rattle.std.specs.Prelude.{ℕ, ◌==◌, Bool, true, false, List, [], ◌∷
 use Rattle.std.specs.List.{enumerate_from, find, flat_map}
 use Rattle.kob_delivery_check.specs.Order.{has_come, row_arrival}
 use Rattle.kob_delivery_check.specs.PrintedOrder.{inbox_place, place_of}
-use Rattle.kob_delivery_check.specs.PrintedPieces.{counted, event_text}
+use Rattle.kob_delivery_check.specs.PrintedPieces.{event_text}
+use Rattle.kob_words.specs.Words.{counted}
 use Rattle.kob_delivery_check.specs.declared.come.Arrival.{Arrival}
 use Rattle.kob_delivery_check.specs.declared.row_doubles.DoubledRow.{DoubledRow}
 use Rattle.kob_inbox.specs.declared.inbox_row.InboxRow.{InboxRow}

@@ -5,7 +5,8 @@ use Rattle.std.specs.List.{count_by, position}
 use Rattle.kob_delivery_check.specs.Doubles.{double_lines}
 use Rattle.kob_delivery_check.specs.Fates.{is_delivered, is_lost, is_waiting}
 use Rattle.kob_delivery_check.specs.PrintedOrder.{record_lines, row_lines}
-use Rattle.kob_delivery_check.specs.PrintedPieces.{counted, event_text, place_text}
+use Rattle.kob_delivery_check.specs.PrintedPieces.{event_text, place_text}
+use Rattle.kob_words.specs.Words.{counted}
 use Rattle.kob_delivery_check.specs.PrintedRecords.{doubled_lines, lost_lines}
 use Rattle.kob_delivery_check.specs.Unrecorded.{unrecorded_lines}
 use Rattle.kob_delivery_check.specs.declared.cause.LostEvent.{LostEvent}

@@ -2,7 +2,8 @@
 use Rattle.std.specs.Prelude.{ℕ, ◌==◌, List, [], ◌++◌, Option, None, Some, codes, slice_get}
 use Rattle.std.specs.List.{flat_map, position}
 use Rattle.kob_delivery_check.specs.Logs.{number_of}
-use Rattle.kob_delivery_check.specs.PrintedPieces.{counted, event_text, place_text, spaced}
+use Rattle.kob_delivery_check.specs.PrintedPieces.{event_text, place_text}
+use Rattle.kob_words.specs.Words.{counted, spaced}
 use Rattle.kob_delivery_check.specs.declared.order.Early.{Early}
 use Rattle.kob_delivery_check.specs.declared.record_order.EarlyRecord.{EarlyRecord}
 use Rattle.kob_outbox.specs.Contents.{id_text}

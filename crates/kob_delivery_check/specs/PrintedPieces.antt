@@ -1,18 +1,9 @@
 -- How an event and its place are printed.
 use Rattle.std.specs.Prelude.{ℕ, List, [], ◌++◌, Option, None, Some, codes, string_bytes}
-use Rattle.std.specs.Fmt.{decimal}
 use Rattle.kob_outbox.specs.Contents.{id_text}
 use Rattle.kob_outbox.specs.declared.event.OutboxEvent.{OutboxEvent}
 use Rattle.kob_router.specs.declared.place.Place.{Place}
-use Rattle.kob_words.specs.Words.{bytes_text}
-
--- a text after a space
-abbrev pub spaced : List ℕ → List ℕ
-spaced text = codes " " ++ bytes_text text
-
--- a number after a space
-abbrev pub counted : ℕ → List ℕ
-counted number = codes " " ++ decimal number
+use Rattle.kob_words.specs.Words.{counted, spaced}
 
 -- ID AGGREGATETYPE AGGREGATEID row ROW; rows are counted from 1
 abbrev pub event_text : ℕ → OutboxEvent → List ℕ

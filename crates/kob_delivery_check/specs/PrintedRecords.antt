@@ -2,7 +2,8 @@
 use Rattle.std.specs.Prelude.{ℕ, ◌==◌, List, [], ◌++◌, Option, None, Some, codes, if◌then◌else◌, slice_get}
 use Rattle.std.specs.List.{enumerate_from, flat_map}
 use Rattle.kob_delivery_check.specs.Logs.{number_of}
-use Rattle.kob_delivery_check.specs.PrintedPieces.{counted, event_text, place_text, spaced}
+use Rattle.kob_delivery_check.specs.PrintedPieces.{event_text, place_text}
+use Rattle.kob_words.specs.Words.{counted, spaced}
 use Rattle.kob_delivery_check.specs.Sent.{put_at, sent_at}
 use Rattle.kob_delivery_check.specs.declared.cause.Cause.{Cause}
 use Rattle.kob_delivery_check.specs.declared.cause.Cause.TheVariants.{Unknown, Unsent, Unread, OutOfReach, KeptOut}

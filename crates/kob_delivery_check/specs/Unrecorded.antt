@@ -3,7 +3,7 @@ use Rattle.std.specs.Prelude.{ℕ, Bool, List, ◌++◌, codes, is_none, string_
 use Rattle.std.specs.List.{filter, flat_map}
 use Rattle.kob_delivery_check.specs.Logs.{number_of}
 use Rattle.kob_delivery_check.specs.PrintedOrder.{place_of}
-use Rattle.kob_delivery_check.specs.PrintedPieces.{spaced}
+use Rattle.kob_words.specs.Words.{spaced}
 use Rattle.kob_outbox.specs.Contents.{id_text}
 use Rattle.kob_outbox.specs.declared.event.OutboxEvent.{OutboxEvent}
 

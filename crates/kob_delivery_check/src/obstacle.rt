@@ -5,7 +5,6 @@ ghost use Rattle.kob_delivery_check.specs.Causes.{deletes_topic, is_behind, obst
 ghost use Rattle.kob_delivery_check.specs.Causes.{noted};
 ghost use Rattle.std.specs.List.{find};
 
-use crate::journaled::entry_at;
 use crate::partition_log::PartitionLog;
 use kob_names::Text;
 use kob_rights::{Reply, Request};
@@ -29,7 +28,7 @@ pub(crate) fn obstacles(
     let mut log = PartitionLog::new(alloc);
     let mut found = Vec::new(alloc);
     for at in 0..journal.len() {
-        let entry = entry_at(journal, at);
+        let entry = journal.entry_at(at);
         let was_behind = is_behind(offset, &log);
         log.note(group, place, &entry.event.request, &entry.reply)?;
         let deletes = deletes_topic(place, &entry.event.request, &entry.reply);

@@ -13,7 +13,7 @@ use crate::fate::Fate;
 use crate::order::Early;
 use crate::printed_doubles::push_doubled_rows;
 use crate::printed_order::{push_records, push_rows};
-use crate::printed_pieces::{push_assigned, push_counted, push_event};
+use crate::printed_pieces::{push_assigned, push_event};
 use crate::printed_records::{push_doubles, push_losses};
 use crate::reach::Stored;
 use crate::record_order::EarlyRecord;
@@ -23,7 +23,7 @@ use kob_names::sum_of;
 use kob_outbox::OutboxEvent;
 use kob_router::Place;
 use kob_shared::Journal;
-use kob_words::push_number;
+use kob_words::{push_counted, push_number};
 use std::alloc::AllocError;
 
 fn push_where(out: &mut Vec<u8>, assignment: &[Place], fate: Fate) -> Result<(), AllocError>

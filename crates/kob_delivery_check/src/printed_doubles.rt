@@ -7,10 +7,11 @@ ghost use Rattle.kob_delivery_check.specs.Doubles.{places_text};
 
 use crate::cause::event_at;
 use crate::printed_order::push_inbox_place;
-use crate::printed_pieces::{push_counted, push_event};
+use crate::printed_pieces::push_event;
 use crate::row_doubles::DoubledRow;
 use crate::sent::place_of;
 use kob_outbox::OutboxEvent;
+use kob_words::push_counted;
 use std::alloc::AllocError;
 
 /// The place of a row, and that of the first row of its event.

@@ -9,12 +9,13 @@ ghost use Rattle.kob_delivery_check.specs.PrintedOrder.{row_lines};
 
 use crate::cause::event_at;
 use crate::order::Early;
-use crate::printed_pieces::{push_assigned, push_counted, push_event, push_id};
+use crate::printed_pieces::{push_assigned, push_event, push_id};
 use crate::printed_records::push_labelled;
 use crate::record_order::EarlyRecord;
 use crate::sent::place_of;
 use kob_outbox::OutboxEvent;
 use kob_router::Place;
+use kob_words::push_counted;
 use std::alloc::AllocError;
 
 #[tactic(auto, using(kob_words::proofs::Appending::appending))]

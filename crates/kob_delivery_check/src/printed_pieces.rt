@@ -3,29 +3,14 @@
 ghost use Rattle.std.specs.Prelude.{◌≡◌, ◌++◌, OnOk, slice_get};
 ghost use Rattle.std.specs.Option.{option_copied};
 ghost use Rattle.kob_outbox.specs.Contents.{id_text};
-ghost use Rattle.kob_delivery_check.specs.PrintedPieces.{counted, event_text, place_text, spaced};
+ghost use Rattle.kob_words.specs.Words.{spaced};
+ghost use Rattle.kob_delivery_check.specs.PrintedPieces.{event_text, place_text};
 
 use kob_outbox::OutboxEvent;
 use kob_router::Place;
-use kob_words::{push_bytes, push_number};
+use kob_words::{push_counted, push_spaced};
 use std::alloc::AllocError;
 use uuid::Uuid;
-
-#[tactic(auto, using(kob_words::proofs::Appending::appending))]
-pub(crate) fn push_spaced(out: &mut Vec<u8>, text: &[u8]) -> Result<(), AllocError>
-    ensures { OnOk result (out.new.items ≡ out.old.items ++ spaced text.now) }
-{
-    out.extend_from_slice(b" ")?;
-    push_bytes(out, text)
-}
-
-#[tactic(auto, using(kob_words::proofs::Appending::appending))]
-pub(crate) fn push_counted(out: &mut Vec<u8>, number: u64) -> Result<(), AllocError>
-    ensures { OnOk result (out.new.items ≡ out.old.items ++ counted number) }
-{
-    out.extend_from_slice(b" ")?;
-    push_number(out, number)
-}
 
 /// An event's id after a space, in lower case with hyphens.
 #[tactic(auto, using(kob_words::proofs::Appending::appending))]

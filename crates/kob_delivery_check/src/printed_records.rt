@@ -1,8 +1,8 @@
 //! How lost events and doubled records are printed, with the entries of the journal to blame.
 
-ghost use Rattle.std.specs.Prelude.{◌≡◌, ◌<◌, ◌++◌, OnOk, Some, length, map, slice_get};
+ghost use Rattle.std.specs.Prelude.{◌≡◌, ◌++◌, OnOk, Some, map};
 ghost use Rattle.std.specs.Option.{option_copied};
-ghost use Rattle.kob_delivery_check.specs.PrintedPieces.{counted};
+ghost use Rattle.kob_words.specs.Words.{counted};
 ghost use Rattle.kob_delivery_check.specs.PrintedRecords.{blamed_text, by_text, cause_text};
 ghost use Rattle.kob_delivery_check.specs.PrintedRecords.{committed_text, deed_text, deleted_text};
 ghost use Rattle.kob_delivery_check.specs.PrintedRecords.{deletion_text, doubled_by};
@@ -13,7 +13,7 @@ ghost use Rattle.kob_delivery_check.specs.PrintedRecords.{sender_text, senders_t
 ghost use Rattle.kob_delivery_check.specs.PrintedRecords.{unread_text};
 
 use crate::cause::{Cause, LostEvent, event_at};
-use crate::printed_pieces::{push_assigned, push_counted, push_event, push_spaced};
+use crate::printed_pieces::{push_assigned, push_event};
 use crate::reach::{Stored, record_at};
 use crate::sent::{put_at, sent_at};
 use kob_names::{Idem, Text};
@@ -21,6 +21,7 @@ use kob_outbox::OutboxEvent;
 use kob_rights::{Body, Reply, Request};
 use kob_router::Place;
 use kob_shared::{Entry, Journal};
+use kob_words::{push_counted, push_spaced};
 use std::alloc::AllocError;
 
 #[tactic(auto, using(kob_words::proofs::Appending::appending))]
@@ -175,18 +176,16 @@ pub(crate) fn push_losses(
     ensures { OnOk result (out.new.items ≡ out.old.items ++ lost_lines journal.now
         assignment.now (map (λ event. event.now) events.now) losses.now) }
 {
-    for place in 0..losses.len() {
-        let loss = loss_at(losses, place);
-        push_lost(out, journal, assignment, loss, event_at(events, loss.event))?;
+    for loss in losses {
+        push_lost(
+            out,
+            journal,
+            assignment,
+            *loss,
+            event_at(events, loss.event),
+        )?;
     }
     Ok(())
-}
-
-fn loss_at(losses: &[LostEvent], place: usize) -> LostEvent
-    requires { place < length losses.now }
-    ensures { slice_get losses.now place ≡ Some result }
-{
-    losses[place]
 }
 
 fn push_producer(out: &mut Vec<u8>, idem: Option<Idem>) -> Result<(), AllocError>

@@ -4,7 +4,6 @@ ghost use Rattle.std.specs.Prelude.{◌≡◌, IfOk, OnOk};
 ghost use Rattle.kob_delivery_check.specs.Unread.{has_partition, unread_of, with_entry, with_produce};
 ghost use Rattle.kob_delivery_check.specs.Unread.{with_request};
 
-use crate::journaled::entry_at;
 use kob_names::{PlainValue, Text};
 use kob_rights::{Produce, Reply, Request};
 use kob_router::Place;
@@ -24,7 +23,7 @@ pub fn unread_of(
 {
     let mut found = Vec::new(alloc);
     for at in 0..journal.len() {
-        note_entry(alloc, &mut found, worker, assignment, entry_at(journal, at))?;
+        note_entry(alloc, &mut found, worker, assignment, journal.entry_at(at))?;
     }
     Ok(found)
 }

@@ -6,9 +6,10 @@ ghost use Rattle.kob_delivery_check.specs.Unrecorded.{unrecorded_line, unrecorde
 ghost use Rattle.kob_delivery_check.specs.Unrecorded.{unrecorded_of};
 
 use crate::come::push_if;
-use crate::printed_pieces::{push_id, push_spaced};
+use crate::printed_pieces::push_id;
 use crate::sent::place_of;
 use kob_outbox::OutboxEvent;
+use kob_words::push_spaced;
 use std::alloc::{AllocError, Global};
 
 /// Those of the events of which a service wrote the business row alone that it did not record

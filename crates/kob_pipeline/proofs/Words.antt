@@ -4,7 +4,7 @@ pub use Rattle.kob_broker.specs.Step.{state_of}
 pub use Rattle.kob_broker.specs.State.{settings_of}
 pub use Rattle.kob_inbox.proofs.Ticking.{run_takes_in}
 pub use Rattle.kob_inbox.specs.Contents.{Intake, placed_intake}
-pub use Rattle.kob_lines.specs.Calls.{served_in}
+pub use Rattle.kob_connections.specs.Calls.{served_in}
 pub use Rattle.kob_names.specs.Binding.{Binding}
 pub use Rattle.kob_outbox.specs.Contents.{Contents, Event, IsRising, empty, first_after, later_than}
 pub use Rattle.kob_outbox.specs.declared.change.Change.{Change}

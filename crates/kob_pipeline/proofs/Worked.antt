@@ -3,8 +3,8 @@ use Rattle.kob_pipeline.proofs.Words.{All-cons, All-nil, AreMade, AreNotedOrLost
 use Rattle.kob_rights.specs.declared.event.Event.{Event}
 use Rattle.kob_pipeline.specs.Noting.{nothing_is_noted, noted_append}
 use Rattle.kob_router.proofs.Runs.{calls_append, run_append}
-use Rattle.kob_lines.proofs.ConsumerCourses.{calls_joined, joined}
-use Rattle.kob_lines.proofs.Adding.{served_append}
+use Rattle.kob_connections.proofs.ConsumerCourses.{calls_joined, joined}
+use Rattle.kob_connections.proofs.Adding.{served_append}
 use Rattle.kob_pipeline.specs.declared.plan.ConsumerStep.{ConsumerStep}
 use Rattle.kob_pipeline.specs.declared.plan.ServiceStep.TheVariants.{Record}
 use Rattle.kob_delivery.proofs.Rows.{all_later, run_numbered}

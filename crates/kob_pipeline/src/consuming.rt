@@ -4,7 +4,7 @@ ghost use Rattle.std.specs.Prelude.{◌≡◌, map, IfOk, OnErr, OnOk};
 ghost use Rattle.std.specs.List.{enumerate_from};
 ghost use Rattle.kob_inbox.specs.Contents.{placed_intake};
 ghost use Rattle.kob_inbox.specs.Run.{start};
-ghost use Rattle.kob_lines.specs.Received.{received_state};
+ghost use Rattle.kob_connections.specs.Received.{received_state};
 ghost use Rattle.kob_pipeline.specs.declared.plan.ConsumerStep.TheVariants as steps;
 ghost use Rattle.kob_pipeline.specs.Steps.{ConsumerGoesOn, IsConsumerStep, Leads, Steps, with_desk};
 
@@ -12,8 +12,8 @@ use crate::end::InboxEnd;
 use crate::line::DeskLine;
 use crate::plan::{ConsumerPlan, ConsumerStep};
 use crate::step_fault::{StepFault, goes_on_after};
+use kob_connections::{Loss, Receiver};
 use kob_inbox::Tick;
-use kob_lines::{Loss, Receiver};
 use kob_router::Line;
 use kob_shared::Gate;
 use std::alloc::Global;

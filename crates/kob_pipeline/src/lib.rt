@@ -20,7 +20,7 @@ mod workers;
 
 pub use end::{InboxEnd, OutboxEnd, PipelineEnd, WorkerEnd};
 pub use fault::PipelineFault;
-pub use kob_lines::Loss;
+pub use kob_connections::Loss;
 pub use laws::{consumer_law, pipeline_law, router_law};
 pub use pipelines::pipeline;
 pub use plan::{ConsumerPlan, ConsumerStep, Plan, Service, ServiceStep};

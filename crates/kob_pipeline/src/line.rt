@@ -2,12 +2,12 @@
 
 ghost use Rattle.std.specs.Prelude.{◌≡◌, ◌<◌, ◌⊎◌, [], ◌∷◌, ◌++◌, None, OnOk, Some, IfErr, IfNone};
 ghost use Rattle.std.specs.Prelude.{IfOk, IfSome, alloc_error, vec_capacity, vec_len};
-ghost use Rattle.kob_lines.specs.Calls.{reply_of};
+ghost use Rattle.kob_connections.specs.Calls.{reply_of};
 ghost use Rattle.kob_rights.specs.Requests.{Fits, OffsetsWithin};
 ghost use Rattle.kob_pipeline.specs.Served.{AreNotedOrLost};
 ghost use Rattle.kob_router.specs.Line.{Adds, IsFaithful};
 
-use kob_lines::{Calls, Loss};
+use kob_connections::{Calls, Loss};
 use kob_names::PlainValue;
 use kob_rights::{Reply, Request};
 use kob_router::{Call, Delivery, Line};

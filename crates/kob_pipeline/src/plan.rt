@@ -4,8 +4,8 @@ ghost use Rattle.std.specs.Prelude.{◌↔◌, IsTrue};
 ghost use Rattle.kob_pipeline.specs.Plans.{IsRunnable};
 
 use kob_broker::Settings;
+use kob_connections::Loss;
 use kob_inbox::Subscription;
-use kob_lines::Loss;
 use kob_names::{Host, Items, Principal};
 use kob_outbox::{Change, OutboxEvent};
 use kob_rights::Event;

@@ -4,7 +4,7 @@ ghost use Rattle.std.specs.Prelude.{◌≡◌, ◌≤◌, ◌⊎◌, ◌^◌, �
 ghost use Rattle.std.specs.Prelude.{alloc_error, None};
 ghost use Rattle.std.specs.Prelude.{◌-◌, OnErr, OnOk, false, length, option_map, slice_get};
 ghost use Rattle.std.specs.Prelude.{unwrap_or};
-ghost use Rattle.kob_lines.specs.Relayed.{relayed_state};
+ghost use Rattle.kob_connections.specs.Relayed.{relayed_state};
 ghost use Rattle.kob_outbox.specs.Contents.{id_text, stored_row, first_bad, later_than};
 ghost use Rattle.kob_outbox.specs.Contents.{is_recorded, next_seq};
 ghost use Rattle.kob_router.specs.Run.{dispatch_of, start};
@@ -16,7 +16,7 @@ use crate::end::OutboxEnd;
 use crate::line::DeskLine;
 use crate::plan::{Service, ServiceStep};
 use crate::step_fault::{StepFault, goes_on_after};
-use kob_lines::{Loss, Relay};
+use kob_connections::{Loss, Relay};
 use kob_outbox::{Change, Outbox, OutboxEvent, RecordFault, Row};
 use kob_router::{Line, Tick};
 use kob_shared::{CallFault, Gate};

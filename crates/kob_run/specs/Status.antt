@@ -1,9 +1,9 @@
 -- The program's status: 0 for a script that was served, 2 for out of memory, 1 for any other end.
 use Rattle.std.specs.Prelude.{ℕ, Result, Ok, Err}
-use Rattle.kob_text.specs.declared.fault.RunFault.{RunFault}
-use Rattle.kob_text.specs.declared.fault.RunFault.TheVariants.{ReadFailed, WriteFailed, TooLong, Memory}
-use Rattle.kob_text.specs.declared.output.Ended.{Ended}
-use Rattle.kob_text.specs.declared.output.Ended.TheVariants.{Clean, Fault, Stopped}
+use Rattle.kob_script_run.specs.declared.fault.RunFault.{RunFault}
+use Rattle.kob_script_run.specs.declared.fault.RunFault.TheVariants.{ReadFailed, WriteFailed, TooLong, Memory}
+use Rattle.kob_script_run.specs.declared.output.Ended.{Ended}
+use Rattle.kob_script_run.specs.declared.output.Ended.TheVariants.{Clean, Fault, Stopped}
 
 abbrev pub status_of : Result Ended RunFault → ℕ
 status_of (Ok Clean) = 0

@@ -4,7 +4,7 @@
 ghost use Rattle.std.specs.Prelude.{◌≡◌};
 ghost use Rattle.kob_run.specs.Status.{status_of};
 
-use kob_text::{Ended, RunFault, run_text};
+use kob_script_run::{Ended, RunFault, run_text};
 use std::env::FillError;
 use std::io;
 use std::process::ExitCode;

@@ -1,11 +1,11 @@
 -- Services that send otherwise than the proved router.
 use Rattle.kob_scene_play.proofs.Words.{ArePassedOn, Bool, Call, Journals, List, Loss, None, Option, PassesCallsOn, Record, Service, Some, [], ap, false, inl, inr, map, map-append, refl, subst, sym, true, ◌++◌, ◌∙◌, ◌∷◌, ◌≡◌}
-use Rattle.kob_lines.proofs.Adding as adding
-use Rattle.kob_lines.specs.Calls.{MakesCalls, ServesAs, ServesEach}
-use Rattle.kob_lines.specs.Joined.{each_append}
-use Rattle.kob_lines.specs.Servers.{ServesRecorded}
-use Rattle.kob_lines.specs.declared.recorded_line.RecordedServer.{RecordedServer}
-use Rattle.kob_lines.specs.Relayed.{Relayed}
+use Rattle.kob_connections.proofs.Adding as adding
+use Rattle.kob_connections.specs.Calls.{MakesCalls, ServesAs, ServesEach}
+use Rattle.kob_connections.specs.Joined.{each_append}
+use Rattle.kob_connections.specs.Servers.{ServesRecorded}
+use Rattle.kob_connections.specs.declared.recorded_line.RecordedServer.{RecordedServer}
+use Rattle.kob_connections.specs.Relayed.{Relayed}
 use Rattle.kob_outbox.specs.Contents.{Event, stored_row}
 use Rattle.kob_outbox.specs.declared.event.Row.{Row}
 use Rattle.kob_rights.specs.declared.reply.Reply.{Reply}

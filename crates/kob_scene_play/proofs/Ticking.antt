@@ -2,7 +2,7 @@
 use Rattle.kob_scene_play.proofs.Words.{ArePassedOn, AreServed, Call, Consumer, IsOwnTick, IsJournaled, IsSameConsumer, IsSameService, IsRouterTick, Journals, List, LosesFirst, Loss, PassesCallsOn, Record, Served, Service, Ticks, [], inl, inr, point_of, served_in, subst, sym, ℕ, map, ◌++◌, ◌∙◌, ◌∷◌, ◌≡◌, ap, Err, IfOk, None, Ok, OnOk, Option, Result, Some}
 use Rattle.kob_inbox.specs.declared.tick.Tick.{Tick as ConsumerAnswer}
 use Rattle.kob_inbox.specs.Contents.{Contents as InboxContents}
-use Rattle.kob_lines.specs.Relayed.{IsTick}
+use Rattle.kob_connections.specs.Relayed.{IsTick}
 use Rattle.kob_rights.specs.declared.event.Event.{Event}
 use Rattle.kob_rights.specs.declared.reply.Reply.{Reply}
 use Rattle.kob_router.specs.declared.tick.Tick.{Tick as ServiceAnswer}

@@ -3,7 +3,7 @@ pub use Rattle.kob_inbox.specs.Run.{State}
 pub use Rattle.kob_inbox.specs.Tick.{Ticks, point_of}
 pub use Rattle.kob_inbox.specs.declared.fetcher.Subscription.{Subscription}
 pub use Rattle.kob_inbox.specs.declared.tick.Tick.{Tick}
-pub use Rattle.kob_lines.specs.Calls.{ArePassedOn, IsJournaled, Journals, PassesCallsOn, served_in}
+pub use Rattle.kob_connections.specs.Calls.{ArePassedOn, IsJournaled, Journals, PassesCallsOn, served_in}
 pub use Rattle.kob_router.specs.declared.line.Loss.{Loss}
 pub use Rattle.kob_outbox.specs.Contents.{Contents, id_text, first_bad, without_sent, after_record, is_recorded, next_seq}
 pub use Rattle.kob_outbox.specs.declared.change.Change.{Change}

@@ -2,8 +2,8 @@
 use Rattle.std.specs.List.{find, list_any}
 use Rattle.std.specs.Prelude.{◌≡◌, ℕ, ◌-◌, ◌==◌, Bool, true, false, length, not, List, [], ◌∷◌, ◌++◌, Option, None, Some, Result, Ok, Err, map, option_map, string_bytes, if◌then◌else◌}
 use Rattle.kob_delivery_check.specs.Unrecorded.{has_new_id}
-use Rattle.kob_lines.specs.Calls.{IsJournaled}
-use Rattle.kob_lines.specs.Relayed.{IsTick, Relayed, relayed_state}
+use Rattle.kob_connections.specs.Calls.{IsJournaled}
+use Rattle.kob_connections.specs.Relayed.{IsTick, Relayed, relayed_state}
 use Rattle.kob_router.specs.declared.line.Loss.{Loss}
 use Rattle.kob_router.specs.declared.line.Loss.TheVariants as losses
 use Rattle.kob_outbox.specs.Contents.{Contents, Event, first_after, key_of, with_state}

@@ -7,7 +7,7 @@ use Rattle.kob_scene_text.specs.PrintedRows.{numbered, inbox_text, outbox_text, 
 use Rattle.kob_inbox.specs.Contents.{Contents as InboxContents, placed_intake}
 use Rattle.kob_inbox.specs.declared.fetcher.Fetcher.{Fetcher}
 use Rattle.kob_inbox.specs.declared.tick.Tick.{Tick as ConsumerAnswer}
-use Rattle.kob_lines.specs.Calls.{IsJournaled}
+use Rattle.kob_connections.specs.Calls.{IsJournaled}
 use Rattle.kob_router.specs.declared.line.Loss.{Loss}
 use Rattle.kob_outbox.specs.Contents.{id_text, stored_row, first_bad, first_bad_of_change, first_after, state_at, up_to, is_recorded, next_seq}
 use Rattle.kob_router.specs.declared.line.Call.{Call}

@@ -4,7 +4,7 @@ use Rattle.std.specs.Prelude.{◌≡◌, ◌++◌, ℕ, List, [], ◌∷◌, Opt
 use Rattle.kob_inbox.specs.Contents.{Arrival, Contents, Intake, intake_of, placed_intake}
 use Rattle.kob_inbox.specs.Run.{State, after_answer, behind, due_now, place_at}
 use Rattle.kob_inbox.specs.Tick.{Hears}
-use Rattle.kob_lines.specs.Received.{Received, received_state}
+use Rattle.kob_connections.specs.Received.{Received, received_state}
 use Rattle.kob_inbox.specs.declared.cursors.Cursor.{Cursor}
 use Rattle.kob_inbox.specs.declared.fetcher.Fetcher.{Fetcher}
 use Rattle.kob_inbox.specs.declared.fetcher.Subscription.{Subscription}

@@ -2,7 +2,7 @@
 
 ghost use Rattle.std.specs.Prelude.{◌≡◌, None, Some, IfOk, IfSome, IsTrue, OnOk, length};
 ghost use Rattle.kob_inbox.specs.Run.{due_now};
-ghost use Rattle.kob_lines.specs.Received.{received_state};
+ghost use Rattle.kob_connections.specs.Received.{received_state};
 ghost use Rattle.kob_rights.specs.Requests.{BodyWithin, Fits, IsBodyOf, OffsetsWithin};
 ghost use Rattle.kob_rights.specs.declared.reply.Body.TheVariants as bodies;
 ghost use Rattle.kob_scene_play.specs.Takings.{AreWithin, CountsCommitted, HandlesBody};
@@ -13,8 +13,8 @@ ghost use Rattle.kob_scene_play.specs.declared.holding.Holding.TheVariants.{Noth
 use crate::ask::committed_by;
 use crate::fault::{TickFault, stop_of_consumer};
 use crate::holding::{Held, Holding, held_of};
+use kob_connections::Receiver;
 use kob_inbox::{Consumer, Tick};
-use kob_lines::Receiver;
 use kob_names::PlainValue;
 use kob_rights::{Body, Event, Fetch, Reply, Request};
 use std::alloc::{AllocError, Global};

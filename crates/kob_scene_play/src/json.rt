@@ -1,14 +1,13 @@
 //! Answers as JSON, an object a line.
 
-ghost use Rattle.std.specs.Char.{digit_char};
 ghost use Rattle.std.specs.List.{flat_map};
 ghost use Rattle.std.specs.Option.{option_map};
-ghost use Rattle.std.specs.Prelude.{◌≡◌, ◌<◌, ◌++◌, None, OnOk, Some, codes};
+ghost use Rattle.std.specs.Prelude.{◌≡◌, ◌++◌, None, OnOk, Some, codes};
 ghost use Rattle.kob_scene_play.specs.Json.{begins_with_digit, json_byte, json_fields, json_object};
 ghost use Rattle.kob_scene_play.specs.Json.{first_word, json_string, json_text, json_words, words_byte};
 
 use bstr::ByteSlice;
-use kob_words::push_number;
+use kob_words::{hex_digit, push_number};
 use std::alloc::AllocError;
 
 /// Appends an object for each line of a text that a step of this line of a scene printed.
@@ -152,19 +151,7 @@ fn push_byte(out: &mut Vec<u8>, byte: u8) -> Result<(), AllocError>
     }
     if byte < b' ' {
         out.extend_from_slice(b"\\u00")?;
-        return out.extend_from_slice(&[digit_of(byte / 16), digit_of(byte % 16)]);
+        return out.extend_from_slice(&[hex_digit(byte / 16), hex_digit(byte % 16)]);
     }
     out.extend_from_slice(&[byte])
-}
-
-/// The hexadecimal digit for a number below 16.
-fn digit_of(digit: u8) -> u8
-    requires { digit < 16 }
-    ensures { result ≡ digit_char digit }
-{
-    if digit < 10 {
-        b'0' + digit
-    } else {
-        b'a' + (digit - 10)
-    }
 }

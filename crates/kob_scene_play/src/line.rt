@@ -2,13 +2,13 @@
 
 ghost use Rattle.std.specs.Prelude.{◌≡◌};
 ghost use Rattle.kob_inbox.specs.Tick.{Ticks, point_of};
-ghost use Rattle.kob_lines.specs.Calls.{Journals, PassesCallsOn};
-ghost use Rattle.kob_lines.specs.Relayed.{IsTick};
+ghost use Rattle.kob_connections.specs.Calls.{Journals, PassesCallsOn};
+ghost use Rattle.kob_connections.specs.Relayed.{IsTick};
 ghost use Rattle.kob_scene_play.specs.Services.{sent_as};
 
 use crate::sent_line::SentLine;
+use kob_connections::{Lossy, Receiver, RecordedLine, Relay};
 use kob_inbox::Tick as ConsumerTick;
-use kob_lines::{Lossy, Receiver, RecordedLine, Relay};
 use kob_router::Tick as ServiceTick;
 use std::alloc::Global;
 

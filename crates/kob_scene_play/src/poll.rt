@@ -6,7 +6,7 @@ ghost use Rattle.std.specs.Option.{option_copied};
 ghost use Rattle.kob_outbox.specs.Contents.{stored_row};
 ghost use Rattle.kob_scene_play.specs.Services.{is_hidden, poll_behind, poll_by, poll_rows};
 
-use kob_lines::Relay;
+use kob_connections::Relay;
 use kob_outbox::{OutboxFault, Row};
 
 /// What comes before a step of the router.

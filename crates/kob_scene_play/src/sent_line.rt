@@ -3,7 +3,7 @@
 ghost use Rattle.std.specs.Prelude.{◌≡◌};
 ghost use Rattle.kob_scene_play.specs.Services.{asked_as, bare};
 
-use kob_lines::{Connection, RecordedServer, Serve};
+use kob_connections::{Connection, RecordedServer, Serve};
 use kob_names::Batch;
 use kob_rights::{Produce, Reply, Request};
 use kob_shared::CallFault;
@@ -21,7 +21,7 @@ pub(crate) struct SentServer<'a> {
 pub(crate) type SentLine<'a> = Connection<SentServer<'a>>;
 
 impl<'a> Serve for SentServer<'a> {
-    ghost use Rattle.kob_lines.specs.Servers.{RefusesRecorded, ServesRecorded};
+    ghost use Rattle.kob_connections.specs.Servers.{RefusesRecorded, ServesRecorded};
 
     /// The broker serves the request at once, as it is sent.
     ghost serves = { λ old new request there. (new.is_bare ≡ old.is_bare)

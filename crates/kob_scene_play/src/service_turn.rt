@@ -9,7 +9,7 @@ use crate::line::send_over;
 use crate::sent_line::SentServer;
 use crate::service_worker::ServiceWorker;
 use crate::skip::skip_first;
-use kob_lines::{Connection, Loss, LossyServer, RecordedServer};
+use kob_connections::{Connection, Loss, LossyServer, RecordedServer};
 use kob_names::PlainValue;
 use kob_router::Tick;
 use kob_scene_text::Sending;

@@ -10,7 +10,7 @@ ghost use Rattle.kob_scene_play.specs.Services.{IsTickOfService, is_repeat};
 
 use crate::fault::{TickFault, has_loss};
 use crate::poll::Poll;
-use kob_lines::{Loss, Relay};
+use kob_connections::{Loss, Relay};
 use kob_names::{Host, Principal};
 use kob_outbox::{Change, OutboxEvent, OutboxFault, RecordFault, Row};
 use kob_router::{Target, Tick};

@@ -6,7 +6,7 @@ ghost use Rattle.kob_router.specs.Run.{next_row};
 ghost use Rattle.kob_scene_play.specs.Services.{past_first};
 
 use crate::fault::TickFault;
-use kob_lines::Relay;
+use kob_connections::Relay;
 use kob_outbox::{MarkFault, OutboxFault, Row};
 
 /// Moves the mark past the first row after it, if there is one. No row is in flight.

@@ -16,12 +16,11 @@ use Rattle.kob_scene_text.proofs.ReadBackEvents.{IsAsked}
 use Rattle.kob_scene_text.proofs.ReadBackLine.{AreWords, IsWord, line_of, words_read}
 use Rattle.kob_scene_text.proofs.ReadBackWords.{host_is_word, host_read, name_is_word, plain_is_word, plain_word, principal_is_word, principal_read, text_word}
 use Rattle.kob_scene_text.specs.PrintedRequest.{worded}
-use Rattle.kob_scene_text.specs.PrintedRows.{spaced}
 use Rattle.kob_scene_text.specs.Rereading.{IsDraft, ReadsBackBinding}
 use Rattle.kob_script.specs.CommandLines.{draft_of, faults_in, known, request_of, row}
 use Rattle.kob_script.specs.declared.command.Command.TheVariants as command
 use Rattle.kob_script.specs.declared.fault.FaultKind.{FaultKind}
-use Rattle.kob_words.specs.Words.{grant_text, operation_name, operation_named, pattern_name, pattern_named, permission_name, permission_named, resource_name, resource_named, target_text}
+use Rattle.kob_words.specs.Words.{grant_text, operation_name, operation_named, pattern_name, pattern_named, permission_name, permission_named, resource_name, resource_named, target_text, spaced}
 
 -- A name that is printed without an escape, is not `-`, and is known.
 pub record IsKnown {A : Type 0} (named : List ℕ → Option A) (name : List ℕ) (item : A) : Type 0 where

@@ -19,7 +19,7 @@ use Rattle.kob_scene_text.proofs.ReadBackEvents.{IsAsked}
 use Rattle.kob_scene_text.proofs.ReadBackLine.{IsWord}
 use Rattle.kob_scene_text.proofs.ReadBackWords.{name_is_word, number_is_word, number_read, number_word, no_dash, plain_is_word, plain_word, text_read, text_word}
 use Rattle.kob_scene_text.specs.PrintedRequest.{before_text, which_text}
-use Rattle.kob_scene_text.specs.PrintedRows.{counted, spaced}
+use Rattle.kob_words.specs.Words.{counted, spaced}
 use Rattle.kob_scene_text.specs.Rereading.{IfGiven, IsBound, IsName, IsNumber}
 use Rattle.kob_script.specs.CommandLines.{faults_in, request_of, row}
 use Rattle.kob_script.specs.Words.{before_of, first_kind, number_of, text_of, which_of}

@@ -9,7 +9,6 @@ use Rattle.kob_names.specs.declared.principal.PrincipalFault.TheVariants.{NoColo
 use Rattle.kob_scene_text.proofs.ReadBackLine.{AreWords, line_of, words_read}
 use Rattle.kob_scene_text.proofs.ReadBackWords.{host_is_word, host_read, plain_word, principal_is_word, principal_read, text_word}
 use Rattle.kob_scene_text.specs.PrintedRequest.{event_text, request_text}
-use Rattle.kob_scene_text.specs.PrintedRows.{spaced}
 use Rattle.kob_scene_text.specs.Rereading.{IsHost, IsPrincipal, ReadsBack}
 use Rattle.kob_rights.specs.declared.request.Request.{Request}
 use Rattle.kob_script.specs.CommandLines.{acl_commands, acl_request, asked_by, command_named, events_by, events_of, faults_in, line_fault, request_of, requests_by, row, row_fault, row_named}
@@ -21,7 +20,7 @@ use Rattle.kob_script.specs.declared.command.Slot.TheVariants as slot
 use Rattle.kob_script.specs.declared.fault.FaultKind.{FaultKind}
 use Rattle.kob_script.specs.declared.fault.FaultKind.TheVariants.{BadLine}
 use Rattle.kob_words.proofs.Choices.{chosen_false}
-use Rattle.kob_words.specs.Words.{bytes_text}
+use Rattle.kob_words.specs.Words.{bytes_text, spaced}
 
 -- the words that a request is printed as ask for it
 pub record IsAsked (request : Request) : Type 0 where

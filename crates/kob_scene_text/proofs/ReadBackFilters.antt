@@ -16,7 +16,6 @@ use Rattle.kob_scene_text.proofs.ReadBackLine.{AreWords, IsWord, line_of}
 use Rattle.kob_scene_text.proofs.ReadBackTexts.{utf8_bytes}
 use Rattle.kob_scene_text.proofs.ReadBackWords.{host_read, host_some, plain_is_word, plain_word, principal_is_word, principal_read, text_is_word, text_read, text_word}
 use Rattle.kob_scene_text.specs.PrintedRequest.{asked_text, filter_text, operation_text, or_dash, pattern_text, permission_text, resource_text, worded}
-use Rattle.kob_scene_text.specs.PrintedRows.{spaced}
 use Rattle.kob_scene_text.specs.Rereading.{AreBytes, IfGiven, IsFilter, IsHost, IsName, IsPrincipal}
 use Rattle.kob_script.specs.CommandLines.{faults_in, filter_of, filter_pattern_of, filter_row, known, request_of, slot_fault, unless_dash}
 use Rattle.kob_script.specs.Words.{first_kind, named_host, named_principal, text_of}
@@ -27,7 +26,7 @@ use Rattle.kob_script.specs.declared.fault.FaultKind.{FaultKind}
 use Rattle.kob_words.proofs.Choices.{chosen_false, false_from}
 use Rattle.kob_words.proofs.Escapes.{plain_stands}
 use Rattle.kob_words.proofs.ReadBack.{bytes_read_back}
-use Rattle.kob_words.specs.Words.{bytes_text, operation_name, operation_named, permission_name, permission_named, resource_name, resource_named, unescaped, unescaped_from}
+use Rattle.kob_words.specs.Words.{bytes_text, operation_name, operation_named, permission_name, permission_named, resource_name, resource_named, unescaped, unescaped_from, spaced}
 
 -- a part of a filter is printed as a word, and read at its place as the part
 record IsPart {A : Type 0} (text : List ℕ) (word : Word) (at : Slot) (read : Result A FaultKind) (part : Option A) : Type 0 where

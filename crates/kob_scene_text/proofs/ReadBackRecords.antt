@@ -15,7 +15,6 @@ use Rattle.kob_scene_text.proofs.ReadBackLine.{AreWords, IsWord, line_of, no_bla
 use Rattle.kob_scene_text.proofs.ReadBackProduce.{Lacks, cut_found, cut_none, idem_is_word, idem_printed, idem_read, idem_word}
 use Rattle.kob_scene_text.proofs.ReadBackWords.{and_true, bytes_letters, bytes_some, name_is_word, number_is_word, number_read, number_word, plain_is_word, text_word}
 use Rattle.kob_scene_text.specs.PrintedRequest.{idem_text, record_text}
-use Rattle.kob_scene_text.specs.PrintedRows.{counted, spaced}
 use Rattle.kob_scene_text.specs.Rereading.{AreBytes, IfGiven, IsIdem, IsName, IsNumber, IsRecord}
 use Rattle.kob_script.specs.CommandLines.{faults_in, request_of, row}
 use Rattle.kob_script.specs.Printed.{key_text}
@@ -23,7 +22,7 @@ use Rattle.kob_script.specs.Words.{cut_at, record_in, record_of}
 use Rattle.kob_script.specs.declared.command.Command.TheVariants as command
 use Rattle.kob_words.proofs.Choices.{both}
 use Rattle.kob_words.proofs.ReadBack.{bytes_read_back}
-use Rattle.kob_words.specs.Words.{byte_text, bytes_of, bytes_text, hexadecimal, is_plain, unescaped, unescaped_from}
+use Rattle.kob_words.specs.Words.{byte_text, bytes_of, bytes_text, hexadecimal, is_plain, unescaped, unescaped_from, counted, spaced}
 
 -- no printed bytes have `=`
 

@@ -8,8 +8,7 @@ use Rattle.kob_names.specs.declared.kinds.Permission.{Permission}
 use Rattle.kob_names.specs.declared.kinds.ResourceKind.{ResourceKind}
 use Rattle.kob_names.specs.declared.batch.Idem.{Idem}
 use Rattle.kob_names.specs.declared.record.Record.{Record}
-use Rattle.kob_words.specs.Words.{operation_name, resource_name, pattern_name, permission_name, bytes_text}
-use Rattle.kob_scene_text.specs.PrintedRows.{spaced, counted}
+use Rattle.kob_words.specs.Words.{operation_name, resource_name, pattern_name, permission_name, bytes_text, spaced, counted}
 use Rattle.std.specs.Fmt.{decimal}
 use Rattle.kob_rights.specs.declared.event.Event.{Event}
 use Rattle.kob_rights.specs.declared.on_partitions.Before.{Before}

@@ -6,7 +6,7 @@ use Rattle.kob_outbox.specs.declared.event.OutboxEvent.{OutboxEvent}
 use Rattle.kob_outbox.specs.declared.event.Row.{Row}
 use Rattle.kob_outbox.specs.Contents.{id_text}
 use Rattle.kob_script.specs.Printed.{key_text, outcome_text}
-use Rattle.kob_words.specs.Words.{bytes_text}
+use Rattle.kob_words.specs.Words.{bytes_text, counted, spaced}
 use Rattle.kob_inbox.specs.declared.tick.Tick.{Tick as ConsumerTick}
 use Rattle.kob_outbox.specs.declared.fault.RecordFault.{RecordFault}
 use Rattle.kob_outbox.specs.declared.fault.RecordFault.TheVariants.{BadField, DuplicateId, Memory, Store}
@@ -17,14 +17,6 @@ use Rattle.kob_outbox.specs.declared.fields.Column.TheVariants as columns
 use Rattle.kob_router.specs.declared.tick.StopReason.{StopReason}
 use Rattle.kob_router.specs.declared.tick.StopReason.TheVariants as stop
 use Rattle.kob_router.specs.declared.tick.Tick.TheVariants as service_tick
-
--- a text after a space
-abbrev pub spaced : List ℕ → List ℕ
-spaced text = codes " " ++ bytes_text text
-
--- a number after a space
-abbrev pub counted : ℕ → List ℕ
-counted number = codes " " ++ decimal number
 
 -- AGGREGATETYPE AGGREGATEID TYPE PAYLOAD
 abbrev pub event_text : OutboxEvent → List ℕ

@@ -1,18 +1,17 @@
 //! How the bindings of a creation and the filters of bindings are printed.
 
 ghost use Rattle.std.specs.Prelude.{◌≡◌, ◌++◌, OnOk, flat_map};
+ghost use Rattle.kob_words.specs.Words.{spaced};
 ghost use Rattle.kob_scene_text.specs.PrintedRequest.{asked_grant, asked_target, asked_text};
 ghost use Rattle.kob_scene_text.specs.PrintedRequest.{draft_text, filter_text, grant_text};
 ghost use Rattle.kob_scene_text.specs.PrintedRequest.{operation_text};
 ghost use Rattle.kob_scene_text.specs.PrintedRequest.{or_dash, pattern_text, permission_text};
 ghost use Rattle.kob_scene_text.specs.PrintedRequest.{resource_text, target_text, worded};
-ghost use Rattle.kob_scene_text.specs.PrintedRows.{spaced};
 
-use crate::printed_rows::push_spaced;
 use kob_names::{
     BindingFilter, Draft, FilterPattern, Host, Operation, Permission, Principal, ResourceKind, Text,
 };
-use kob_words::{operation_name, pattern_name, permission_name, resource_name};
+use kob_words::{operation_name, pattern_name, permission_name, push_spaced, resource_name};
 use std::alloc::AllocError;
 
 /// A word that needs no escape, after a space.

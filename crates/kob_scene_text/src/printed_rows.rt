@@ -2,35 +2,18 @@
 
 ghost use Rattle.std.specs.Prelude.{◌≡◌, ◌++◌, OnOk, codes, option_map, string_bytes};
 ghost use Rattle.kob_script.specs.Printed.{key_text};
-ghost use Rattle.kob_scene_text.specs.PrintedRows.{counted, event_text, inbox_item, inbox_text};
-ghost use Rattle.kob_scene_text.specs.PrintedRows.{intake_text, outbox_item, outbox_text, spaced};
+ghost use Rattle.kob_scene_text.specs.PrintedRows.{event_text, inbox_item, inbox_text};
+ghost use Rattle.kob_scene_text.specs.PrintedRows.{intake_text, outbox_item, outbox_text};
+ghost use Rattle.kob_words.specs.Words.{counted, spaced};
 ghost use Rattle.kob_scene_text.specs.PrintedRows.{state_text, waiting_text};
 ghost use Rattle.kob_outbox.specs.Contents.{id_text};
 
 use kob_inbox::InboxRow;
 use kob_names::Bytes;
 use kob_outbox::{OutboxEvent, Row};
-use kob_words::{push_bytes, push_number};
+use kob_words::{push_bytes, push_counted, push_number, push_spaced};
 use std::alloc::AllocError;
 use uuid::Uuid;
-
-/// A text after a space.
-#[tactic(auto, using(kob_words::proofs::Appending::appending))]
-pub(crate) fn push_spaced(out: &mut Vec<u8>, text: &[u8]) -> Result<(), AllocError>
-    ensures { OnOk result (out.new.items ≡ out.old.items ++ spaced text.now) }
-{
-    out.extend_from_slice(b" ")?;
-    push_bytes(out, text)
-}
-
-/// A number after a space.
-#[tactic(auto, using(kob_words::proofs::Appending::appending))]
-pub(crate) fn push_counted(out: &mut Vec<u8>, number: u64) -> Result<(), AllocError>
-    ensures { OnOk result (out.new.items ≡ out.old.items ++ counted number) }
-{
-    out.extend_from_slice(b" ")?;
-    push_number(out, number)
-}
 
 /// An event's id after a space, in lower case with hyphens.
 #[tactic(auto, using(kob_words::proofs::Appending::appending))]

@@ -35,7 +35,7 @@ fn push_service_tick(out: &mut Vec<u8>, tick: kob_router::Tick) -> Result<(), Al
     ensures { OnOk result (out.new.items ≡ out.old.items ++ service_tick_text tick) }
 {
     match tick {
-        kob_router::Tick::Moved(seq) => push_counted(out, b" moved ", seq),
+        kob_router::Tick::Moved(seq) => push_labelled(out, b" moved ", seq),
         kob_router::Tick::Idle => out.extend_from_slice(b" idle"),
         kob_router::Tick::Repeat => out.extend_from_slice(b" repeat"),
         kob_router::Tick::Stopped(reason) => push_stop(out, &reason),
@@ -58,7 +58,7 @@ fn push_stop(out: &mut Vec<u8>, reason: &StopReason) -> Result<(), AllocError>
 }
 
 #[tactic(auto, using(kob_words::proofs::Appending::appending))]
-fn push_counted(out: &mut Vec<u8>, word: &[u8], count: u64) -> Result<(), AllocError>
+fn push_labelled(out: &mut Vec<u8>, word: &[u8], count: u64) -> Result<(), AllocError>
     ensures { OnOk result (out.new.items ≡ out.old.items ++ (word.now ++ decimal count)) }
 {
     out.extend_from_slice(word)?;
@@ -80,7 +80,7 @@ fn print_counted(out: &mut Vec<u8>, number: u64, word: &[u8], count: u64) -> Res
         ≡ out.old.items ++ numbered number (word.now ++ decimal count)) }
 {
     push_number(out, number)?;
-    push_counted(out, word, count)?;
+    push_labelled(out, word, count)?;
     out.extend_from_slice(b"\n")
 }
 
@@ -107,8 +107,8 @@ fn push_consumer_tick(out: &mut Vec<u8>, tick: kob_inbox::Tick) -> Result<(), Al
     ensures { OnOk result (out.new.items ≡ out.old.items ++ consumer_tick_text tick) }
 {
     match tick {
-        kob_inbox::Tick::Placed(position) => push_counted(out, b" placed ", position),
-        kob_inbox::Tick::Took(count) => push_counted(out, b" took ", count),
+        kob_inbox::Tick::Placed(position) => push_labelled(out, b" placed ", position),
+        kob_inbox::Tick::Took(count) => push_labelled(out, b" took ", count),
         kob_inbox::Tick::Committed => out.extend_from_slice(b" committed"),
         kob_inbox::Tick::Idle => out.extend_from_slice(b" idle"),
         kob_inbox::Tick::Repeat => out.extend_from_slice(b" repeat"),

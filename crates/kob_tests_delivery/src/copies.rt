@@ -1,6 +1,6 @@
 //! Copies of what services, routers and consumers keep.
 
-use crate::making::{ORDERS, READY, default_route};
+use crate::fixtures::{ORDERS, READY, default_route};
 use kob_inbox::Subscription;
 use kob_names::PlainValue;
 use kob_outbox::{Change, OutboxEvent, Row};

@@ -3,17 +3,17 @@
 
 ghost use Rattle.std.specs.Prelude.{◌≡◌, []};
 
-use crate::making::{CREATE_ORDERS, ORDERS, READY, asker, broker, event_of, order};
+use crate::fixtures::{CREATE_ORDERS, ORDERS, READY, asker, broker, event_of, order};
 use crate::relays::service;
 use crate::remote::{Local, Remote};
 use crossbeam_channel::bounded;
 use kob_broker::Broker;
-use kob_embedding::{
+use kob_connections::{Connection, IntoCalls};
+use kob_endpoints::{
     ConsumerEnd, DeliveryFault, JudgeFault, Part, RunningConsumer, RunningService, ServiceEnd,
     is_served, judged_in_turn,
 };
 use kob_inbox::{Inbox, Subscription};
-use kob_lines::{Connection, IntoCalls};
 use kob_names::PlainValue;
 use kob_rights::{Event, Reply, Request};
 use kob_router::{Call, Line};

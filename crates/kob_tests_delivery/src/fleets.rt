@@ -2,8 +2,8 @@
 
 ghost use Rattle.std.specs.Prelude.{◌≤◌};
 
+use crate::fixtures::{CREATE, METADATA, WRITE, broker, events_of, offset_of, scripts_of};
 use crate::gates::Holding;
-use crate::making::{CREATE, METADATA, WRITE, broker, events_of, offset_of, scripts_of};
 use kob_names::Binding;
 use kob_rights::Event;
 use kob_shared::{FleetEnd, FleetFault, Script, Transcript, run_scripts};

@@ -1,7 +1,7 @@
 //! A journal that a broker other than this project's may make, and one that no broker makes.
 
-use crate::making::{READY, event_of};
-use kob_embedding::first_stranger;
+use crate::fixtures::{READY, event_of};
+use kob_endpoints::first_stranger;
 use kob_names::{Bytes, Items, Record};
 use kob_rights::{Body, Reply};
 use kob_shared::{Entry, Journal};

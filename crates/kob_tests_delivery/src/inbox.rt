@@ -1,7 +1,7 @@
 //! The rows of an inbox: which are taken, seen or refused, what they keep, and running out of
 //! memory.
 
-use crate::making::READY;
+use crate::fixtures::READY;
 use kob_inbox::{Inbox, InboxFault, InboxRow, TakeIn};
 use kob_names::{Bytes, Header, Items, Record, Text};
 use kob_router::event_id;

@@ -12,6 +12,8 @@ mod copies;
 #[cfg(test)]
 mod elsewhere;
 #[cfg(test)]
+mod fixtures;
+#[cfg(test)]
 mod fleets;
 #[cfg(test)]
 mod gates;
@@ -20,15 +22,17 @@ mod histories;
 #[cfg(test)]
 mod inbox;
 #[cfg(test)]
-mod left;
-#[cfg(test)]
 mod lines;
 #[cfg(test)]
-mod making;
+mod no_allocation;
+#[cfg(test)]
+mod no_allocation_sessions;
 #[cfg(test)]
 mod outbox;
 #[cfg(test)]
 mod pairings;
+#[cfg(test)]
+mod pipeline_end;
 #[cfg(test)]
 mod pipelines;
 #[cfg(test)]
@@ -53,9 +57,5 @@ mod rules;
 mod sessions;
 #[cfg(test)]
 mod sharing;
-#[cfg(test)]
-mod spared;
-#[cfg(test)]
-mod spared_sessions;
 #[cfg(test)]
 mod turns;

@@ -1,7 +1,7 @@
 //! A line to a broker whose journal is full.
 
-use crate::making::{asker, recorded};
-use kob_lines::{IntoCalls, RecordedLine};
+use crate::fixtures::{asker, recorded};
+use kob_connections::{IntoCalls, RecordedLine};
 use kob_rights::Request;
 use kob_router::{Delivery, Line};
 use kob_shared::{CallFault, Recorded};

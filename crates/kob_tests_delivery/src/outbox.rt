@@ -1,8 +1,8 @@
 //! An outbox's marks and limits; and one that runs out of memory, which `.ci/refuse` runs with each
 //! allocation refused in turn.
 
-use crate::making;
-use crate::making::{READY, record};
+use crate::fixtures;
+use crate::fixtures::{READY, record};
 use kob_outbox::{MarkFault, Outbox, OutboxFault, RecordFault};
 use std::alloc::Global;
 
@@ -21,7 +21,7 @@ const AFTER: [(u64, u32, u64, u64); 7] = [
 /// The mark moves neither back nor ahead of three rows.
 #[test]
 fn marks_and_rows_have_limits(rt: HostRuntime) {
-    let mut outbox = making::outbox(&rt, rt.alloc(), 3);
+    let mut outbox = fixtures::outbox(&rt, rt.alloc(), 3);
     assert_eq!(rt; outbox.set_mark(2), Ok(()));
     assert_eq!(rt; outbox.set_mark(1), Err(MarkFault::Backwards));
     assert_eq!(rt; outbox.set_mark(4), Err(MarkFault::Ahead));

@@ -1,9 +1,9 @@
 //! The calls of a line that loses one before it is served and one after, beside a journal's
 //! entries.
 
-use crate::making::{READY, asker, recorded};
-use kob_embedding::{Part, is_served};
-use kob_lines::{IntoCalls, Loss, Lossy, RecordedLine};
+use crate::fixtures::{READY, asker, recorded};
+use kob_connections::{IntoCalls, Loss, Lossy, RecordedLine};
+use kob_endpoints::{Part, is_served};
 use kob_names::PlainValue;
 use kob_rights::Request;
 use kob_router::{Call, Line};

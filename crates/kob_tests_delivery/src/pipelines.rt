@@ -4,9 +4,9 @@
 ghost use Rattle.std.specs.Prelude.{IfOk};
 ghost use Rattle.kob_pipeline.specs.Pipelines.{IsPipeline};
 
+use crate::fixtures::READY;
 use crate::gates::{Hold, Holding};
-use crate::left::{Due, breaks_no_premise, call_laws, is_due};
-use crate::making::READY;
+use crate::pipeline_end::{Due, breaks_no_premise, call_laws, is_due};
 use crate::plans::{Act, Cast, TICK, TWO, plan};
 use kob_pipeline::{Loss, PipelineEnd, PipelineFault, Plan, pipeline};
 use std::alloc::Global;

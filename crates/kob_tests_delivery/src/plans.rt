@@ -1,6 +1,6 @@
 //! Plans of pipelines that the tests share.
 
-use crate::making::{ORDERS, READY, asker, default_route, script};
+use crate::fixtures::{ORDERS, READY, asker, default_route, script};
 use kob_inbox::Subscription;
 use kob_outbox::{Change, OutboxEvent};
 use kob_pipeline::{ConsumerPlan, ConsumerStep, Loss, Plan, Service, ServiceStep};

@@ -4,13 +4,13 @@
 ghost use Rattle.std.specs.Prelude.{option_map};
 ghost use Rattle.kob_router.specs.Tick.{IsFirst, hand_of};
 
-use crate::making::{
+use crate::fixtures::{
     ORDERS, READY, answer, broker_of_orders, default_route, event_of, line_to, offset_of, outbox,
     record,
 };
 use kob_broker::Broker;
+use kob_connections::{BrokerLine, IntoCalls};
 use kob_inbox::{Consumer, Inbox, Subscription};
-use kob_lines::{BrokerLine, IntoCalls};
 use kob_outbox::Outbox;
 use kob_router::{Line, Router};
 use std::alloc::Global;

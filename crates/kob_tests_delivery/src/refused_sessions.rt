@@ -3,10 +3,10 @@
 
 ghost use Rattle.std.specs.Prelude.{◌≤◌};
 
+use crate::fixtures::{CREATE, METADATA, WRITE, offset_of, request_of, scripts_of, shared};
 use crate::fleets::{ended, tells_two_each};
 use crate::gates::Holding;
-use crate::left::{RECORDED, are_records, each_begins, is_marked};
-use crate::making::{CREATE, METADATA, WRITE, offset_of, request_of, scripts_of, shared};
+use crate::pipeline_end::{RECORDED, are_records, each_begins, is_marked};
 use crate::pipelines::run;
 use crate::plans::plan_of_two;
 use crate::sessions::{place_of, session};

@@ -2,11 +2,11 @@
 
 ghost use Rattle.std.specs.Prelude.{◌≡◌, []};
 
-use crate::left::are_records;
-use crate::making::{CREATE_ORDERS, READY, default_route, order, shared};
+use crate::fixtures::{CREATE_ORDERS, READY, default_route, order, shared};
+use crate::pipeline_end::are_records;
 use crate::sessions::{place_of, session};
-use kob_embedding::{RunningService, ServiceEnd, SharedService, is_served};
-use kob_lines::{IntoCalls, SessionLine};
+use kob_connections::{IntoCalls, SessionLine};
+use kob_endpoints::{RunningService, ServiceEnd, SharedService, is_served};
 use kob_outbox::Outbox;
 use kob_router::{Line, Tick};
 use kob_shared::SharedBroker;

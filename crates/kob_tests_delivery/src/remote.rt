@@ -1,7 +1,7 @@
 //! A server of one's own: requests go over a channel to the thread that has the broker.
 
 use crossbeam_channel::{Receiver, Sender};
-use kob_lines::Serve;
+use kob_connections::Serve;
 use kob_rights::{Reply, Request};
 use kob_shared::CallFault;
 use std::alloc::Global;

@@ -1,6 +1,6 @@
 //! Entries that were recorded elsewhere.
 
-use crate::making::{CREATE, READY, WRITE, copies, recorded, serve_all};
+use crate::fixtures::{CREATE, READY, WRITE, copies, recorded, serve_all};
 use kob_shared::{Entry, ReplayFault};
 use std::alloc::Global;
 use std::process::Abort;

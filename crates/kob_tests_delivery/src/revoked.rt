@@ -1,8 +1,8 @@
 //! A right that is revoked while its owner uses it.
 
+use crate::fixtures::{CREATE, READY, events_of, offset_of, request_of, script};
 use crate::fleets::run;
 use crate::gates::{Hold, Holding};
-use crate::making::{CREATE, READY, events_of, offset_of, request_of, script};
 use kob_names::{Binding, Verdict};
 use kob_rights::{Code, Reply, Request};
 use kob_shared::{FleetEnd, Transcript};

@@ -1,6 +1,6 @@
 //! The headers that a route gives to a row's record.
 
-use crate::making::READY;
+use crate::fixtures::READY;
 use kob_names::{Header, Record, Text};
 use kob_outbox::{Change, OutboxEvent, Row};
 use kob_router::{Route, RouteBy, RouteSettings, event_id, record_of};

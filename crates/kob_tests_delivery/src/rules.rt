@@ -5,7 +5,7 @@ ghost use Rattle.kob_delivery.specs.View.{IsReserved};
 ghost use Rattle.kob_names.specs.declared.kinds.Operation.TheVariants.{Write};
 ghost use Rattle.kob_names.specs.declared.kinds.ResourceKind.TheVariants.{Topic};
 
-use crate::making::{READY, copies, recorded, serve_all};
+use crate::fixtures::{READY, copies, recorded, serve_all};
 use crate::revoked::write_allowed;
 use kob_broker::Settings;
 use kob_delivery::{

@@ -1,6 +1,6 @@
 //! Sessions over a broker, also while its journal is handed out.
 
-use crate::making::{READY, asker, recorded, request_of};
+use crate::fixtures::{READY, asker, recorded, request_of};
 use kob_rights::Request;
 use kob_shared::{CallFault, RotateFault, RotatingBroker, Session, SharedBroker};
 use std::alloc::Global;

@@ -1,6 +1,6 @@
 //! Whether topics are shared as the law for several services asks.
 
-use crate::making::{
+use crate::fixtures::{
     CREATE, CREATE_ORDERS, ORDERS, READY, WRITE, WRITE_ORDERS, asker, default_route, outbox,
     recorded, serve, serve_all,
 };

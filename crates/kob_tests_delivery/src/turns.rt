@@ -3,15 +3,15 @@
 ghost use Rattle.std.specs.Prelude.{◌≡◌, []};
 
 use crate::elsewhere::{consumer, sends};
-use crate::making::{CREATE_ORDERS, READY, WRITE_ORDERS, asker, recorded};
+use crate::fixtures::{CREATE_ORDERS, READY, WRITE_ORDERS, asker, recorded};
 use crate::relays::service;
 use crate::sessions::place_of;
+use kob_connections::{IntoCalls, SessionLine};
 use kob_delivery::Premise;
-use kob_embedding::{
+use kob_endpoints::{
     ConsumerEnd, DeliveryFault, Part, RunningConsumer, RunningService, ServiceEnd,
     is_served_in_turn, reaches_in_turn,
 };
-use kob_lines::{IntoCalls, SessionLine};
 use kob_router::Line;
 use kob_shared::{PastJournal, RotatingBroker, Session};
 use std::alloc::Global;

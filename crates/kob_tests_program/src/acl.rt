@@ -1,6 +1,6 @@
 //! The administrators' command line: which word a fault names, and what is printed of bindings.
 
-use crate::spared::READY;
+use crate::no_allocation::READY;
 use kob_acl_cli::{CommandFault, commands_of, print_list, read_line};
 use kob_broker::{Broker, Settings};
 use kob_rights::{Body, Event, Reply};

@@ -1,6 +1,6 @@
 //! A long chunk list.
 
-use crate::spared::READY;
+use crate::no_allocation::READY;
 use kob_chunks::ChunkList;
 use std::process::Abort;
 

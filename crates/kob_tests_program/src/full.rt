@@ -1,8 +1,8 @@
 //! Scripts that fill a broker to its limits: each asks for one thing more than the limit, and then
 //! for one that is possible.
 
-use crate::spared::READY;
-use kob_text::run_text;
+use crate::no_allocation::READY;
+use kob_script_run::run_text;
 use std::alloc::Global;
 use std::process::Abort;
 

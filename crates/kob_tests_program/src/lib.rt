@@ -13,14 +13,14 @@ mod limits;
 #[cfg(test)]
 mod names;
 #[cfg(test)]
+mod no_allocation;
+#[cfg(test)]
+mod no_allocation_parts;
+#[cfg(test)]
 mod producers;
 #[cfg(test)]
 mod resumed;
 #[cfg(test)]
 mod runs;
-#[cfg(test)]
-mod spared;
-#[cfg(test)]
-mod spared_parts;
 #[cfg(test)]
 mod tree;

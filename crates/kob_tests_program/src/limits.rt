@@ -1,7 +1,7 @@
 //! Groups and topics that are refused by a rule before anything is allocated. `.ci/refuse` runs
-//! them with every allocation refused from `spare` on.
+//! them with every allocation refused from `refuse_from_here` on.
 
-use crate::spared::{READY, spare};
+use crate::no_allocation::{READY, refuse_from_here};
 use kob_catalog::{Catalog, CreateFault};
 use kob_groups::{CommitFault, GROUP_LIMIT, Groups};
 use kob_names::{Text, TopicName};
@@ -27,7 +27,7 @@ fn a_group_too_many_is_refused(rt: HostRuntime) {
     let mut groups = Groups::new(alloc);
     fill(&rt, alloc, &mut groups);
     let name = Text::copied(alloc, LONG).expect(&rt, READY);
-    spare(alloc);
+    refuse_from_here(alloc);
     assert_eq!(rt;
         groups.commit(alloc, &name, &name, 0, 1),
         Err(CommitFault::TooMany)
@@ -56,7 +56,7 @@ fn broken_rules_are_told(rt: HostRuntime) {
     catalog.create(alloc, name, 1).expect(&rt, READY);
     let there = TopicName::parse(alloc, LONG).expect(&rt, READY);
     let other = TopicName::parse(alloc, "another-name-whose-copies-take-memory").expect(&rt, READY);
-    spare(alloc);
+    refuse_from_here(alloc);
     let (exists, bad) = (CreateFault::Exists, CreateFault::BadPartitions);
     is_refused(&rt, alloc, &mut catalog, there, 1, exists);
     is_refused(&rt, alloc, &mut catalog, other, 0, bad);

@@ -1,7 +1,7 @@
 //! Names: the first rule that a text breaks, and texts that are stored inline and in allocations of
 //! their own.
 
-use crate::spared::READY;
+use crate::no_allocation::READY;
 use kob_names::{PlainValue, Principal, PrincipalFault, Text, TopicName, TopicNameFault};
 use std::alloc::{AllocError, Global};
 use std::hash::{DefaultHasher, Hash, Hasher};

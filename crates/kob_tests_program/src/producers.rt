@@ -1,6 +1,6 @@
 //! Sequences of idempotent producers where they wrap, which no script reaches.
 
-use crate::spared::READY;
+use crate::no_allocation::READY;
 use kob_names::Idem;
 use kob_producers::{Judgement, ProducerTable, last_of, next_sequence};
 use std::process::Abort;

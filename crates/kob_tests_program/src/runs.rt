@@ -1,7 +1,7 @@
 //! Whole runs by readers and writers that read or write little, interrupt, and fail once.
 
-use crate::spared::READY;
-use kob_text::{Ended, RunFault, SCRIPT_LIMIT, run_text};
+use crate::no_allocation::READY;
+use kob_script_run::{Ended, RunFault, SCRIPT_LIMIT, run_text};
 use std::alloc::Global;
 use std::io;
 use std::io::{Error, ErrorKind, Read, Write};

@@ -1,7 +1,7 @@
 //! The prefix tree: nodes that are split at each byte, many serials, a key that is longer than any
 //! stack of calls is deep, and out of memory.
 
-use crate::spared::READY;
+use crate::no_allocation::READY;
 use kob_prefix_tree::{PatternKind, PrefixTree};
 use std::alloc::Global;
 use std::process::Abort;

@@ -1,5 +1,5 @@
 use Rattle.kob_pipeline.proofs.Words.{IfOk-weaker, InboxEnd, IsInboxLeft, enumerate_from, map, placed_intake, ◌≡◌}
-use Rattle.kob_lines.specs.Received.{received_state}
+use Rattle.kob_connections.specs.Received.{received_state}
 use Rattle.kob_pipeline.proofs.consumer_worker.leave.Goals as goal
 
 pub returns : goal.returns

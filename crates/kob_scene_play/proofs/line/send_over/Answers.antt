@@ -1,4 +1,4 @@
-use Rattle.kob_lines.proofs.Adding.{passes_to}
+use Rattle.kob_connections.proofs.Adding.{passes_to}
 use Rattle.kob_scene_play.proofs.Services.{ServesSent, journals_sent, same_broker}
 use Rattle.kob_scene_play.proofs.line.send_over.Goals as goal
 

@@ -1,5 +1,5 @@
-use Rattle.kob_lines.proofs.Adding.{journals, journals_each, passes_to}
-use Rattle.kob_lines.specs.Servers.{ServesRecorded}
+use Rattle.kob_connections.proofs.Adding.{journals, journals_each, passes_to}
+use Rattle.kob_connections.specs.Servers.{ServesRecorded}
 use Rattle.kob_scene_play.proofs.line.take_over.Goals as goal
 
 pub returns-clause-same_broker : goal.returns-clause-same_broker

@@ -1,5 +1,5 @@
 use Rattle.kob_pipeline.proofs.Words.{IsConsumerStep, Leads, Steps, with_desk, take, ◌≡◌}
-use Rattle.kob_lines.specs.Received.{received_state}
+use Rattle.kob_connections.specs.Received.{received_state}
 use Rattle.kob_pipeline.proofs.consuming.Consuming.run.Given as goal
 
 abbrev pub invariant-loop-step : goal.invariant-loop-step

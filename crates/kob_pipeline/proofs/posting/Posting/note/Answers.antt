@@ -1,5 +1,5 @@
 use Rattle.kob_pipeline.proofs.Words.{Err, Recorded, [], ap, inl, refl, ◌∷◌}
-use Rattle.kob_lines.specs.Relayed.{relayed_state}
+use Rattle.kob_connections.specs.Relayed.{relayed_state}
 use Rattle.kob_outbox.specs.Contents.{first_bad}
 use Rattle.kob_pipeline.proofs.PlanRows.{fits_unless}
 use Rattle.kob_pipeline.proofs.Worked.{leads_still, not_recorded}

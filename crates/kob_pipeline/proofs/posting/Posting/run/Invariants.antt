@@ -1,5 +1,5 @@
 use Rattle.kob_pipeline.proofs.Words.{IsServiceStep, Leads, Steps, dispatch_of, with_desk, take, ◌≡◌}
-use Rattle.kob_lines.specs.Relayed.{relayed_state}
+use Rattle.kob_connections.specs.Relayed.{relayed_state}
 use Rattle.kob_pipeline.proofs.posting.Posting.run.Given as goal
 
 abbrev pub invariant-loop-step : goal.invariant-loop-step

@@ -1,5 +1,5 @@
 use Rattle.kob_pipeline.proofs.Words.{Swept, [], ap, refl, ◌∷◌}
-use Rattle.kob_lines.specs.Relayed.{relayed_state}
+use Rattle.kob_connections.specs.Relayed.{relayed_state}
 use Rattle.kob_pipeline.proofs.Worked.{leads_still}
 use Rattle.kob_pipeline.proofs.posting.Posting.sweep.Goals as goal
 

@@ -1,5 +1,5 @@
 use Rattle.kob_scene_play.proofs.Words.{Consumer, IfOk, ap, refl, subst, sym, ◌∙◌, ◌≡◌}
-use Rattle.kob_lines.specs.Received.{Received}
+use Rattle.kob_connections.specs.Received.{Received}
 use Rattle.kob_scene_play.proofs.Ticking.{handled_ahead, taken_ahead}
 use Rattle.kob_scene_play.specs.Steps.{IsAheadTick}
 use Rattle.kob_scene_play.specs.Takings.{asked_event, inbox_by}

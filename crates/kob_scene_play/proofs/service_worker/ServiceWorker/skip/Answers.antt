@@ -1,5 +1,5 @@
 use Rattle.kob_scene_play.proofs.Words.{Service, ap, map, refl, subst, ◌∙◌}
-use Rattle.kob_lines.specs.Relayed.{Relayed, relayed_state}
+use Rattle.kob_connections.specs.Relayed.{Relayed, relayed_state}
 use Rattle.kob_router.specs.Run.{State}
 use Rattle.kob_scene_play.specs.Services.{Skips, past_first}
 use Rattle.kob_scene_play.proofs.service_worker.ServiceWorker.skip.Goals as goal

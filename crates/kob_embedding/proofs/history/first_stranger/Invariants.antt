@@ -1,5 +1,0 @@
-use Rattle.kob_embedding.proofs.Followings.{IsSeenTo}
-use Rattle.kob_embedding.proofs.history.first_stranger.Given as goal
-
-abbrev pub invariant-loop-journal : goal.invariant-loop-journal
-invariant-loop-journal l = IsSeenTo l.journals l.journal-index l.before l.seen

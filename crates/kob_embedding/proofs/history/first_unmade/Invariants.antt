@@ -1,9 +1,0 @@
-use Rattle.kob_embedding.proofs.Words.{take}
-use Rattle.kob_delivery.specs.View.{View}
-use Rattle.kob_embedding.specs.History.{AreMade, after_all}
-use Rattle.kob_embedding.specs.Seen.{Shows}
-use Rattle.kob_embedding.proofs.history.first_unmade.Given as goal
-
-abbrev pub invariant-loop-place : goal.invariant-loop-place
-invariant-loop-place l = (v : View) → Shows v l.fn.seen
-    → AreMade v (take l.place l.journal) × Shows (after_all v (take l.place l.journal)) l.seen

@@ -1,8 +1,0 @@
-use Rattle.kob_embedding.proofs.Words.{length, take, ◌<◌}
-use Rattle.kob_embedding.proofs.Servings.{LeadTo}
-use Rattle.kob_embedding.specs.Pairing.{left, told_by}
-use Rattle.kob_embedding.proofs.part.unserved_of.Given as goal
-
-abbrev pub invariant-loop-number : goal.invariant-loop-number
-invariant-loop-number l =
-    (0 < length l.places.items) × LeadTo (left l.own) (told_by l.own) (take l.number l.calls) l.places.items

@@ -1,7 +1,0 @@
-use Rattle.kob_embedding.proofs.Keepings.{with_a_commit}
-use Rattle.kob_embedding.proofs.seen_commits.commit.Goals as goal
-
-pub returns : goal.returns
-returns c group place =
-    with_a_commit _ group place c.args.commits.now.items c.take_off.new.commits.items c.push.new.self.items
-    c.take_off.ensures c.in_ok-push.ensures.items

@@ -1,5 +1,0 @@
-use Rattle.kob_embedding.proofs.Runs.{some_tick}
-use Rattle.kob_embedding.proofs.shared_service.SharedService.tick.Goals as goal
-
-pub returns : goal.returns
-returns g c = some_tick _ _ _ _ _ _ _ c.tick.result c.tick.ensures.ran c.tick.ensures.done

@@ -1,0 +1,43 @@
+//! The records that a reply returns, printed from the log.
+
+ghost use Rattle.std.specs.Prelude.{◌≡◌, ◌++◌, OnOk, flat_map};
+ghost use Rattle.std.specs.List.{enumerate_from};
+ghost use Rattle.kob_rights.specs.declared.reply.Body.TheVariants.{Records};
+ghost use Rattle.kob_rights.specs.declared.reply.Reply.TheVariants.{Done};
+ghost use Rattle.kob_script.specs.Printed.{record_item, reply_text};
+
+use kob_partition::LentRecords;
+use kob_script::push_record;
+use kob_words::push_number;
+use std::alloc::AllocError;
+
+/// Prints the number of a reply, the reply with these records and a line feed, as `print_reply`
+/// prints a reply that has copies of them.
+pub fn print_records(
+    out: &mut Vec<u8>,
+    number: u64,
+    records: &LentRecords<'_>,
+) -> Result<(), AllocError>
+    ensures { OnOk result (out.new.items ≡ out.old.items ++ reply_text number
+        (Done (Records (enumerate_from records.now.first records.now.records)))) }
+{
+    push_number(out, number)?;
+    out.extend_from_slice(b" ok ")?;
+    out.extend_from_slice(b"records")?;
+    push_records(out, records)?;
+    out.extend_from_slice(b"\n")?;
+    Ok(())
+}
+
+#[tactic(auto, using(crate::proofs::PrintedRecords::record_put))]
+fn push_records(out: &mut Vec<u8>, records: &LentRecords<'_>) -> Result<(), AllocError>
+    ensures { OnOk result (out.new.items ≡ out.old.items ++ flat_map record_item
+        (enumerate_from records.now.first records.now.records)) }
+{
+    let first = records.first();
+    for at in 0..records.len() {
+        let record = records.get(at).unwrap();
+        push_record(out, first + at as u64, record)?;
+    }
+    Ok(())
+}

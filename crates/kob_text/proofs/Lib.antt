@@ -1,8 +1,0 @@
-pub mod Ends
-pub mod InputLines
-pub mod Outputs
-pub mod Parts
-pub mod PrintedReplies
-pub mod ReadBytes
-pub mod RunTexts
-mod Words
