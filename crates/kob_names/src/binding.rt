@@ -1,6 +1,6 @@
 //! Bindings: drafts that break no rule.
 
-ghost use Rattle.std.specs.Prelude.{◌≡◌, ◌↔◌, IsTrue, None};
+ghost use Rattle.std.specs.Prelude.{◌≡◌, ◌↔◌, IfOk, IsTrue, None};
 ghost use Rattle.kob_names.specs.Binding.{covers, draft_fault, same_binding};
 ghost use Rattle.kob_names.specs.TextRules.{OkUnlessFault};
 
@@ -13,9 +13,12 @@ use std::marker::Model;
 
 /// Allows or denies a principal an operation from a host on what a pattern matches. In contracts a
 /// binding is its parts, which are those of a draft that breaks no rule.
+///
+/// The parts are in an allocation of their own, so that a binding moves as one pointer: a list of
+/// bindings moves many of them when one is removed.
 #[derive(Debug, Drop)]
 pub struct Binding {
-    draft: Draft,
+    draft: Box<Draft>,
 }
 
 impl Model for Binding {
@@ -25,9 +28,9 @@ impl Model for Binding {
 
     ghost Value = { Draft };
 
-    ghost view = { λ binding. binding.draft };
+    ghost view = { λ binding. binding.draft.value };
 
-    ghost invariant = { λ binding. draft_fault binding.draft ≡ None };
+    ghost invariant = { λ binding. draft_fault binding.draft.value ≡ None };
 }
 
 impl Binding {
@@ -40,8 +43,10 @@ impl Binding {
         if let Some(fault) = draft.fault() {
             return Err(fault);
         }
-        let draft = draft.copy(alloc).map_err(BindingFault::Memory)?;
-        Ok(Binding { draft })
+        match boxed(alloc, draft) {
+            Ok(draft) => Ok(Binding { draft }),
+            Err(error) => Err(BindingFault::Memory(error)),
+        }
     }
 
     /// The parts of the binding, which break no rule. Does not allocate.
@@ -73,11 +78,19 @@ impl Binding {
 
 impl PlainValue for Binding {
     fn copy(&self, alloc: Global) -> Result<Self, AllocError> {
-        let draft = self.draft.copy(alloc)?;
+        let draft = boxed(alloc, &self.draft)?;
         Ok(Binding { draft })
     }
 
     fn same(&self, other: &Self) -> bool {
         self.equals(other)
     }
+}
+
+/// A copy of a draft, in an allocation of its own.
+fn boxed(alloc: Global, draft: &Draft) -> Result<Box<Draft>, AllocError>
+    ensures { IfOk result (λ made. made.value ≡ draft.now) }
+{
+    let copy = draft.copy(alloc)?;
+    Ok(Box::new(alloc, copy)?)
 }
