@@ -1,6 +1,10 @@
 -- The least serial that passes, among serials that lead to every entry that passes, is that of the first entry that
 -- passes.
 use Rattle.kob_authorizer.proofs.Words.{All, All-head, All-nil, All-tail, All-weaker, AreRising, Binding, Bool, Contains, List, None, Some, [], and_from, ap, append-nil, arith, cond, eq-eqb, false, filter, filter-append, filter_passes, first_serial, fold, fold-append, le-min, least_passing, lesser, min, min-le_left, min-le_right, nat_tests, passes_at, reduce, refl, subst, true, ℕ, ◌&&◌, ◌++◌, ◌==◌, ◌∙◌, ◌∷◌, ◌≡◌, ◌≤◌, Hits, Question, append_assoc, least_hits, lesser_hits, no_hits, sym, then_some, common_steps}
+use Rattle.kob_authorizer.specs.Decide.{is_hit}
+use Rattle.kob_authorizer.specs.Index.{entry_at}
+use Rattle.kob_names.specs.declared.kinds.Permission.{Permission}
+use Rattle.kob_names.specs.declared.kinds.Permission.TheVariants.{Allow, Deny}
 use Rattle.kob_authorizer.proofs.Entries.{any_passes, kept_by_filter, passing, first_is, least_is, none_is, passes_none, passes_some}
 
 fold_at_most : (x : ℕ) (xs : List ℕ) → fold min x xs ≤ x
@@ -103,6 +107,25 @@ module _ (entries : List (ℕ × Binding)) (question : Question) where
   -- serial after serial the least hits come together
   pub one_by_one : (xs : List ℕ) → fold with_serial no_hits xs ≡ least_hits entries question xs
   one_by_one xs = hits_from [] xs
+
+-- what a serial alone hits with, if its entry is found
+pub hit_of : (question : Question) (entries : List (ℕ × Binding)) (serial : ℕ) (entry : ℕ × Binding) → AreRising entries
+    → Some entry ≡ entry_at entries serial
+    → record { deny = then_some (is_hit Deny question entry) serial; allow = then_some (is_hit Allow question entry) serial }
+    ≡ least_hits entries question (serial ∷ [])
+hit_of question entries serial entry rising found = λ i. record { deny = of Deny i; allow = of Allow i }
+  where
+    of : (permission : Permission) → then_some (is_hit permission question entry) serial
+        ≡ least_passing (is_hit permission question) entries (serial ∷ [])
+    of permission = passes_alone (is_hit permission question) entries serial (is_hit permission question entry)
+        (passes_some (is_hit permission question) entries serial entry rising found)
+
+-- a binding is a hit of its own permission alone
+pub no_deny : (question : Question) (entry : ℕ × Binding) → entry.1.permission ≡ Allow → is_hit Deny question entry ≡ false
+no_deny question entry is = grind (arith, nat_tests)
+
+pub no_allow : (question : Question) (entry : ℕ × Binding) → entry.1.permission ≡ Deny → is_hit Allow question entry ≡ false
+no_allow question entry is = grind (arith, nat_tests)
 
 pub ruleset one_hit = (common_steps, passes_alone, passes_none, passes_some)
 

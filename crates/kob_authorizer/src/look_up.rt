@@ -107,9 +107,15 @@ fn hit_with(entries: &[(u64, Binding)], serial: u64, question: &Question) -> Hit
 {
     match entry_of(entries, serial) {
         None => Hits::none(),
-        Some(entry) => Hits {
-            deny: question.is_hit(Permission::Deny, entry).then_some(serial),
-            allow: question.is_hit(Permission::Allow, entry).then_some(serial),
+        Some(entry) => match entry.1.parts().permission {
+            Permission::Deny => Hits {
+                deny: question.is_hit(Permission::Deny, entry).then_some(serial),
+                allow: None,
+            },
+            Permission::Allow => Hits {
+                deny: None,
+                allow: question.is_hit(Permission::Allow, entry).then_some(serial),
+            },
         },
     }
 }
