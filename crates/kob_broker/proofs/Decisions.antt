@@ -6,7 +6,10 @@ use Rattle.std.specs.Prelude.{Err, Ok, OnErr, OnOk, ◌≢◌}
 use Rattle.kob_authorizer.proofs.Creating.{fault_by_count}
 use Rattle.kob_authorizer.specs.declared.fault.CreateFault.TheVariants.{SerialsSpent}
 use Rattle.kob_broker.specs.State.{create_fault}
-use Rattle.kob_broker.specs.Step.{NeedsMemory, event_left, event_left_by, request_left}
+use Rattle.kob_broker.specs.Step.{NeedsMemory, event_left, event_left_by, request_left, step}
+use Rattle.kob_broker.specs.Denial.{Done, describes_topic}
+use Rattle.kob_catalog.specs.Topics.{listed_where}
+use Rattle.kob_rights.specs.declared.reply.Body.TheVariants.{Topics}
 use Rattle.kob_broker.proofs.Words.{Binding, Reply, Retained, State, ap, denial_of, ◌∙◌}
 
 pub first_some : (xs ys : List (Bool × Reason)) (reason : Reason) → first_reason xs ≡ Some reason
@@ -69,6 +72,12 @@ pub metadata_for : {E : Type 0} (broker : Broker) (topic : Option (List ℕ)) (a
     → IfOk result (MakesFor (metadata_request topic) broker)
     → IfOk result (Makes (effect retained_meaning (state_of broker) event (requests.Metadata asked)) broker)
 metadata_for broker topic asked event result is makes = grind (arith, nat_tests)
+
+-- a METADATA of all topics tells those that the principal may describe
+pub topics_told : (s : State Retained) (event : Event) → event.request ≡ metadata_request None
+    → step retained_meaning s event
+    ≡ record { reply = Done (Topics (listed_where (describes_topic s.access event) s.topics)); state = s }
+topics_told s event is = grind (arith, nat_tests)
 
 -- what a request may need memory for, the event that has it may
 pub needed_for : {T : Type 0} (s : State Retained) (request : Request) (event : Event) (result : Result T AllocError)

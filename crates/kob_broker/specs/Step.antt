@@ -4,7 +4,7 @@ use Rattle.kob_groups.specs.Kept.{groups_of}
 use Rattle.kob_broker.specs.Batches.{produce_left}
 use Rattle.kob_broker.specs.Records.{producer_limit, code_of, delete_records_after, delete_records_reasons, fetch_reasons, fetched_at, init_producer_reasons, judged_at, offset_at, offset_told, produce_after, produce_reasons, start_after}
 use Rattle.kob_broker.specs.State.{Event, Reply, Request, State, has_partition, topic_map, with_partition, Meaning, Reason, Settings, Topic, open_state, partition_of, state_map, with_bindings, CanCreate, with_creation, CanDelete, without_taken, bindings_taken, CanAdd, catalog_log, kept_of, topics_of, CanAppend, Retained, retained_meaning, Plain, plain_meaning, retained_of, AddBindings, AddTopic, AdvanceStart, Append, CommitOffset, GiveProducerId, RemoveBindings, RemoveGroup, RemoveTopic, Write, partition_named, write_of}
-use Rattle.kob_broker.specs.Topics.{delete_topics_after, create_topics_after, create_topics_reasons, delete_topics_reasons, metadata_of, metadata_reasons}
+use Rattle.kob_broker.specs.Topics.{delete_topics_after, create_topics_after, create_topics_reasons, delete_topics_reasons, metadata_of, metadata_reasons, metadata_request}
 pub use Rattle.kob_broker.specs.declared.broker.Broker.{Broker}
 use Rattle.kob_broker.specs.declared.prepared.Change.{Change}
 use Rattle.kob_broker.specs.declared.prepared.Prepared.{Prepared}
@@ -184,6 +184,12 @@ IsLent s event (Some lent) = step retained_meaning s event ≡ lent_outcome s le
 IsLent s event None =
     (fetch : asked.Fetch) → event.request ≡ Fetch fetch → (body : Body)
     → (step retained_meaning s event).reply ≢ Done body
+
+-- the topics that a METADATA of all tells, and nothing for any other event
+abbrev pub AreLentTopics : State Retained → Event → Option (List (List ℕ × ℕ)) → Type 0
+AreLentTopics s event (Some topics) =
+    step retained_meaning s event ≡ record { reply = Done (bodies.Topics topics); state = s }
+AreLentTopics s event None = event.request ≢ metadata_request None
 
 -- what a fresh broker keeps of no batches is what a fresh broker over all accepted batches has
 abbrev pub OpensAlike : Settings → Type 0

@@ -14,7 +14,7 @@ use kob_rights::Event;
 
 /// Decides by the bindings in force which topics the event's principal may describe.
 #[derive(Drop)]
-pub(crate) struct TopicDescriber<'a> {
+pub struct TopicDescriber<'a> {
     authorizer: &'a Authorizer,
     event: &'a Event,
     /// Whether the principal is a super user, who may describe them all.

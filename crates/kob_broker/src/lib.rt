@@ -19,6 +19,7 @@ mod stopped;
 mod verdicts;
 
 pub use broker::Broker;
+pub use describing::TopicDescriber;
 pub use kob_names::Settings;
 pub use laws::{
     denials_depend_on_bindings_alone, denials_have_the_codes_of_their_requests, each_reply_is_just,

@@ -1,7 +1,7 @@
 //! What is done about topics.
 
 ghost use Rattle.std.specs.Prelude.{◌≡◌, IfOk, None, OnErr, Some};
-ghost use Rattle.kob_broker.specs.Step.{MakesFor, NeedsMemory, state_of, Makes, effect};
+ghost use Rattle.kob_broker.specs.Step.{AreLentTopics, MakesFor, NeedsMemory, state_of, Makes, effect};
 ghost use Rattle.kob_broker.specs.Topics.{metadata_request};
 ghost use Rattle.kob_partition.specs.Retained.{retained_meaning};
 ghost use Rattle.kob_rights.specs.declared.request.Request.TheVariants as requests;
@@ -9,9 +9,9 @@ ghost use Rattle.kob_rights.specs.declared.request.Request.TheVariants as reques
 use crate::broker::Broker;
 use crate::describing::TopicDescriber;
 use crate::prepared::{Change, Prepared};
-use kob_catalog::CreateFault;
+use kob_catalog::{CreateFault, GrantedTopics};
 use kob_names::{Items, PlainValue, Text, TopicNameFault};
-use kob_rights::{Body, CreateTopics, DeleteTopics, Event, Metadata, Reason};
+use kob_rights::{Body, CreateTopics, DeleteTopics, Event, Metadata, Reason, Request};
 use std::alloc::{AllocError, Global};
 
 impl Broker {
@@ -82,8 +82,26 @@ impl Broker {
             (metadata_request None)) self.now) }
     {
         let describer = TopicDescriber::new(&self.authorizer, event);
-        let topics = self.catalog.describable(alloc, &describer)?;
+        let topics = self.catalog.describable(alloc, describer)?;
         Ok(Prepared::done(Body::Topics(topics), Change::Unchanged))
+    }
+
+    /// The topics of the reply to a METADATA of all topics, lent one by one, where `serve` copies their
+    /// names. Nothing is lent for any other request. Does not allocate.
+    #[tactic(auto, using(crate::proofs::Decisions::topics_told))]
+    pub fn lend_topics<'a>(
+        &'a self,
+        event: &'a Event,
+    ) -> Option<GrantedTopics<'a, TopicDescriber<'a>>>
+        ensures { AreLentTopics (state_of self.now) event.now result }
+    {
+        match &event.request {
+            Request::Metadata(Metadata { topic: None }) => {
+                let describer = TopicDescriber::new(&self.authorizer, event);
+                Some(self.catalog.granted(describer))
+            }
+            _ => None,
+        }
     }
 
     /// One topic with its number of partitions.

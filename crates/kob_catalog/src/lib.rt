@@ -4,6 +4,7 @@
 mod catalog;
 mod decider;
 mod fault;
+mod granted;
 mod limits;
 mod prepared;
 mod topic;
@@ -11,5 +12,6 @@ mod topic;
 pub use catalog::Catalog;
 pub use decider::Decider;
 pub use fault::{CreateFault, PartitionFault, UnknownTopic};
+pub use granted::GrantedTopics;
 pub use limits::{PARTITION_LIMIT, TOPIC_LIMIT};
 pub use prepared::PreparedTopic;

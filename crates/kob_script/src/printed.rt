@@ -198,9 +198,7 @@ impl Item for (Text, u64) {
     ghost text = { topic_item };
 
     fn push(&self, out: &mut Vec<u8>) -> Result<(), AllocError> {
-        self.0.push(out)?;
-        out.push(b':')?;
-        push_number(out, self.1)
+        push_topic(out, &self.0, self.1)
     }
 }
 
@@ -210,6 +208,16 @@ impl Item for Text {
     fn push(&self, out: &mut Vec<u8>) -> Result<(), AllocError> {
         push_spaced(out, self.as_str().as_bytes())
     }
+}
+
+/// Prints a space, the name of a topic, a colon and its number of partitions.
+pub fn push_topic(out: &mut Vec<u8>, name: &Text, partitions: u64) -> Result<(), AllocError>
+    ensures text { OnOk result (out.new.items ≡ out.old.items ++ topic_item (name.now, partitions)) }
+    ensures kept { OnErr result (IsKept out.old.items out.new.items) }
+{
+    push_spaced(out, name.as_str().as_bytes())?;
+    out.push(b':')?;
+    push_number(out, partitions)
 }
 
 /// Prints a space, the offset of a record, its key if it has one, and its value:

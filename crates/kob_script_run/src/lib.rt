@@ -3,10 +3,10 @@
 
 mod fault;
 mod input;
+mod lent;
 mod limits;
 mod output;
 mod pieces;
-mod records;
 mod replies;
 mod run;
 mod source;

@@ -13,10 +13,10 @@ ghost use Rattle.kob_script_run.specs.Output.{IsWritten, WritesPartOfRun, Writes
 ghost use Rattle.kob_script_run.specs.Output.{replies_to};
 
 use crate::fault::OutputFault;
+use crate::lent::{print_records, print_topics};
 use crate::limits::PIECE_LIMIT;
 use crate::output::Ended;
 use crate::pieces::{put, write_stopped};
-use crate::records::print_records;
 use crate::transfer::write_all;
 use crate::writing::WriteFailed;
 use kob_broker::{Broker, OpenFault};
@@ -40,7 +40,7 @@ fn broker_by(alloc: Global, settings: Settings) -> Result<Broker, AllocError>
 }
 
 // Serves an event, and prints its reply after its number in place of what `out` held. The records of
-// a FETCH are printed from the log, and not copied before.
+// a FETCH are printed from the log, and the names of all topics from the catalog; none is copied before.
 fn print_reply_to(
     alloc: Global,
     broker: &mut Broker,
@@ -56,6 +56,9 @@ fn print_reply_to(
     out.clear();
     if let Some(records) = broker.lend_records(alloc, event)? {
         return print_records(out, number, &records);
+    }
+    if let Some(topics) = broker.lend_topics(event) {
+        return print_topics(out, number, topics);
     }
     let reply = broker.serve_taking(alloc, event)?;
     print_reply(out, number, &reply)

@@ -1,5 +1,5 @@
 use Rattle.kob_script_run.proofs.PrintedRecords.{reply_put}
-use Rattle.kob_script_run.proofs.records.print_records.Goals as goal
+use Rattle.kob_script_run.proofs.lent.print_records.Goals as goal
 
 pub returns : goal.returns
 returns c =

@@ -1,7 +1,7 @@
 use Rattle.std.proofs.Common.{Some, arith, rules, slice_get, ◌≡◌}
 use Rattle.std.proofs.lemmas.Grind.{common_steps}
 use Rattle.kob_script_run.proofs.PrintedRecords.{record_put}
-use Rattle.kob_script_run.proofs.records.push_records.Goals as goal
+use Rattle.kob_script_run.proofs.lent.push_records.Goals as goal
 
 pub loop-at-preserved : goal.loop-at-preserved
 loop-at-preserved c =

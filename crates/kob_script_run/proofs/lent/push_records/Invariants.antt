@@ -1,7 +1,7 @@
 use Rattle.std.specs.Prelude.{◌≡◌, ◌++◌, flat_map, take}
 use Rattle.std.specs.List.{enumerate_from}
 use Rattle.kob_script.specs.Printed.{record_item}
-use Rattle.kob_script_run.proofs.records.push_records.Given as goal
+use Rattle.kob_script_run.proofs.lent.push_records.Given as goal
 
 abbrev pub invariant-loop-at : goal.invariant-loop-at
 invariant-loop-at l =
