@@ -83,25 +83,6 @@ fn push_words(
     print_log(alloc, out, judge, text)
 }
 
-fn print_in(
-    alloc: Global,
-    form: AnswerForm,
-    out: &mut Vec<u8>,
-    judge: &Judge,
-    number: u64,
-    file: &str,
-    text: &[u8],
-) -> Result<bool, AllocError>
-    ensures printed { OnOk result (out.new.items
-        ≡ out.old.items ++ log_in form judge.now number file.now text.now) }
-    ensures differs { IfOk result (λ found. found ≡ differs judge.now text.now) }
-{
-    match form {
-        AnswerForm::Json => print_json_log(alloc, out, judge, number, file, text),
-        AnswerForm::Words | AnswerForm::Csv => push_words(alloc, out, judge, number, file, text),
-    }
-}
-
 /// The answer about the text of a broker's log, which ends with `Differs` if an access is decided
 /// otherwise than is recorded.
 fn push_log(
@@ -118,6 +99,9 @@ fn push_log(
     ensures ending { IfOk result (λ ending. ending
         ≡ ending_of_answers (differs judge.now text.now)) }
 {
-    let differs = print_in(alloc, form, out, judge, number, file, text)?;
+    let differs = match form {
+        AnswerForm::Json => print_json_log(alloc, out, judge, number, file, text)?,
+        AnswerForm::Words | AnswerForm::Csv => push_words(alloc, out, judge, number, file, text)?,
+    };
     Ok(ending_of_answers(differs))
 }

@@ -6,9 +6,8 @@ ghost use Rattle.kob.specs.Answers.{answers_in, changes_in, ending_in, ending_of
 ghost use Rattle.kob.specs.Answers.{heading_in, lead_text, name_text, names_in, names_text};
 ghost use Rattle.kob.specs.Answers.{omissions_in};
 ghost use Rattle.kob.specs.Ending.{ending_of_answers, ending_of_changes};
-ghost use Rattle.kob_policy_rows.specs.Changes.{change_rows, fault_row};
-ghost use Rattle.kob_policy_rows.specs.Columns.{change_columns, fault_columns};
-ghost use Rattle.kob_policy_rows.specs.Csv.{table_text};
+ghost use Rattle.kob_policy_rows.specs.Changes.{fault_row};
+ghost use Rattle.kob_policy_rows.specs.Columns.{fault_columns};
 ghost use Rattle.kob_policy_rows.specs.Json.{lines_text};
 ghost use Rattle.kob_policy_text.specs.Access.{any_fails};
 ghost use Rattle.kob_policy_text.specs.Moved.{moved_text};
@@ -173,26 +172,13 @@ pub(crate) fn push_answers(
     ensures ending { IfOk result (λ ending. ending
         ≡ ending_of_answers (any_fails judge.now questions.now.asked)) }
 {
-    print_in(alloc, form, out, judge, questions)?;
-    Ok(ending_of_answers(any_fails(judge, questions.asked())))
-}
-
-fn print_in(
-    alloc: Global,
-    form: AnswerForm,
-    out: &mut Vec<u8>,
-    judge: &Judge,
-    questions: &Questions,
-) -> Result<(), AllocError>
-    ensures { OnOk result (out.new.items ≡ out.old.items
-        ++ answers_in form judge.now questions.now.topics questions.now.asked) }
-{
     let (topics, asked) = (questions.topics(), questions.asked());
     match form {
-        AnswerForm::Words => print_answers(alloc, out, judge, topics, asked),
-        AnswerForm::Json => print_json_answers(alloc, out, judge, topics, asked),
-        AnswerForm::Csv => print_csv_answers(alloc, out, judge, topics, asked),
+        AnswerForm::Words => print_answers(alloc, out, judge, topics, asked)?,
+        AnswerForm::Json => print_json_answers(alloc, out, judge, topics, asked)?,
+        AnswerForm::Csv => print_csv_answers(alloc, out, judge, topics, asked)?,
     }
+    Ok(ending_of_answers(any_fails(judge, asked)))
 }
 
 /// The commands that lead from one list to the other; nothing is asked beside them. No command does
@@ -239,8 +225,16 @@ pub(crate) fn push_changes(
 {
     match form {
         AnswerForm::Words => push_words(alloc, out, before, after),
-        AnswerForm::Json => push_objects(alloc, out, before, after),
-        AnswerForm::Csv => push_table(alloc, out, before, after),
+        AnswerForm::Json => {
+            let rows = change_rows(alloc, before, after)?;
+            print_json(alloc, out, change_columns(), &rows)?;
+            Ok(ending_of(&rows))
+        }
+        AnswerForm::Csv => {
+            let rows = change_rows(alloc, before, after)?;
+            print_csv(out, change_columns(), &rows)?;
+            Ok(ending_of(&rows))
+        }
     }
 }
 
@@ -287,36 +281,4 @@ fn ending_of(rows: &[Items<Cell>]) -> Ending
     } else {
         Ending::Differs
     }
-}
-
-fn push_objects(
-    alloc: Global,
-    out: &mut Vec<u8>,
-    before: &Judge,
-    after: &Judge,
-) -> Result<Ending, AllocError>
-    ensures printed { OnOk result (out.new.items
-        ≡ out.old.items ++ lines_text change_columns (change_rows before.now after.now)) }
-    ensures ending { IfOk result (λ ending. ending
-        ≡ ending_of_changes (change_rows before.now after.now)) }
-{
-    let rows = change_rows(alloc, before, after)?;
-    print_json(alloc, out, change_columns(), &rows)?;
-    Ok(ending_of(&rows))
-}
-
-fn push_table(
-    alloc: Global,
-    out: &mut Vec<u8>,
-    before: &Judge,
-    after: &Judge,
-) -> Result<Ending, AllocError>
-    ensures printed { OnOk result (out.new.items
-        ≡ out.old.items ++ table_text change_columns (change_rows before.now after.now)) }
-    ensures ending { IfOk result (λ ending. ending
-        ≡ ending_of_changes (change_rows before.now after.now)) }
-{
-    let rows = change_rows(alloc, before, after)?;
-    print_csv(out, change_columns(), &rows)?;
-    Ok(ending_of(&rows))
 }
