@@ -2,6 +2,7 @@ pub mod Blocks
 pub mod Ends
 pub mod Firsts
 pub mod HeldLaws
+pub mod InPlaceLemmas
 pub mod PartsLemmas
 pub mod WalkLemmas
 pub mod WayLemmas

@@ -50,7 +50,7 @@ abbrev held_at : Contents → List ℕ → Held
 held_at c key = held_in key c
 
 -- some key of a place that is not bare holds something
-some_key : (l p : List ℕ) (t : Trie) → IsNeat t → ((l, p), t) ≢ bare
+pub some_key : (l p : List ℕ) (t : Trie) → IsNeat t → ((l, p), t) ≢ bare
     → (key : List ℕ) × (held_in key ((l, p), t) ≢ nothing)
 some_key (x ∷ l) p t neat some = ([], λ e. let e' : x ∷ l ≡ [] = ap (λ h. h.0) e in cc)
 some_key [] (x ∷ p) t neat some = ([], λ e. let e' : x ∷ p ≡ [] = ap (λ h. h.1) e in cc)

@@ -263,7 +263,7 @@ child_put byte c t some = grind (arith, bare_when)
 pub kept_some : (tail : List ℕ) (c : Contents) → c ≢ bare → kept_behind tail c ≡ led_by tail c
 kept_some tail c some = grind (arith, bare_when)
 
-kept_here : (c : Contents) → kept_behind [] c ≡ c
+pub kept_here : (c : Contents) → kept_behind [] c ≡ c
 kept_here c = grind (arith, bare_when)
 
 pub neat_inside : (tail : List ℕ) (c : Contents) → IsNeat (led_by tail c).1 → IsNeat c.1
@@ -281,7 +281,7 @@ one_behind x tail d = grind (arith, child_put, tail_of_bare)
 
 module _ (f : Held → Held) where
   -- what is done below a byte, whose node was taken out and comes back in front
-  below_byte : (byte : ℕ) (rest : List ℕ) (h : Held) (t t' : Trie) (c d : Contents) → IsNeat t
+  pub below_byte : (byte : ℕ) (rest : List ℕ) (h : Held) (t t' : Trie) (c d : Contents) → IsNeat t
       → value_at byte (siblings t) ≡ Some c → siblings t' ≡ without byte (siblings t)
       → ChangedAt rest f c d → ChangedAt (byte ∷ rest) f (h, t) (h, with_child byte d t')
   below_byte byte rest h t t' c d neat there is done =

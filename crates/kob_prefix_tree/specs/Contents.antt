@@ -4,10 +4,12 @@ use Rattle.kob_prefix_tree.specs.declared.node.Node.{Node}
 use Rattle.kob_prefix_tree.specs.declared.link.Link.{Link}
 use Rattle.kob_prefix_tree.specs.declared.siblings.Item.{Item}
 use Rattle.kob_prefix_tree.specs.declared.place.Place.{Place}
-use Rattle.kob_prefix_tree.specs.Tree.{Tree, leaf, node, Trie, void, sibling, Contents, led_by, bare, held_in, siblings, value_at, IsNeat, ChangedAt}
+use Rattle.kob_prefix_tree.specs.Tree.{Tree, leaf, node, Trie, void, sibling, Contents, led_by, bare, held_in, siblings, value_at, without, IsNeat, ChangedAt}
 use Rattle.std.specs.Prelude.{◌≡◌, ◌≤◌, ℕ, Bool, true, false, ◌&&◌, if◌then◌else◌, List, [], ◌∷◌, None, drop, length, Option, Some, ◌++◌, map}
 use Rattle.kob_prefix_tree.specs.Held.{Held, is_nothing, nothing, serials_of, prefixes}
 use Rattle.kob_prefix_tree.specs.declared.part.Part.{Part}
+use Rattle.kob_prefix_tree.specs.Nodes.{Leads}
+use Rattle.kob_prefix_tree.specs.Path.{Parts}
 use Rattle.std.specs.Borrow.{Bor}
 use Rattle.kob_prefix_tree.specs.declared.cells.Serial.{Serial}
 use Rattle.kob_prefix_tree.specs.declared.serials.Unread.{Unread}
@@ -31,9 +33,12 @@ end_of b = ((b.literal, b.prefixed), trie_of b.below.nodes)
 abbrev pub contents : Branch → Contents
 contents b = led_by b.tail (end_of b)
 
--- what stands behind a node's first byte
+-- what stands behind the bytes of a node, and behind its first byte
+abbrev pub node_end : Node Item (Link Item) (Link Item) → Contents
+node_end n = ((n.item.literal, n.item.prefixed), trie_of n.child.nodes)
+
 abbrev pub node_contents : Node Item (Link Item) (Link Item) → Contents
-node_contents n = led_by n.item.tail ((n.item.literal, n.item.prefixed), trie_of n.child.nodes)
+node_contents n = led_by n.item.tail (node_end n)
 
 -- the first byte of the first of some nodes, and what stands behind it
 abbrev pub first_byte : Tree Item → ℕ
@@ -44,6 +49,32 @@ abbrev pub first_contents : Tree Item → Contents
 first_contents leaf = bare
 first_contents (node item heap c below n after) =
     led_by item.tail ((item.literal, item.prefixed), trie_of below)
+
+-- the siblings after the first of some nodes
+abbrev pub others_of : Tree Item → Trie
+others_of leaf = void
+others_of (node item heap c below n after) = trie_of after
+
+-- the node that begins with the byte was moved to the front of its siblings
+pub record IsInFront (byte : ℕ) (old new : Tree Item) : Type 0 where
+  pub leads : Leads new
+  pub byte_is : first_byte new ≡ byte
+  pub there : value_at byte (siblings (trie_of old)) ≡ Some (first_contents new)
+  pub others : siblings (others_of new) ≡ without byte (siblings (trie_of old))
+
+-- f was done at this key behind the first byte of the first node, and its siblings stay
+pub record ChangedInFront (key : List ℕ) (f : Held → Held) (old new : Tree Item) : Type 0 where
+  pub leads : Leads new
+  pub byte_is : first_byte new ≡ first_byte old
+  pub others : others_of new ≡ others_of old
+  pub done : ChangedAt key f (first_contents old) (first_contents new)
+
+-- behind the bytes of a node the key goes on to a child, which is now in front
+pub record GoesOn (key rest : List ℕ) (old new : Node Item (Link Item) (Link Item)) : Type 0 where
+  pub key_is : key ≡ old.item.tail ++ first_byte new.child.nodes ∷ rest
+  pub front : IsInFront (first_byte new.child.nodes) old.child.nodes new.child.nodes
+  pub item : new.item ≡ old.item
+  pub next : new.next ≡ old.next
 
 -- of a place that is read
 abbrev pub seen : Place → Contents
@@ -94,6 +125,20 @@ pub record EndsAt (count : ℕ) (rest : List ℕ) (here : Branch) : Type 0 where
   pub neat : IsNeat (contents here).1
   pub within : count ≤ length here.tail
   pub nowhere : LeadsNowhere rest (led_by (drop count here.tail) (end_of here))
+
+-- f was done at this key behind the first byte of the first node, which is gone if nothing is left there
+pub record LeftInFront (key : List ℕ) (f : Held → Held) (old new : Tree Item) : Type 0 where
+  pub left : Contents
+  pub done : ChangedAt key f (first_contents old) left
+  pub nodes : trie_of new ≡ with_child (first_byte old) left (others_of old)
+
+-- so many bytes of a node begin the key, and behind them no byte of the tree leads on along the rest
+pub record StaysAt (count : ℕ) (key rest : List ℕ) (old new : Node Item (Link Item) (Link Item)) : Type 0 where
+  pub parts : Parts old.item.tail key count rest
+  pub nowhere : count ≡ length old.item.tail → LeadsNowhere rest (node_end old)
+  pub item : new.item ≡ old.item
+  pub end : node_end new ≡ node_end old
+  pub next : new.next ≡ old.next
 
 -- What a part of the tree holds.
 

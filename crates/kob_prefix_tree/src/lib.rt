@@ -3,6 +3,7 @@
 
 mod branch;
 mod cells;
+mod in_place;
 mod kind;
 mod link;
 mod node;

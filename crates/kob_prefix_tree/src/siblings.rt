@@ -1,9 +1,9 @@
 //! The child nodes of one place of the tree: siblings, each with another first byte. The one that
 //! was added last is the first.
-ghost use Rattle.std.specs.Prelude.{◌≡◌, Some, None, MatchOption};
+ghost use Rattle.std.specs.Prelude.{◌≡◌, Some, None, false, IsTrue, MatchOption};
 ghost use Rattle.kob_prefix_tree.specs.Tree.{sibling, value_at, without, siblings};
 ghost use Rattle.kob_prefix_tree.specs.Contents.{contents, node_contents, trie_of};
-ghost use Rattle.kob_prefix_tree.specs.Contents.{first_byte, first_contents};
+ghost use Rattle.kob_prefix_tree.specs.Contents.{first_byte, first_contents, IsInFront};
 ghost use Rattle.kob_prefix_tree.specs.Nodes.{Leads};
 
 use crate::branch::Branch;
@@ -90,6 +90,24 @@ impl Link<Item> {
         other.get_mut().next = next;
         let emptied = replace(self, other);
         emptied.give_up();
+    }
+
+    /// Moves the node that begins with this byte to the front, if there is one.
+    pub(crate) fn bring_front(&mut self, byte: u8) -> bool
+        ensures there { IsTrue result → IsInFront byte self.old.nodes self.new.nodes }
+        ensures none { result ≡ false → (trie_of self.new.nodes ≡ trie_of self.old.nodes)
+            × (value_at byte (siblings (trie_of self.old.nodes)) ≡ None) }
+    {
+        if !self.is_null() && self.get().item.byte == byte {
+            return true;
+        }
+        match self.take_out(byte) {
+            None => false,
+            Some(node) => {
+                self.put_node(node);
+                true
+            }
+        }
     }
 
     /// Removes the node that begins with this byte, with all nodes below, and returns it as a list

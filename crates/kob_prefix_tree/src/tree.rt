@@ -24,9 +24,10 @@ use std::marker::Model;
 /// without serials and children is freed. A node is split if a key ends or branches off within its
 /// bytes, and no removal joins the parts again.
 ///
-/// A key may be of any length. An addition or a removal recurses at each node at most once per byte
-/// and once per sibling. It returns from there before it goes to the next node. All else is loops,
-/// also the freeing of a tree. A tree may be moved to another thread.
+/// A key may be of any length. An addition or a removal goes down the first 129 nodes on the way by
+/// calls, and the others by a loop. At each node it recurses at most once per byte and once per
+/// sibling, and returns from there before it goes to the next node. All else is loops, also the
+/// freeing of a tree. A tree may be moved to another thread.
 #[derive(Drop)]
 pub struct PrefixTree {
     root: Branch,

@@ -1,12 +1,12 @@
-//! The way from the root down to one place and up again, kept in the blocks of its own nodes. It
-//! needs no allocation and no stack, however long the key is.
+//! The way from a place down to another and up again, kept in the blocks of its own nodes. It needs
+//! no allocation and no stack, however long the key is. `in_place.rt` begins it deep in the tree.
 ghost use Rattle.std.specs.Prelude.{◌≡◌, ◌↔◌, [], ◌∷◌, ◌++◌, ◌+◌, ℕ, List, false, length, take};
 ghost use Rattle.std.specs.Prelude.{IsTrue, None, OnErr, OnOk};
 ghost use Rattle.kob_prefix_tree.specs.Nodes.{Leads};
 ghost use Rattle.kob_prefix_tree.specs.Held.{has_serials, with_serial, without_serials};
 ghost use Rattle.kob_prefix_tree.specs.Tree.{Contents, bare};
 ghost use Rattle.kob_prefix_tree.specs.Tree.{count, held_in, IsNeat, siblings, value_at, ChangedAt};
-ghost use Rattle.kob_prefix_tree.specs.Contents.{contents, end_of, trie_of};
+ghost use Rattle.kob_prefix_tree.specs.Contents.{contents, end_of, node_end, trie_of};
 ghost use Rattle.kob_prefix_tree.specs.Path.{key_of};
 ghost use Rattle.kob_prefix_tree.specs.Contents.{EndsAt, IsWay, kept_behind, unwound, with_child};
 ghost use Rattle.kob_prefix_tree.specs.Contents.{first_byte, first_contents};
@@ -17,7 +17,7 @@ use crate::link::Link;
 use crate::node::Node;
 use crate::path::parted;
 use crate::serials::NewSerial;
-use crate::siblings::{Item, Room};
+use crate::siblings::{ByteNode, Item, Room};
 use crate::tail::Tail;
 use std::alloc::{AllocError, Global};
 use std::mem::{replace, swap};
@@ -56,6 +56,22 @@ impl Branch {
         emptied.give_up();
     }
 
+    /// Exchanges the contents of the branch and those of a node.
+    pub(crate) fn change_places(&mut self, node: &mut ByteNode)
+        ensures tail { self.new.tail ≡ node.old.item.tail }
+        ensures end { end_of self.new ≡ node_end node.old }
+        ensures node_tail { node.new.item.tail ≡ self.old.tail }
+        ensures node_end { node_end node.new ≡ end_of self.old }
+        ensures byte { node.new.item.byte ≡ node.old.item.byte }
+        ensures next { node.new.next ≡ node.old.next }
+        ensures alloc { node.new.alloc ≡ node.old.alloc }
+    {
+        swap(&mut self.tail, &mut node.item.tail);
+        swap(&mut self.literal, &mut node.item.literal);
+        swap(&mut self.prefixed, &mut node.item.prefixed);
+        swap(&mut self.below, &mut node.child);
+    }
+
     /// Goes on from here to the branch that a node holds. The branch here becomes the way's last
     /// node, in the block of that one: the two change places.
     fn go_down(&mut self, above: &mut Link<Item>, found: Link<Item>)
@@ -70,10 +86,7 @@ impl Branch {
         let mut found = found;
         let next = replace(above, Link::null());
         let node = found.get_mut();
-        swap(&mut self.tail, &mut node.item.tail);
-        swap(&mut self.literal, &mut node.item.literal);
-        swap(&mut self.prefixed, &mut node.item.prefixed);
-        swap(&mut self.below, &mut node.child);
+        self.change_places(node);
         node.next = next;
         let emptied = replace(above, found);
         emptied.give_up();
@@ -90,10 +103,7 @@ impl Branch {
         let bare = self.is_bare();
         let mut last = replace(above, Link::null());
         let node = last.get_mut();
-        swap(&mut self.tail, &mut node.item.tail);
-        swap(&mut self.literal, &mut node.item.literal);
-        swap(&mut self.prefixed, &mut node.item.prefixed);
-        swap(&mut self.below, &mut node.child);
+        self.change_places(node);
         let next = replace(&mut node.next, Link::null());
         let emptied = replace(above, next);
         emptied.give_up();
@@ -234,9 +244,8 @@ impl Branch {
         here
     }
 
-    /// Appends the serial at the key. It makes the nodes that are missing, and no others, and links
-    /// them in when all are made.
-    pub(crate) fn add(
+    /// As `add`, however deep the key goes.
+    pub(crate) fn add_far(
         &mut self,
         alloc: Global,
         key: &[u8],
@@ -255,10 +264,10 @@ impl Branch {
         added
     }
 
-    /// Appends the serial at the key that the nodes of the path hold. Nodes whose bytes are in the
+    /// As `grow`, however deep the key goes. Nodes whose bytes are in the
     /// tree already are freed, the others linked in. A node within whose bytes the key ends or
     /// branches off is split, with the block.
-    pub(crate) fn grow(
+    pub(crate) fn grow_far(
         &mut self,
         path: Link<Item>,
         room: Room,
@@ -276,9 +285,8 @@ impl Branch {
         self.ascend(above);
     }
 
-    /// Removes these serials at the key in one pass, and returns whether any was there. Frees the
-    /// nodes that then have no serials and no children.
-    pub(crate) fn remove_all(&mut self, key: &[u8], kind: PatternKind, serials: &[u64]) -> bool
+    /// As `remove_all`, however deep the key goes.
+    pub(crate) fn remove_far(&mut self, key: &[u8], kind: PatternKind, serials: &[u64]) -> bool
         requires neat { IsNeat (contents self.old).1 }
         ensures found { result
             ≡ has_serials kind serials.now (held_in key.now (contents self.old)) }
