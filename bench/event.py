@@ -12,8 +12,8 @@ An event is recorded with its business row (`Outbox::record`), sent by a router 
 aggregate of its own and --bytes of payload. Ids are spread; records and intakes are also run with ids that
 rise.
 
-event/main.txt and event/line.txt are one program, event/threads.txt is another. Both are proved and built
-over the libraries that `rt ci`, run at the top before, left in crates/*/out. event/peer.c has the same tables
+event/main.txt and event/line.txt are one program, event/threads.txt and event/sessions.txt are two others.
+All are proved and built over the libraries that `rt ci`, run at the top before, left in crates/*/out. event/peer.c has the same tables
 and statements over SQLite in memory, by the package libsqlite3-dev; without it, its columns stay empty. It
 prepares each statement once, and ours finds it by its text at each call. It asks its tables for the last
 number, the mark and the last place, which ours keeps beside them: a record takes it four statements and ours
@@ -38,7 +38,7 @@ that allocated it, of the program as Rattle's own compiler builds it; the servic
 outboxes are gone.
 
 --write puts what is printed into bench/README.md, with the commit, the date and the machine. --check builds
-both programs without proofs, as tools/quick does, and runs them with few events; status 1 if one does
+the programs without proofs, as tools/quick does, and runs them with few events; status 1 if one does
 something else than it is told. What passed is kept in .git/event.sum, and not done again while nothing of it
 changes.
 """
@@ -67,6 +67,7 @@ SOURCES = {
         "proofs/send/Invariants.antt": "invariants.txt",
     },
     "threads": {"src/main.rt": "threads.txt"},
+    "sessions": {"src/main.rt": "sessions.txt"},
 }
 # The polls of a day, a hundred a second, of a topic with so many partitions. The first poll of each asks for
 # its committed offset.
@@ -338,17 +339,17 @@ def days(program: pathlib.Path, polls: int) -> None:
 
 
 def check() -> int:
-    """Builds both programs without proofs, and runs each with few events; the exit status is 0 if they do as
+    """Builds the programs without proofs, and runs each with few events; the exit status is 0 if they do as
     told."""
     with tempfile.TemporaryDirectory(prefix="event-") as folder:
-        event, threads = (
+        event, threads, sharing = (
             unproved(name, placed(folder, name) / "src", NEEDS, pathlib.Path(folder) / f"{name}-room")
             for name in SOURCES
         )
         for work in works(50, 100):
             run(event, work)
         least(threads, ("pipeline", 100, SERVICES, CONSUMERS, 20), CONSUMERS * SERVICES * 20, 1)
-        least(threads, ("lock", 100, 2, 20), 2 * 2 * 20, 1)
+        least(sharing, ("lock", 100, 2, 20), 2 * 2 * 20, 1)
         least(threads, ("days", 1_000, 100), 1_000 - PARTITIONS, 1)
     print("the programs of bench/event were built and run")
     return 0
@@ -376,7 +377,7 @@ def measured(given: argparse.Namespace) -> str:
         if given.threads:
             program = ours(folder, "threads")
             pipelines(program, given.threads, given.bytes)
-            sessions(program, 16 * given.threads, given.bytes)
+            sessions(ours(folder, "sessions"), 16 * given.threads, given.bytes)
             days(program, DAY)
             if shutil.which("valgrind"):
                 places(program, given.threads // 4, given.bytes)
