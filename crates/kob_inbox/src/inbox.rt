@@ -123,20 +123,14 @@ impl Inbox {
         Ok(TakeIn::Taken)
     }
 
-    /// All events, in the order of their intake.
+    /// All events, in the order of their intake. No event id comes twice.
     pub fn taken(&mut self) -> Result<Vec<InboxRow>, InboxFault>
         ensures rows { IfOk result (λ rows.
             map placed_intake rows.items ≡ enumerate_from 1 self.old) }
+        ensures once { IsOnce self.old }
         ensures memory { IfErr result (λ f. f ≡ InboxFault.Memory alloc_error) }
         ensures same { self.new ≡ self.old }
     {
         all_rows(&mut self.conn, self.alloc)
-    }
-
-    /// A law, which holds of every inbox: no event id comes twice.
-    pub fn is_in_order(&self)
-        ensures { IsOnce self.now }
-    {
-        let _conn = &self.conn;
     }
 }

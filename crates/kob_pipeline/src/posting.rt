@@ -206,7 +206,6 @@ fn page_after(outbox: &mut Outbox, rows: &[Row]) -> Result<Vec<Row>, StepFault>
         → map stored_row rows.now ≡ later_than 0 outbox.old.events) }
     ensures same { outbox.new ≡ outbox.old }
 {
-    outbox.is_in_order();
     let last = last_number(rows);
     Ok(outbox.after(last, PAGE)?)
 }

@@ -120,7 +120,6 @@ fn is_row(row: &InboxRow, place: (u64, u64, u64), (topic, id, value): (&str, u12
 
 /// The rows are those of the two that were taken, of which the first is copied.
 fn keeps_two(rt: &impl Abort, alloc: Global, inbox: &mut Inbox) {
-    inbox.is_in_order();
     let rows = inbox.taken().expect(rt, "rows");
     let [first, second] = rows.as_slice() else {
         panic!(rt; "not two rows");
