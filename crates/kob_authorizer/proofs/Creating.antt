@@ -1,56 +1,16 @@
--- New bindings that have their places for serials.
-use Rattle.kob_authorizer.proofs.Words.{AreRising, Binding, IfSome, IsRising, List, Option, Some, [], arith, bindings_of, enumerate_from, length, length-enumerate_from, length-map, map_push, nat_tests, serial_of, ℕ, ◌++◌, ◌+◌, ◌<◌, ◌∷◌, ◌≡◌, ◌≤◌, Added, Creates, None, OnlyAdds, add_one, ap, append-nil, append_assoc, cond, create_fault, created, creation, false, fold, fold-append, is_known, is_some, length-append, limit_fault, new_bindings, refl, same_binding, same_binding_decides, option_or, min-le_left, serials_in, sym, true, with_binding, with_new, All, AllPairs-filter, AreDistinct, BindingFilter, all_pairs_push, bindings_left, is_equal, not, takes, ◌∙◌, ◌≢◌, AreInForce, Contains, Contains-append_left, Contains-push}
+-- New bindings, and the serials that they get.
+use Rattle.kob_authorizer.proofs.Words.{Binding, IsRising, List, Option, Some, [], arith, enumerate_from, length, length-enumerate_from, nat_tests, serial_of, ℕ, ◌++◌, ◌+◌, ◌<◌, ◌∷◌, ◌≡◌, ◌≤◌, Added, Creates, None, OnlyAdds, add_one, ap, append-nil, append_assoc, cond, create_fault, created, creation, false, fold, fold-append, is_known, is_some, length-append, limit_fault, new_bindings, refl, same_binding, same_binding_decides, option_or, min-le_left, serials_in, sym, true, with_binding, with_new, All, AllPairs-filter, AreDistinct, BindingFilter, all_pairs_push, bindings_left, is_equal, not, takes, ◌∙◌, ◌≢◌, AreInForce, Contains, Contains-append_left, Contains-push, Bool, is_among}
 use Rattle.kob_authorizer.proofs.Entries.{rising_enumerate_from, enumerate_from_push, rising_append, enumerate_from_append, place_among, serial_in_force, serial_of_append, serial_of_append_none, serial_of_append_some, moved_some, all_of, first_serial_found, none_is, first_is}
+use Rattle.kob_authorizer.specs.Candidates.{is_again}
 use Rattle.kob_authorizer.specs.Creation.{addition}
-
--- each entry has its place for a serial
-abbrev pub HavePlaces : List (ℕ × Binding) → Type 0
-HavePlaces entries = entries ≡ enumerate_from 0 (bindings_of entries)
-
--- places rise
-pub places_rise : (entries : List (ℕ × Binding)) → HavePlaces entries → AreRising entries
-places_rise entries places = grind (arith, nat_tests, rising_enumerate_from 0 (bindings_of entries))
-
--- rising serials have room between their bounds
-bounds : (low high : ℕ) (entries : List (ℕ × Binding)) → IsRising low entries high → low ≤ high
-bounds low high [] rising = rising
-bounds low high (x ∷ xs) rising = let more = bounds (x.0 + 1) high xs rising.1 in omega (arith, more, rising.0)
-
-below_high : (low high : ℕ) (entries : List (ℕ × Binding)) (binding : Binding) (serial : ℕ) → IsRising low entries high
-    → serial_of entries binding ≡ Some serial → serial < high
-below_high low high [] binding serial rising found = absurd (cc)
-below_high low high (x ∷ xs) binding serial rising found =
-    grind (arith, nat_tests, bounds, below_high (x.0 + 1) high xs binding serial rising.1)
-
-place_below : (entries : List (ℕ × Binding)) (binding : Binding) (place : ℕ) → HavePlaces entries
-    → serial_of entries binding ≡ Some place → place < length (bindings_of entries)
-place_below entries binding place places found =
-    let bindings = bindings_of entries in let rising = rising_enumerate_from 0 bindings in
-    let count = length-enumerate_from 0 bindings in
-    grind (arith, nat_tests, below_high 0 (0 + length (enumerate_from 0 bindings)) (enumerate_from 0 bindings) binding place)
-
--- the place of a binding is below the number of all
-pub places_below : (entries : List (ℕ × Binding)) (binding : Binding) (found : Option ℕ) → HavePlaces entries
-    → found ≡ serial_of entries binding → IfSome found (λ place. place < length (bindings_of entries))
-places_below entries binding x2 places is = grind (arith, nat_tests, place_below)
+use Rattle.std.specs.List.{position_or_len}
 
 -- the place among bindings and one more behind them
-pub place_with_last : (bindings : List Binding) (last b : Binding)
+place_with_last : (bindings : List Binding) (last b : Binding)
     → serial_of (enumerate_from 0 (bindings ++ last ∷ [])) b
     ≡ option_or (serial_of (enumerate_from 0 bindings) b)
     (cond (same_binding last b) (Some (length bindings)) None)
 place_with_last bindings last b = grind (arith, nat_tests, enumerate_from_push, serial_of_append)
-
--- one more is put last
-pub places_push : (entries : List (ℕ × Binding)) (place : ℕ) (binding : Binding) → HavePlaces entries
-    → place ≡ length entries → HavePlaces (entries ++ (place, binding) ∷ [])
-places_push entries place binding places is = grind (arith, nat_tests, length-map, enumerate_from_push, map_push)
-
--- one more gets the next serial
-pub numbered_push : (next : ℕ) (entries : List (ℕ × Binding)) (entry : ℕ × Binding)
-    → enumerate_from next (bindings_of entries) ++ (next + length entries, entry.1) ∷ []
-    ≡ enumerate_from next (bindings_of (entries ++ entry ∷ []))
-numbered_push next entries entry = grind (arith, nat_tests, length-map, enumerate_from_push, map_push)
 
 -- Adding bindings at once is adding them one after another.
 
@@ -108,19 +68,42 @@ abbrev state : List (ℕ × Binding) → ℕ → List ℕ → Added
 state entries next serials = record { entries = entries; next = next; serials = serials }
 
 -- a binding that is not there is put last, and has its place
-pub put_last : (fresh : List Binding) (b : Binding) → None ≡ serial_of (enumerate_from 0 fresh) b
+put_last : (fresh : List Binding) (b : Binding) → None ≡ serial_of (enumerate_from 0 fresh) b
     → (fresh ++ b ∷ [] ≡ with_new [] fresh b)
     × (Some (length fresh) ≡ serial_of (enumerate_from 0 (fresh ++ b ∷ [])) b)
 put_last fresh b none =
     let unknown = place_among 0 fresh b in let decides = (same_binding_decides b b).1 refl in
     grind (arith, nat_tests, place_with_last fresh b b)
 
--- one that is there stays
-pub put_known : (fresh : List Binding) (b : Binding) (place : ℕ) → Some place ≡ serial_of (enumerate_from 0 fresh) b
-    → fresh ≡ with_new [] fresh b
-put_known fresh b place found = let known = place_among 0 fresh b in grind (arith, nat_tests)
+-- the place of the first equal one is its serial, if serials begin with n
+found_place : (n : ℕ) (b : Binding) (xs : List Binding) → is_among xs b ≡ true
+    → Some (n + position_or_len (is_again b) xs) ≡ serial_of (enumerate_from n xs) b
+found_place n b [] among = absurd (cc)
+found_place n b (x ∷ xs) among = grind (arith, nat_tests, found_place (n + 1) b xs)
 
-pub ruleset putting = (put_last, put_known, length-append)
+-- where none is equal, the place is behind all
+no_place : (b : Binding) (xs : List Binding) → is_among xs b ≡ false
+    → position_or_len (is_again b) xs ≡ length xs
+no_place b [] among = refl
+no_place b (x ∷ xs) among = grind (arith, nat_tests, no_place b xs)
+
+-- the place of a binding is its serial, once it is among the others
+place_in : (fresh : List Binding) (b : Binding) (among : Bool) → is_among fresh b ≡ among
+    → Some (position_or_len (is_again b) fresh) ≡ serial_of (enumerate_from 0 (with_new [] fresh b)) b
+place_in fresh b true among = let place = found_place 0 b fresh among in grind (arith, nat_tests)
+place_in fresh b false among =
+    let place = no_place b fresh among in let unknown = place_among 0 fresh b in
+    grind (arith, nat_tests, put_last fresh b)
+
+pub place_is : (fresh : List Binding) (b : Binding)
+    → Some (position_or_len (is_again b) fresh) ≡ serial_of (enumerate_from 0 (with_new [] fresh b)) b
+place_is fresh b = place_in fresh b (is_among fresh b) refl
+
+-- one alone has the first place
+pub first_place : (b : Binding) → Some 0 ≡ serial_of ((0, b) ∷ []) b
+first_place b = let decides = (same_binding_decides b b).1 refl in grind (arith, nat_tests)
+
+pub ruleset putting = (place_is, first_place)
 
 -- one that is in force is not put
 pub known_in_force : (entries : List (ℕ × Binding)) (fresh : List Binding) (b : Binding) (serial : ℕ)

@@ -129,10 +129,10 @@ abbrev pub with_new : List (ℕ × Binding) → List Binding → Binding → Lis
 with_new entries fresh binding =
     if is_known entries fresh binding then fresh else (fresh ++ binding ∷ [])
 
--- bindings, with one more put last, if there is one
-abbrev pub with_last : List Binding → Option Binding → List Binding
-with_last bindings None = bindings
-with_last bindings (Some last) = bindings ++ last ∷ []
+-- one binding alone, or several
+abbrev pub alone_or : Option Binding → List Binding → List Binding
+alone_or None several = several
+alone_or (Some alone) several = alone ∷ []
 
 -- the bindings to which none in force is equal, each once, in order
 abbrev pub new_bindings : List (ℕ × Binding) → List Binding → List Binding

@@ -1,3 +1,4 @@
+pub mod Candidates
 pub mod Creation
 pub mod Decide
 pub mod Deletion

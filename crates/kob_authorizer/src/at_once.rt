@@ -12,22 +12,22 @@ use kob_names::Binding;
 use kob_prefix_tree::PrefixTree;
 use std::alloc::{AllocError, Global};
 
-/// Copies of the bindings to which none in force is equal, each once, and the serials of all
-/// bindings in their order. The new ones get the serials from `next` on. If there are not so many,
-/// the serials mean nothing.
+/// The bindings to which none in force is equal, each once, and the serials of all bindings in their
+/// order. The new ones get the serials from `next` on. If there are not so many, the serials mean
+/// nothing.
 pub fn new_bindings(
     alloc: Global,
     entries: &[(u64, Binding)],
     keys: &PrefixTree,
     next: u64,
-    bindings: &[Binding],
+    bindings: Vec<Binding>,
 ) -> Result<(Fresh, Vec<u64>), AllocError>
     requires rising { AreRising entries.now }
     requires indexed { IsIndex key_place keys.now entries.now }
-    ensures fresh { IfOk result (λ made. made.0 ≡ new_bindings entries.now bindings.now) }
+    ensures fresh { IfOk result (λ made. made.0 ≡ new_bindings entries.now bindings.items) }
     ensures serials { IfOk result (λ made. next + length made.0 ≤ serial_limit
         → made.1.items
-        ≡ serials_in (entries.now ++ enumerate_from next made.0) bindings.now) }
+        ≡ serials_in (entries.now ++ enumerate_from next made.0) bindings.items) }
 {
     let mut fresh = Fresh::new(alloc);
     let mut serials = Vec::with_capacity(alloc, bindings.len())?;
@@ -47,15 +47,15 @@ fn found_or_put(
     keys: &PrefixTree,
     next: u64,
     fresh: &mut Fresh,
-    binding: &Binding,
+    binding: Binding,
 ) -> Result<u64, AllocError>
     requires rising { AreRising entries.now }
     requires indexed { IsIndex key_place keys.now entries.now }
-    ensures fresh { OnOk result (fresh.new ≡ with_new entries.now fresh.old binding.now) }
+    ensures fresh { OnOk result (fresh.new ≡ with_new entries.now fresh.old binding) }
     ensures serial { IfOk result (λ serial. next + length fresh.new ≤ serial_limit
-        → Some serial ≡ serial_of (entries.now ++ enumerate_from next fresh.new) binding.now) }
+        → Some serial ≡ serial_of (entries.now ++ enumerate_from next fresh.new) binding) }
 {
-    match serial_of(entries, keys, binding) {
+    match serial_of(entries, keys, &binding) {
         Some(serial) => Ok(serial),
         None => {
             let place = fresh.put(alloc, binding)?;

@@ -18,7 +18,7 @@ use crate::look_up::{is_unmatched, verdict};
 use crate::patterns::remove_all;
 use crate::question::Question;
 use crate::super_users::SuperUsers;
-use kob_names::{Binding, BindingFilter, Host, Operation, Principal, ResourceKind, Verdict};
+use kob_names::{Binding, BindingFilter, Host, Items, Operation, Principal, ResourceKind, Verdict};
 use std::alloc::{AllocError, Global};
 use std::marker::Model;
 
@@ -175,7 +175,7 @@ impl Authorizer {
             self.old.contents.entries self.old.contents.next bindings.now ≡ Some fault) }
         ensures kept { OnErr result (self.new.contents ≡ self.old.contents) }
     {
-        let prepared = self.prepare_create(alloc, bindings)?;
+        let prepared = self.prepare_create(alloc, Items::copied(alloc, bindings)?.into_vec())?;
         Ok(self.commit_create(prepared))
     }
 
@@ -185,17 +185,17 @@ impl Authorizer {
     pub fn prepare_create(
         &mut self,
         alloc: Global,
-        bindings: &[Binding],
+        bindings: Vec<Binding>,
     ) -> Result<PreparedCreate, CreateFault>
         ensures kept { self.new.contents ≡ self.old.contents }
         ensures ok { IfOk result
-            (Creates self.old.contents.entries self.old.contents.next bindings.now) }
+            (Creates self.old.contents.entries self.old.contents.next bindings.items) }
         ensures ready { IfOk result (λ made. CanCreate made self.new) }
         ensures allowed { OnOk result (create_fault
-            self.old.contents.entries self.old.contents.next bindings.now ≡ None) }
+            self.old.contents.entries self.old.contents.next bindings.items ≡ None) }
         ensures fault { IfErr result (λ fault. fault ≢ CreateFault.Memory alloc_error
             → create_fault
-            self.old.contents.entries self.old.contents.next bindings.now ≡ Some fault) }
+            self.old.contents.entries self.old.contents.next bindings.items ≡ Some fault) }
     {
         let made = PreparedCreate::make(
             alloc,

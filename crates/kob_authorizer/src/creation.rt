@@ -46,20 +46,20 @@ impl PreparedCreate {
         entries: &[(u64, Binding)],
         index: &Index,
         next: u64,
-        bindings: &[Binding],
+        bindings: Vec<Binding>,
     ) -> Result<PreparedCreate, CreateFault>
         requires count { length entries.now ≤ binding_limit }
         requires rising { AreRising entries.now }
         requires indexed { Indexes index.now entries.now }
-        ensures ok { IfOk result (Creates entries.now next bindings.now) }
-        ensures allowed { OnOk result (create_fault entries.now next bindings.now ≡ None) }
+        ensures ok { IfOk result (Creates entries.now next bindings.items) }
+        ensures allowed { OnOk result (create_fault entries.now next bindings.items ≡ None) }
         ensures count { IfOk result
             (λ made. length entries.now + length made.fresh ≤ binding_limit) }
         ensures serials { IfOk result (λ made. next + length made.fresh ≤ serial_limit) }
         ensures numbered { IfOk result
             (λ made. IsRising next made.fresh (next + length made.fresh)) }
         ensures fault { IfErr result (λ fault. fault ≢ CreateFault.Memory alloc_error
-            → create_fault entries.now next bindings.now ≡ Some fault) }
+            → create_fault entries.now next bindings.items ≡ Some fault) }
     {
         let (new, serials) = new_bindings(alloc, entries, &index.keys, next, bindings)?;
         if let Some(fault) = limit_fault(entries.len(), next, new.len()) {

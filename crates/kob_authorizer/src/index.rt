@@ -4,7 +4,7 @@ ghost use Rattle.std.specs.Prelude.{◌≡◌, IfOk, map};
 ghost use Rattle.std.specs.List.{fold};
 ghost use Rattle.kob_authorizer.specs.Index.{empty_index, leaf_of, with_leaf, without_addition};
 
-use crate::key::{binding_key, kind_in_tree};
+use crate::key::{kind_in_tree, write_key};
 use crate::patterns::Patterns;
 use crate::removal::KeyRemoval;
 use kob_names::{Binding, ResourceKind};
@@ -37,8 +37,13 @@ impl Index {
         }
     }
 
-    /// The first step of an insertion: all allocations.
-    fn prepare(&self, alloc: Global, entry: &(u64, Binding)) -> Result<Leaf, AllocError>
+    /// The first step of an insertion: all allocations. The key is written to `key`.
+    fn prepare(
+        &self,
+        alloc: Global,
+        key: &mut Vec<u8>,
+        entry: &(u64, Binding),
+    ) -> Result<Leaf, AllocError>
         ensures { IfOk result (λ leaf. leaf ≡ leaf_of entry.now) }
     {
         let binding = entry.1.parts();
@@ -46,7 +51,7 @@ impl Index {
         let name = binding.pattern.name.as_str().as_bytes();
         let kind = kind_in_tree(binding.pattern.kind);
         let pattern = tree.prepare_add(alloc, name, kind, entry.0)?;
-        let key = binding_key(alloc, &entry.1)?;
+        write_key(key, &entry.1)?;
         let key = self.keys.prepare_add(alloc, key.as_slice(), kind, entry.0)?;
         Ok(Leaf {
             resource: binding.resource,
@@ -65,8 +70,9 @@ impl Index {
         ensures { IfOk result (λ leaves. leaves.items ≡ map leaf_of entries.now) }
     {
         let mut leaves = Vec::with_capacity(alloc, entries.len())?;
+        let mut key = Vec::new(alloc);
         for entry in entries {
-            leaves.push(self.prepare(alloc, entry)?)?;
+            leaves.push(self.prepare(alloc, &mut key, entry)?)?;
         }
         Ok(leaves)
     }

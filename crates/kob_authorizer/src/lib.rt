@@ -3,6 +3,7 @@
 
 mod at_once;
 mod authorizer;
+mod candidate;
 mod creation;
 mod deletion;
 mod entry_list;

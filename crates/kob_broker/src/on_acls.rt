@@ -32,7 +32,7 @@ impl Broker {
             return Ok(Prepared::refused(reason));
         }
         let bindings = bindings_of(alloc, drafts)?;
-        let made = match self.authorizer.prepare_create(alloc, bindings.as_slice()) {
+        let made = match self.authorizer.prepare_create(alloc, bindings) {
             Ok(made) => made,
             Err(CreateFault::TooMany) => return Ok(Prepared::refused(Reason::TooManyBindings)),
             Err(CreateFault::SerialsSpent) => return Ok(Prepared::refused(Reason::SerialsSpent)),
@@ -99,7 +99,7 @@ fn bindings_of(alloc: Global, drafts: &[Draft]) -> Result<Vec<Binding>, AllocErr
     requires { first_reason (flat_map draft_reasons drafts.now) ≡ None }
     ensures { IfOk result (λ made. made.items ≡ drafts.now) }
 {
-    let mut bindings = Vec::new(alloc);
+    let mut bindings = Vec::with_capacity(alloc, drafts.len())?;
     for draft in drafts {
         put_binding(alloc, &mut bindings, draft)?;
     }
