@@ -113,14 +113,7 @@ fn command_among<'c>(commands: &'c [Command], word: &[u8]) -> Option<&'c Command
 {
     commands
         .iter()
-        .find(|command| is_same(word, name(**command).as_bytes()))
-}
-
-// Most names of one length end with different bytes.
-fn is_same(word: &[u8], name: &[u8]) -> bool
-    ensures { result ≡ bytes_eq word.now name.now }
-{
-    word.last() == name.last() && word == name
+        .find(|command| word == name(**command).as_bytes())
 }
 
 const FILTER: [Place; 7] = [
