@@ -36,9 +36,7 @@ fn names(rt: &impl Abort, alloc: Global, line: &str, word: &str) {
         .collect(alloc)
         .expect(rt, READY);
     let args = read_line(alloc, words.as_slice()).expect(rt, READY);
-    drop(words);
     let found = commands_of(alloc, &args);
-    drop(args);
     let is_named = matches!(&found, Err(CommandFault::BadName(found)) if found.as_str() == word);
     assert!(rt; is_named, "{line}");
 }
@@ -53,7 +51,6 @@ fn the_first_misread_word_is_named(rt: HostRuntime) {
 fn reply_to_last(rt: &impl Abort, alloc: Global, settings: Settings, events: &[Event]) -> Reply {
     let mut broker = Broker::open(alloc, settings).expect(rt, READY);
     let mut replies = broker.run(alloc, events).expect(rt, READY);
-    drop(broker);
     replies.pop().expect(rt, "a reply")
 }
 

@@ -57,7 +57,6 @@ fn plays(
 ) {
     let mut broker = Broker::open(alloc, settings).expect(rt, READY);
     ends_for(rt, alloc, &mut broker, events, reason);
-    drop(broker);
 }
 
 /// The last request of these pieces of a script, after the topic `t` was created, comes to that.

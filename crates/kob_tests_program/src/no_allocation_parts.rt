@@ -18,7 +18,6 @@ fn opens(alloc: Global, supers: Vec<Principal>, root: &Principal, from: &Host) -
     let (write, kind) = (Operation::Write, ResourceKind::Topic);
     let verdict = authorizer.authorize(root, from, write, kind, "orders");
     let listed = authorizer.supers().len();
-    drop(authorizer);
     verdict == Verdict::Super && listed == 1
 }
 

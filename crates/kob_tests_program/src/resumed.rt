@@ -20,9 +20,7 @@ fn plays(alloc: Global, broker: &mut Broker, events: &[Event], text: &mut Vec<u8
         Ok(replies) => return print(text, 1, &replies),
         Err(stopped) => stopped,
     };
-    let printed = print(text, 1, &replies);
-    drop(replies);
-    printed?;
+    print(text, 1, &replies)?;
     let rest = broker.run(alloc, &events[done..]).ok()?;
     print(text, (done as u64).saturating_add(1), &rest)
 }
@@ -34,9 +32,7 @@ fn plays_all(
     text: &mut Vec<u8>,
 ) -> Option<()> {
     let mut broker = Broker::open(alloc, settings).ok()?;
-    let played = plays(alloc, &mut broker, events, text);
-    drop(broker);
-    played
+    plays(alloc, &mut broker, events, text)
 }
 
 fn plays_script(alloc: Global, script: &str, text: &mut Vec<u8>) -> Option<()> {
@@ -47,11 +43,8 @@ fn plays_script(alloc: Global, script: &str, text: &mut Vec<u8>) -> Option<()> {
 /// Whether this is printed for the replies to a script's events.
 fn prints(alloc: Global, script: &str, expected: &str) -> Option<bool> {
     let mut text = Vec::new(alloc);
-    let played = plays_script(alloc, script, &mut text);
-    let is_expected = text.as_slice() == expected.as_bytes();
-    drop(text);
-    played?;
-    Some(is_expected)
+    plays_script(alloc, script, &mut text)?;
+    Some(text.as_slice() == expected.as_bytes())
 }
 
 // One creation of ten bindings, a batch of a new producer across the edge of a chunk, and changes
