@@ -73,9 +73,14 @@ SOURCES = {
 # its committed offset.
 DAY = 8_640_000
 PARTITIONS = 16
-NEEDS = "kob_names kob_rights kob_broker kob_outbox kob_router kob_inbox kob_shared kob_connections".split()
-NEEDS += ["kob_pipeline", "kob_endpoints"]
-NEEDS += ["uuid", "anyhow"]
+# The libraries of each program.
+BROKER = ["kob_names", "kob_rights", "kob_broker", "anyhow"]
+DELIVERY = [*BROKER, "kob_outbox", "kob_router", "kob_inbox", "uuid"]
+NEEDS = {
+    "event": DELIVERY,
+    "threads": [*DELIVERY, "kob_shared", "kob_connections", "kob_pipeline", "kob_endpoints"],
+    "sessions": [*BROKER, "kob_shared"],
+}
 CALLS = (
     "record",
     "record, ids rise",
@@ -117,9 +122,9 @@ def placed(folder: str, name: str) -> pathlib.Path:
 
 def ours(folder: str, name: str) -> pathlib.Path:
     """Proves and builds a program over the libraries that `rt ci` built."""
-    if lacking := proving.unbuilt(NEEDS):
+    if lacking := proving.unbuilt(NEEDS[name]):
         sys.exit(f"not built: {' '.join(lacking)}; run `rt ci` at the top before")
-    return proving.program(placed(folder, name), name, NEEDS)
+    return proving.program(placed(folder, name), name, NEEDS[name])
 
 
 def peer(folder: str) -> pathlib.Path | None:
@@ -343,7 +348,7 @@ def check() -> int:
     told."""
     with tempfile.TemporaryDirectory(prefix="event-") as folder:
         event, threads, sharing = (
-            unproved(name, placed(folder, name) / "src", NEEDS, pathlib.Path(folder) / f"{name}-room")
+            unproved(name, placed(folder, name) / "src", NEEDS[name], pathlib.Path(folder) / f"{name}-room")
             for name in SOURCES
         )
         for work in works(50, 100):
@@ -394,7 +399,8 @@ def main() -> int:
     parser.add_argument("--check", action="store_true")
     given = parser.parse_args()
     if given.check:
-        return once("event", [pathlib.Path(__file__), *made_of(NEEDS, TOP / "bench/event")], check)
+        needs = sorted({need for needs in NEEDS.values() for need in needs})
+        return once("event", [pathlib.Path(__file__), *made_of(needs, TOP / "bench/event")], check)
     text = measured(given)
     if given.write:
         tables.put(measure.README, "bench/event.py", f"{measure.head()}\n\n{text}")
