@@ -3,7 +3,6 @@
 
 mod beginning;
 mod compare;
-mod continued;
 mod desk;
 mod entries;
 mod event;
@@ -18,6 +17,7 @@ mod laws;
 mod notes;
 mod recorded;
 mod replay;
+mod rotated_broker;
 mod script;
 mod scripts;
 mod session;
@@ -25,7 +25,6 @@ mod work;
 mod worker;
 
 pub use compare::Difference;
-pub use continued::Continued;
 pub use desk::Desk;
 pub use entries::EntriesFault;
 pub use event::event_of;
@@ -39,6 +38,7 @@ pub use laws::{each_entry_is_just, each_entry_is_one_step, journals_in_turn_are_
 pub use notes::Notes;
 pub use recorded::{ENTRY_LIMIT, Recorded};
 pub use replay::ReplayFault;
+pub use rotated_broker::RotatedBroker;
 pub use script::{Script, Transcript};
 pub use scripts::{FleetEnd, WORKER_LIMIT, run_scripts};
 pub use session::{RotatingBroker, Session, SharedBroker};

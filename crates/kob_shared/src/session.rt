@@ -6,11 +6,11 @@ ghost use Rattle.kob_shared.specs.Journals.{Continuation, IsContinued, IsNotHand
 ghost use Rattle.kob_shared.specs.Journals.{IsSound, entry_limit, place_limit};
 ghost use Rattle.kob_shared.specs.Journals.{event_by, new_seat, IsServed, IsStaleOnlyBelow};
 
-use crate::continued::Continued;
 use crate::event::event_of;
 use crate::faults::{CallFault, RotateFault};
 use crate::journal::{PastJournal, Receipt};
 use crate::recorded::Recorded;
+use crate::rotated_broker::RotatedBroker;
 use kob_names::{Host, Principal};
 use kob_rights::{Event, Request};
 use std::alloc::{AllocError, Global};
@@ -59,12 +59,12 @@ impl SharedBroker {
 /// runs for long. No other state is shared.
 #[derive(Drop)]
 pub struct RotatingBroker {
-    continued: Mutex<Continued>,
+    continued: Mutex<RotatedBroker>,
 }
 
 impl RotatingBroker {
     /// Puts the broker and its journal under the lock. Does not allocate.
-    pub fn open(continued: Continued) -> RotatingBroker {
+    pub fn open(continued: RotatedBroker) -> RotatingBroker {
         RotatingBroker {
             continued: Mutex::new(continued),
         }
@@ -85,7 +85,7 @@ impl RotatingBroker {
     }
 
     /// Hands out the journal under the lock, and continues with an empty one, as
-    /// `Continued::rotate` does. Sessions go on, and places count on. `first_place` is the place
+    /// `RotatedBroker::rotate` does. Sessions go on, and places count on. `first_place` is the place
     /// where the journal begins: that after the last entry which was handed out. `OutOfTurn` is
     /// returned exactly if it begins elsewhere, so that no two callers hand out journals in turn
     /// unnoticed. Does not allocate.
@@ -105,7 +105,7 @@ impl RotatingBroker {
     }
 
     /// Returns the broker and the journal that was not handed out. Does not wait.
-    pub fn finish(self) -> Continued
+    pub fn finish(self) -> RotatedBroker
         ensures { IsContinued result }
     {
         let continued = self.continued.into_inner();
