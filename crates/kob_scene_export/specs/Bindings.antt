@@ -1,8 +1,8 @@
 -- Bindings, as `kafka-acls.sh` adds them.
-use Rattle.std.specs.Prelude.{ℕ, Bool, true, false, ◌&&◌, List, [], ◌++◌, bytes_eq, codes, if◌then◌else◌}
+use Rattle.std.specs.Prelude.{ℕ, Bool, true, false, not, ◌&&◌, ◌||◌, List, [], ◌++◌, bytes_eq, codes, if◌then◌else◌}
 use Rattle.kob_names.specs.declared.draft.Draft.{Draft}
 use Rattle.kob_names.specs.declared.kinds.Operation.{Operation}
-use Rattle.kob_names.specs.declared.kinds.Operation.TheVariants.{All, Read, Write, Create, Delete, Alter, Describe, ClusterAction, DescribeConfigs, AlterConfigs, IdempotentWrite}
+use Rattle.kob_names.specs.declared.kinds.Operation.TheVariants.{All, ClusterAction, Delete, Describe, IdempotentWrite, Read, Write}
 use Rattle.kob_names.specs.declared.kinds.PatternKind.{PatternKind}
 use Rattle.kob_names.specs.declared.kinds.PatternKind.TheVariants.{Literal, Prefixed}
 use Rattle.kob_names.specs.declared.kinds.Permission.{Permission}
@@ -10,7 +10,7 @@ use Rattle.kob_names.specs.declared.kinds.Permission.TheVariants.{Allow, Deny}
 use Rattle.kob_names.specs.declared.kinds.ResourceKind.{ResourceKind}
 use Rattle.kob_names.specs.declared.kinds.ResourceKind.TheVariants.{Topic, Group, Cluster, TransactionalId}
 use Rattle.kob_names.specs.declared.pattern.Pattern.{Pattern}
-use Rattle.kob_names.specs.Same.{same_operation}
+use Rattle.kob_names.specs.Same.{same_operation, same_pattern_kind, same_resource}
 use Rattle.kob_words.specs.Words.{operation_name}
 use Rattle.kob_scene_export.specs.Plain.{comment_unless, is_line, word_text}
 
@@ -50,55 +50,31 @@ target_text written TransactionalId pattern =
     named_text written (codes " --transactional-id=") pattern
 target_text written Cluster pattern = codes " --cluster"
 
--- a pattern of the cluster is literal
-abbrev pub is_whole_cluster : ResourceKind → PatternKind → Bool
-is_whole_cluster Cluster Literal = true
-is_whole_cluster Cluster Prefixed = false
-is_whole_cluster Topic pattern = true
-is_whole_cluster Group pattern = true
-is_whole_cluster TransactionalId pattern = true
-
 -- which operations `kafka-acls.sh` takes for a kind of resource
-abbrev pub is_of_topics : Operation → Bool
-is_of_topics ClusterAction = false
-is_of_topics IdempotentWrite = false
-is_of_topics operation = true
-
-abbrev pub is_of_groups : Operation → Bool
-is_of_groups Read = true
-is_of_groups Describe = true
-is_of_groups Delete = true
-is_of_groups All = true
-is_of_groups operation = false
-
-abbrev pub is_of_the_cluster : Operation → Bool
-is_of_the_cluster Read = false
-is_of_the_cluster Write = false
-is_of_the_cluster Delete = false
-is_of_the_cluster operation = true
-
-abbrev pub is_of_transactions : Operation → Bool
-is_of_transactions Write = true
-is_of_transactions Describe = true
-is_of_transactions All = true
-is_of_transactions operation = false
-
 abbrev pub is_taken : ResourceKind → Operation → Bool
-is_taken Topic operation = is_of_topics operation
-is_taken Group operation = is_of_groups operation
-is_taken Cluster operation = is_of_the_cluster operation
-is_taken TransactionalId operation = is_of_transactions operation
+is_taken Topic ClusterAction = false
+is_taken Topic IdempotentWrite = false
+is_taken Topic operation = true
+is_taken Group Read = true
+is_taken Group Describe = true
+is_taken Group Delete = true
+is_taken Group All = true
+is_taken Group operation = false
+is_taken Cluster Read = false
+is_taken Cluster Write = false
+is_taken Cluster Delete = false
+is_taken Cluster operation = true
+is_taken TransactionalId Write = true
+is_taken TransactionalId Describe = true
+is_taken TransactionalId All = true
+is_taken TransactionalId operation = false
 
--- the command line can write it, in one line
+-- the command line can write it, in one line; a pattern of the cluster is literal
 abbrev pub is_written : Draft → Bool
 is_written d =
     is_line d.principal && is_line d.host && is_line d.pattern.name
-    && is_whole_cluster d.resource d.pattern.kind && is_taken d.resource d.operation
-
--- a command and its options
-unfoldable pub line_text : Bool → List ℕ → Draft → List ℕ
-line_text written command d =
-    command ++ grant_text written d ++ target_text written d.resource d.pattern ++ codes "\n"
+    && (not (same_resource d.resource Cluster) || same_pattern_kind d.pattern.kind Literal)
+    && is_taken d.resource d.operation
 
 unfoldable pub add_text : List ℕ
 add_text = codes "kafka-acls.sh --add"
@@ -117,15 +93,13 @@ refused_note false = codes "# kafka-acls.sh refuses this operation on this kind 
 unfoldable pub command_line : List ℕ → Draft → List ℕ
 command_line command d =
     refused_note (is_taken d.resource d.operation) ++ comment_unless (is_written d)
-    ++ line_text (is_written d) command d
+    ++ command ++ grant_text (is_written d) d
+    ++ target_text (is_written d) d.resource d.pattern ++ codes "\n"
 
 abbrev pub binding_line : Draft → List ℕ
 binding_line d =
     write_note (same_operation d.operation IdempotentWrite) ++ command_line add_text d
 
 -- a removal needs no answer to a question
-unfoldable pub remove_text : List ℕ
-remove_text = codes "kafka-acls.sh --remove --force"
-
 abbrev pub removal_line : Draft → List ℕ
-removal_line d = command_line remove_text d
+removal_line d = command_line (codes "kafka-acls.sh --remove --force") d

@@ -2,13 +2,10 @@
 
 ghost use Rattle.std.specs.Prelude.{◌≡◌, ◌++◌, OnOk};
 ghost use Rattle.kob_scene_export.specs.Bindings.{add_text, binding_line, command_line, grant_text};
-ghost use Rattle.kob_scene_export.specs.Bindings.{host_option};
-ghost use Rattle.kob_scene_export.specs.Bindings.{host_text, is_of_groups, is_of_the_cluster};
-ghost use Rattle.kob_scene_export.specs.Bindings.{is_of_topics, is_of_transactions, is_taken};
-ghost use Rattle.kob_scene_export.specs.Bindings.{is_whole_cluster, is_written, line_text};
+ghost use Rattle.kob_scene_export.specs.Bindings.{host_option, host_text, is_taken, is_written};
 ghost use Rattle.kob_scene_export.specs.Bindings.{named_text, pattern_text, principal_option};
-ghost use Rattle.kob_scene_export.specs.Bindings.{refused_note, removal_line, remove_text};
-ghost use Rattle.kob_scene_export.specs.Bindings.{target_text, write_note};
+ghost use Rattle.kob_scene_export.specs.Bindings.{refused_note, removal_line, target_text};
+ghost use Rattle.kob_scene_export.specs.Bindings.{write_note};
 
 use crate::plain::{is_line, push_mark, push_word};
 use kob_names::{Draft, Operation, Pattern, PatternKind, Permission, ResourceKind};
@@ -35,7 +32,7 @@ pub fn export_binding(out: &mut Vec<u8>, binding: &Draft) -> Result<(), AllocErr
 pub fn export_removal(out: &mut Vec<u8>, binding: &Draft) -> Result<(), AllocError>
     ensures { OnOk result (out.new.items ≡ out.old.items ++ removal_line binding.now) }
 {
-    push_command(out, remove_text().as_bytes(), binding)
+    push_command(out, b"kafka-acls.sh --remove --force", binding)
 }
 
 /// A command with its options, and above it why it is a comment.
@@ -46,7 +43,10 @@ fn push_command(out: &mut Vec<u8>, command: &[u8], binding: &Draft) -> Result<()
     let is_written = is_written(binding);
     out.extend_from_slice(refused_note(is_taken(binding.resource, binding.operation)).as_bytes())?;
     push_mark(out, is_written)?;
-    push_line(out, is_written, command, binding)
+    out.extend_from_slice(command)?;
+    push_grant(out, is_written, binding)?;
+    push_target(out, is_written, binding.resource, &binding.pattern)?;
+    out.extend_from_slice(b"\n")
 }
 
 fn refused_note(is_taken: bool) -> &'static str
@@ -76,45 +76,14 @@ fn add_text() -> &'static str
     "kafka-acls.sh --add"
 }
 
-#[tactic(auto, unfolding(crate::specs::Bindings::remove_text))]
-fn remove_text() -> &'static str
-    ensures { result.now ≡ remove_text }
-{
-    "kafka-acls.sh --remove --force"
-}
-
-#[tactic(auto, using(kob_words::proofs::Appending::appending), unfolding(crate::specs::Bindings::line_text))]
-fn push_line(
-    out: &mut Vec<u8>,
-    written: bool,
-    command: &[u8],
-    binding: &Draft,
-) -> Result<(), AllocError>
-    ensures { OnOk result (out.new.items
-        ≡ out.old.items ++ line_text written command.now binding.now) }
-{
-    out.extend_from_slice(command)?;
-    push_grant(out, written, binding)?;
-    push_target(out, written, binding.resource, &binding.pattern)?;
-    out.extend_from_slice(b"\n")
-}
-
-fn is_whole_cluster(resource: ResourceKind, pattern: PatternKind) -> bool
-    ensures { result ≡ is_whole_cluster resource pattern }
-{
-    match (resource, pattern) {
-        (ResourceKind::Cluster, PatternKind::Prefixed) => false,
-        _ => true,
-    }
-}
-
 fn is_written(binding: &Draft) -> bool
     ensures { result ≡ is_written binding.now }
 {
     is_line(binding.principal.as_str().as_bytes())
         && is_line(binding.host.as_str().as_bytes())
         && is_line(binding.pattern.name.as_str().as_bytes())
-        && is_whole_cluster(binding.resource, binding.pattern.kind)
+        && (binding.resource != ResourceKind::Cluster
+            || binding.pattern.kind == PatternKind::Literal)
         && is_taken(binding.resource, binding.operation)
 }
 
@@ -124,47 +93,23 @@ fn is_taken(resource: ResourceKind, operation: Operation) -> bool
     ensures { result ≡ is_taken resource operation }
 {
     match resource {
-        ResourceKind::Topic => is_of_topics(operation),
-        ResourceKind::Group => is_of_groups(operation),
-        ResourceKind::Cluster => is_of_the_cluster(operation),
-        ResourceKind::TransactionalId => is_of_transactions(operation),
+        ResourceKind::Topic => !matches!(
+            operation,
+            Operation::ClusterAction | Operation::IdempotentWrite
+        ),
+        ResourceKind::Group => matches!(
+            operation,
+            Operation::Read | Operation::Describe | Operation::Delete | Operation::All
+        ),
+        ResourceKind::Cluster => !matches!(
+            operation,
+            Operation::Read | Operation::Write | Operation::Delete
+        ),
+        ResourceKind::TransactionalId => matches!(
+            operation,
+            Operation::Write | Operation::Describe | Operation::All
+        ),
     }
-}
-
-fn is_of_topics(operation: Operation) -> bool
-    ensures { result ≡ is_of_topics operation }
-{
-    !matches!(
-        operation,
-        Operation::ClusterAction | Operation::IdempotentWrite
-    )
-}
-
-fn is_of_groups(operation: Operation) -> bool
-    ensures { result ≡ is_of_groups operation }
-{
-    matches!(
-        operation,
-        Operation::Read | Operation::Describe | Operation::Delete | Operation::All
-    )
-}
-
-fn is_of_the_cluster(operation: Operation) -> bool
-    ensures { result ≡ is_of_the_cluster operation }
-{
-    !matches!(
-        operation,
-        Operation::Read | Operation::Write | Operation::Delete
-    )
-}
-
-fn is_of_transactions(operation: Operation) -> bool
-    ensures { result ≡ is_of_transactions operation }
-{
-    matches!(
-        operation,
-        Operation::Write | Operation::Describe | Operation::All
-    )
 }
 
 #[tactic(auto, using(kob_words::proofs::Appending::appending))]

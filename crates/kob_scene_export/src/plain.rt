@@ -2,9 +2,8 @@
 
 ghost use Rattle.std.specs.List.{list_all};
 ghost use Rattle.std.specs.Prelude.{◌≡◌, ◌++◌, OnOk, flat_map};
-ghost use Rattle.kob_scene_export.specs.Plain.{comment_unless, is_line, is_line_byte, quoted_byte};
-ghost use Rattle.kob_scene_export.specs.Plain.{is_plain, is_plain_byte, is_sign, is_value};
-ghost use Rattle.kob_scene_export.specs.Plain.{is_value_byte, shell_word, word_text};
+ghost use Rattle.kob_scene_export.specs.Plain.{comment_unless, is_line, is_plain, is_sign};
+ghost use Rattle.kob_scene_export.specs.Plain.{is_value, is_value_byte, quoted_byte, word_text};
 
 use kob_words::push_bytes;
 use std::alloc::AllocError;
@@ -22,31 +21,20 @@ fn is_sign(byte: u8) -> bool
         || byte == b'='
 }
 
-fn is_plain_byte(byte: u8) -> bool
-    ensures { result ≡ is_plain_byte byte }
-{
-    byte.is_ascii_alphanumeric() || is_sign(byte)
-}
-
 /// Whether a text has only letters, digits and `.`, `_`, `-`, `:`, `/`, `@`, `,`, `=`, which bash,
 /// dash and zsh read as they are.
 fn is_plain(text: &[u8]) -> bool
     ensures { result ≡ is_plain text.now }
 {
-    text.iter().all(|byte| is_plain_byte(*byte))
-}
-
-fn is_line_byte(byte: u8) -> bool
-    ensures { result ≡ is_line_byte byte }
-{
-    32 <= byte && byte != 127
+    text.iter()
+        .all(|byte| byte.is_ascii_alphanumeric() || is_sign(*byte))
 }
 
 /// Whether a text has no control character, so that it can be in a line.
 pub fn is_line(text: &[u8]) -> bool
     ensures { result ≡ is_line text.now }
 {
-    text.iter().all(|byte| is_line_byte(*byte))
+    text.iter().all(|byte| 32 <= *byte && *byte != 127)
 }
 
 /// Appends a word of a line as a POSIX shell reads it, in single quotes where it needs them; of a
@@ -55,17 +43,9 @@ pub fn is_line(text: &[u8]) -> bool
 pub fn push_word(out: &mut Vec<u8>, written: bool, text: &[u8]) -> Result<(), AllocError>
     ensures { OnOk result (out.new.items ≡ out.old.items ++ word_text written text.now) }
 {
-    if written {
-        push_shell_word(out, text)
-    } else {
-        push_bytes(out, text)
+    if !written {
+        return push_bytes(out, text);
     }
-}
-
-#[tactic(auto, using(kob_words::proofs::Appending::appending))]
-fn push_shell_word(out: &mut Vec<u8>, text: &[u8]) -> Result<(), AllocError>
-    ensures { OnOk result (out.new.items ≡ out.old.items ++ shell_word text.now) }
-{
     if is_plain(text) {
         return out.extend_from_slice(text);
     }
@@ -79,31 +59,21 @@ fn push_quoted(out: &mut Vec<u8>, text: &[u8]) -> Result<(), AllocError>
     ensures { OnOk result (out.new.items ≡ out.old.items ++ flat_map quoted_byte text.now) }
 {
     for byte in text {
-        push_quoted_byte(out, *byte)?;
+        if *byte == b'\'' {
+            out.extend_from_slice(b"'\\''")?;
+        } else {
+            out.extend_from_slice(&[*byte])?;
+        }
     }
     Ok(())
-}
-
-fn push_quoted_byte(out: &mut Vec<u8>, byte: u8) -> Result<(), AllocError>
-    ensures { OnOk result (out.new.items ≡ out.old.items ++ quoted_byte byte) }
-{
-    if byte == b'\'' {
-        out.extend_from_slice(b"'\\''")
-    } else {
-        out.extend_from_slice(&[byte])
-    }
-}
-
-fn is_value_byte(byte: u8) -> bool
-    ensures { result ≡ is_value_byte byte }
-{
-    33 <= byte && byte <= 126 && byte != b'%' && byte != b'=' && byte != b'\\'
 }
 
 fn has_value_bytes(text: &[u8]) -> bool
     ensures { result ≡ list_all is_value_byte text.now }
 {
-    text.iter().all(|byte| is_value_byte(*byte))
+    text.iter().all(|byte| {
+        33 <= *byte && *byte <= 126 && *byte != b'%' && *byte != b'=' && *byte != b'\\'
+    })
 }
 
 /// Whether a text can be the value of a property as it is, and is not empty.

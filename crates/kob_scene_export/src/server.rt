@@ -1,10 +1,10 @@
 //! Settings, as lines of `server.properties`.
 
-ghost use Rattle.std.specs.Prelude.{◌≡◌, ◌++◌, OnOk, flat_map};
+ghost use Rattle.std.specs.Prelude.{◌≡◌, ◌++◌, OnOk};
 ghost use Rattle.std.specs.List.{list_all};
 ghost use Rattle.kob_scene_export.specs.Server.{are_written, authorizer_text, everyone_text};
 ghost use Rattle.kob_scene_export.specs.Server.{head_text, is_super_byte, settings_text};
-ghost use Rattle.kob_scene_export.specs.Server.{super_text, supers_text};
+ghost use Rattle.kob_scene_export.specs.Server.{supers_text};
 
 use crate::plain::push_mark;
 use kob_names::{Principal, Settings};
@@ -50,16 +50,10 @@ fn authorizer_text() -> &'static str
     "authorizer.class.name=org.apache.kafka.metadata.authorizer.StandardAuthorizer\n"
 }
 
-fn is_super_byte(byte: u8) -> bool
-    ensures { result ≡ is_super_byte byte }
-{
-    32 <= byte && byte <= 126 && byte != b';' && byte != b'\\'
-}
-
 fn is_written(principal: &[u8]) -> bool
     ensures { result ≡ list_all is_super_byte principal.now }
 {
-    principal.iter().all(|byte| is_super_byte(*byte))
+    principal.iter().all(|byte| 32 <= *byte && *byte <= 126 && *byte != b';' && *byte != b'\\')
 }
 
 fn are_written(supers: &[Principal]) -> bool
@@ -77,29 +71,13 @@ fn push_supers(out: &mut Vec<u8>, supers: &[Principal]) -> Result<(), AllocError
     let written = are_written(supers);
     push_mark(out, written)?;
     out.extend_from_slice(b"super.users=")?;
-    push_each(out, written, supers)?;
-    out.extend_from_slice(b"\n")
-}
-
-#[tactic(auto, using(kob_words::proofs::Appending::appending))]
-fn push_each(out: &mut Vec<u8>, written: bool, supers: &[Principal]) -> Result<(), AllocError>
-    ensures { OnOk result (out.new.items
-        ≡ out.old.items ++ flat_map (super_text written) supers.now) }
-{
     for principal in supers {
-        push_super(out, written, principal)?;
+        if written {
+            out.extend_from_slice(principal.as_str().as_bytes())?;
+        } else {
+            push_bytes(out, principal.as_str().as_bytes())?;
+        }
+        out.extend_from_slice(b";")?;
     }
-    Ok(())
-}
-
-#[tactic(auto, using(kob_words::proofs::Appending::appending))]
-fn push_super(out: &mut Vec<u8>, written: bool, principal: &Principal) -> Result<(), AllocError>
-    ensures { OnOk result (out.new.items ≡ out.old.items ++ super_text written principal.now) }
-{
-    if written {
-        out.extend_from_slice(principal.as_str().as_bytes())?;
-    } else {
-        push_bytes(out, principal.as_str().as_bytes())?;
-    }
-    out.extend_from_slice(b";")
+    out.extend_from_slice(b"\n")
 }

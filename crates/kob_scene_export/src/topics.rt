@@ -1,7 +1,7 @@
 //! Topics, as `kafka-topics.sh` creates them.
 
 ghost use Rattle.std.specs.Prelude.{◌≡◌, ◌++◌, IfOk, OnOk};
-ghost use Rattle.kob_scene_export.specs.Topics.{alike_note, counted_text, dotted, metric_name};
+ghost use Rattle.kob_scene_export.specs.Topics.{alike_note, counted_text, metric_name};
 ghost use Rattle.kob_scene_export.specs.Topics.{topic_line, topic_text};
 ghost use Rattle.kob_words.specs.Words.{bytes_text};
 
@@ -46,12 +46,6 @@ fn alike_note(written: bool) -> &'static str
     }
 }
 
-fn dotted(byte: u8) -> u8
-    ensures { result ≡ dotted byte }
-{
-    if byte == b'_' { b'.' } else { byte }
-}
-
 /// The name of a topic as Kafka's metrics have it, with `.` for `_`. Of two topics with one such
 /// name `kafka-topics.sh` takes only the first.
 pub fn metric_name(alloc: Global, name: &str) -> Result<Vec<u8>, AllocError>
@@ -59,7 +53,7 @@ pub fn metric_name(alloc: Global, name: &str) -> Result<Vec<u8>, AllocError>
 {
     let mut made = Vec::new(alloc);
     for byte in name.as_bytes() {
-        made.push(dotted(*byte))?;
+        made.push(if *byte == b'_' { b'.' } else { *byte })?;
     }
     Ok(made)
 }
