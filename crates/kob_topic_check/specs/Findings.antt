@@ -39,13 +39,11 @@ record_at records event = option_and_then (λ id. first_of id records) event
 abbrev pub id_text : List ℕ → List ℕ
 id_text id = codes " " ++ hyphenated_text lower id
 
--- partition PARTITION offset OFFSET
-abbrev pub place_text : Record → List ℕ
-place_text one =
-    codes " partition " ++ decimal one.partition ++ codes " offset " ++ decimal one.offset
-
+-- ID partition PARTITION offset OFFSET
 abbrev pub record_text : Record → List ℕ
-record_text one = id_text one.id ++ place_text one
+record_text one =
+    id_text one.id ++ codes " partition " ++ decimal one.partition
+    ++ codes " offset " ++ decimal one.offset
 
 -- what is wrong with a record, and another record
 abbrev pub pair_text : List ℕ → Record → Record → List ℕ

@@ -65,13 +65,9 @@ behind label text =
 abbrev pub number_after : List ℕ → List ℕ → Option ℕ
 number_after label text = behind label text >>= decimal_in
 
--- what stands behind a label inside
-abbrev pub after : List ℕ → List ℕ → Option (List ℕ)
-after label text = option_map (λ parts. parts.1) (cut_at label text)
-
 abbrev pub value_of : List ℕ → Option (List ℕ) → Option (List ℕ)
 value_of headers (Some value) = Some value
-value_of headers None = after (codes ",id:") headers
+value_of headers None = option_map (λ parts. parts.1) (cut_at (codes ",id:") headers)
 
 -- the id in the header `id`; commas stand between two headers
 abbrev pub header_id : List ℕ → Option (List ℕ)

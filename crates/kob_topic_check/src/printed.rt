@@ -1,8 +1,8 @@
 //! How a row and a record are printed.
 
-ghost use Rattle.std.specs.Prelude.{◌≡◌, ◌++◌, None, OnOk, false};
+ghost use Rattle.std.specs.Prelude.{◌≡◌, ◌++◌, OnOk};
 ghost use Rattle.kob_topic_check.specs.Findings.{event_text, id_text, missing_text, order_text};
-ghost use Rattle.kob_topic_check.specs.Findings.{pair_text, place_text, record_text, row_text};
+ghost use Rattle.kob_topic_check.specs.Findings.{pair_text, record_text, row_text};
 
 use crate::record::Record;
 use crate::row::Row;
@@ -21,21 +21,14 @@ fn push_id(out: &mut Vec<u8>, id: Uuid) -> Result<(), AllocError>
 }
 
 #[tactic(auto, using(kob_words::proofs::Appending::appending))]
-fn push_place(out: &mut Vec<u8>, sent: Record) -> Result<(), AllocError>
-    ensures { OnOk result (out.new.items ≡ out.old.items ++ place_text sent) }
-{
-    out.extend_from_slice(b" partition ")?;
-    push_number(out, sent.partition)?;
-    out.extend_from_slice(b" offset ")?;
-    push_number(out, sent.offset)
-}
-
-#[tactic(auto, using(kob_words::proofs::Appending::appending))]
 fn push_record(out: &mut Vec<u8>, sent: Record) -> Result<(), AllocError>
     ensures { OnOk result (out.new.items ≡ out.old.items ++ record_text sent) }
 {
     push_id(out, sent.id)?;
-    push_place(out, sent)
+    out.extend_from_slice(b" partition ")?;
+    push_number(out, sent.partition)?;
+    out.extend_from_slice(b" offset ")?;
+    push_number(out, sent.offset)
 }
 
 #[tactic(auto, using(kob_words::proofs::Appending::appending))]
@@ -89,16 +82,8 @@ pub(crate) fn push_row(
     }
 }
 
-#[tactic(auto, using(kob_words::proofs::Appending::appending))]
-fn push_unknown(out: &mut Vec<u8>, sent: Record) -> Result<(), AllocError>
-    ensures { OnOk result (out.new.items ≡ out.old.items ++ event_text sent false None) }
-{
-    out.extend_from_slice(b"unknown")?;
-    push_record(out, sent)?;
-    out.extend_from_slice(b"\n")
-}
-
 /// What is wrong with a record: another one of its event stands before it, or no row has its event.
+#[tactic(auto, using(kob_words::proofs::Appending::appending))]
 pub(crate) fn push_event(
     out: &mut Vec<u8>,
     sent: Record,
@@ -110,6 +95,10 @@ pub(crate) fn push_event(
     match earlier {
         Some(earlier) => push_pair(out, b"doubled", sent, earlier),
         None if known => Ok(()),
-        None => push_unknown(out, sent),
+        None => {
+            out.extend_from_slice(b"unknown")?;
+            push_record(out, sent)?;
+            out.extend_from_slice(b"\n")
+        }
     }
 }

@@ -2,7 +2,7 @@
 
 ghost use Rattle.std.specs.Option.{option_map};
 ghost use Rattle.std.specs.Prelude.{◌≡◌, option_copied};
-ghost use Rattle.kob_topic_check.specs.Lists.{after, behind, cut_at, header_id, number_after};
+ghost use Rattle.kob_topic_check.specs.Lists.{behind, cut_at, header_id, number_after};
 ghost use Rattle.kob_topic_check.specs.Lists.{record_of, up_to};
 
 use crate::row::id_of;
@@ -68,21 +68,13 @@ fn number_after(label: &[u8], text: &[u8]) -> Option<u64>
     decimal_in(behind(label, text)?)
 }
 
-/// What stands behind a label inside.
-fn after<'t>(label: &[u8], text: &'t [u8]) -> Option<&'t [u8]>
-    ensures { option_map (λ rest. rest.now) result ≡ after label.now text.entry.now }
-{
-    let (_, rest) = cut_at(text, label)?;
-    Some(rest)
-}
-
 /// The id in the header `id`.
 fn header_id(headers: &[u8]) -> Option<Uuid>
     ensures { result ≡ header_id headers.now }
 {
     let id = match behind(b"id:", headers) {
         Some(id) => id,
-        None => after(b",id:", headers)?,
+        None => cut_at(headers, b",id:")?.1,
     };
     id_of(up_to(id, b","))
 }

@@ -2,7 +2,7 @@
 
 ghost use Rattle.std.specs.Option.{option_map};
 ghost use Rattle.std.specs.Prelude.{◌≡◌, IfOk};
-ghost use Rattle.kob_topic_check.specs.Lists.{id_of, is_separator, parts_of, row_of, text_of};
+ghost use Rattle.kob_topic_check.specs.Lists.{id_of, parts_of, row_of, text_of};
 
 use bstr::ByteSlice;
 use kob_names::Text;
@@ -44,7 +44,7 @@ fn parts_of(line: &[u8]) -> Option<(&[u8], &[u8])>
     }
     let (id, rest) = line.split_at(ID);
     match rest {
-        [byte, key @ ..] if is_separator(*byte) => Some((id, key)),
+        [b',' | b'\t', key @ ..] => Some((id, key)),
         _ => None,
     }
 }
@@ -57,12 +57,6 @@ fn text_of(bytes: &[u8]) -> Option<&str>
         Ok(text) => Some(text),
         Err(_) => None,
     }
-}
-
-fn is_separator(byte: u8) -> bool
-    ensures { result ≡ is_separator byte }
-{
-    byte == b',' || byte == b'\t'
 }
 
 /// The UUID that a text writes.
