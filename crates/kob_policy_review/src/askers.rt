@@ -1,10 +1,10 @@
 //! Bindings that are looked up by the principals that they name.
 
-ghost use Rattle.std.specs.Prelude.{◌≡◌, IfOk, OnOk, filter};
+ghost use Rattle.std.specs.Prelude.{◌≡◌, IfOk, filter};
 ghost use Rattle.kob_authorizer.specs.Index.{AreRising, IsIndex};
 ghost use Rattle.kob_prefix_tree.specs.Held.{held};
 ghost use Rattle.kob_policy_review.specs.Classes.{is_for};
-ghost use Rattle.kob_policy_review.specs.Finding.{askers_in, asking_serials, principal_place, with_asker};
+ghost use Rattle.kob_policy_review.specs.Finding.{askers_in, asking_serials, principal_place};
 
 use crate::finder::{in_order, picked};
 use crate::matching::asking;
@@ -70,17 +70,6 @@ impl<'a> Askers<'a> {
     }
 }
 
-fn add_asker(
-    alloc: Global,
-    principals: &mut PrefixTree,
-    entry: &(u64, Binding),
-) -> Result<(), AllocError>
-    ensures { OnOk result (principals.new ≡ with_asker principals.old entry.now) }
-{
-    let principal = entry.1.parts().principal.as_str().as_bytes();
-    principals.add(alloc, principal, PatternKind::Literal, entry.0)
-}
-
 /// A tree of the principals that the entries name.
 #[tactic(auto, using(std::proofs::lemmas::List::Sums::fold_more))]
 fn askers_in(alloc: Global, entries: &[(u64, Binding)]) -> Result<PrefixTree, AllocError>
@@ -88,7 +77,8 @@ fn askers_in(alloc: Global, entries: &[(u64, Binding)]) -> Result<PrefixTree, Al
 {
     let mut principals = PrefixTree::new();
     for entry in entries {
-        add_asker(alloc, &mut principals, entry)?;
+        let principal = entry.1.parts().principal.as_str().as_bytes();
+        principals.add(alloc, principal, PatternKind::Literal, entry.0)?;
     }
     Ok(principals)
 }

@@ -1,8 +1,7 @@
 //! Classes of questions that a set of rules answers alike.
 
 ghost use Rattle.std.specs.Prelude.{◌≡◌, IfOk};
-ghost use Rattle.kob_policy_review.specs.Classes.{covers_party, is_for, is_met, is_on};
-ghost use Rattle.kob_policy_review.specs.Classes.{matches_below, matches_names};
+ghost use Rattle.kob_policy_review.specs.Classes.{covers_party, is_for, is_met, is_on, matches_names};
 
 use kob_names::{
     Binding, Operation, Pattern, PatternKind, Permission, PlainValue, ResourceKind, Text,
@@ -55,22 +54,18 @@ pub(crate) fn copied_target(alloc: Global, target: &Target) -> Result<Target, Al
     })
 }
 
-fn matches_below(pattern: &Pattern, start: &Text) -> bool
-    ensures { result ≡ matches_below pattern.now.kind pattern.now.name start.now }
-{
-    let name = pattern.name.as_str();
-    match pattern.kind {
-        PatternKind::Literal => name == "*",
-        PatternKind::Prefixed => start.as_str().as_bytes().starts_with(name.as_bytes()),
-    }
-}
-
 fn matches_names(pattern: &Pattern, names: &Names) -> bool
     ensures { result ≡ matches_names pattern.now names.now }
 {
     match names {
         Names::Exactly(name) => pattern.matches(name.as_str()),
-        Names::Below(start) => matches_below(pattern, start),
+        Names::Below(start) => match pattern.kind {
+            PatternKind::Literal => pattern.name.as_str() == "*",
+            PatternKind::Prefixed => {
+                let name = pattern.name.as_str().as_bytes();
+                start.as_str().as_bytes().starts_with(name)
+            }
+        },
     }
 }
 

@@ -1,12 +1,12 @@
 //! Rules whose bindings are looked up by the names of their patterns.
 
-ghost use Rattle.std.specs.Prelude.{◌≡◌, ◌++◌, ℕ, Contains, IfOk, OnOk, filter};
+ghost use Rattle.std.specs.Prelude.{◌≡◌, ℕ, Contains, IfOk, filter};
 ghost use Rattle.kob_names.specs.Binding.{Binding};
 ghost use Rattle.kob_authorizer.specs.Index.{AreRising, IsIndex};
 ghost use Rattle.kob_authorizer.specs.Index.{matching_serials, pattern_place};
 ghost use Rattle.kob_prefix_tree.specs.Held.{held};
 ghost use Rattle.kob_policy_review.specs.Classes.{is_on};
-ghost use Rattle.kob_policy_review.specs.Finding.{RiseFrom, found, names_in, picked, text_of, with_name};
+ghost use Rattle.kob_policy_review.specs.Finding.{RiseFrom, names_in, picked, text_of};
 
 use crate::class::{Names, Target};
 use crate::matching::matching;
@@ -80,14 +80,6 @@ pub fn text_of(names: &Names) -> &Text
     }
 }
 
-fn add_name(alloc: Global, names: &mut PrefixTree, entry: &(u64, Binding)) -> Result<(), AllocError>
-    ensures { OnOk result (names.new ≡ with_name names.old entry.now) }
-{
-    let pattern = &entry.1.parts().pattern;
-    let kind = kind_in_tree(pattern.kind);
-    names.add(alloc, pattern.name.as_str().as_bytes(), kind, entry.0)
-}
-
 /// A tree of the names of the entries' patterns.
 #[tactic(auto, using(std::proofs::lemmas::List::Sums::fold_more))]
 fn names_in(alloc: Global, entries: &[(u64, Binding)]) -> Result<PrefixTree, AllocError>
@@ -95,7 +87,9 @@ fn names_in(alloc: Global, entries: &[(u64, Binding)]) -> Result<PrefixTree, All
 {
     let mut names = PrefixTree::new();
     for entry in entries {
-        add_name(alloc, &mut names, entry)?;
+        let pattern = &entry.1.parts().pattern;
+        let kind = kind_in_tree(pattern.kind);
+        names.add(alloc, pattern.name.as_str().as_bytes(), kind, entry.0)?;
     }
     Ok(names)
 }
@@ -121,24 +115,6 @@ pub fn in_order(walked: Vec<u64>) -> Vec<u64>
     serials
 }
 
-fn push_found(
-    alloc: Global,
-    made: &mut Vec<(u64, Binding)>,
-    entries: &[(u64, Binding)],
-    serial: u64,
-) -> Result<(), AllocError>
-    requires { AreRising entries.now }
-    ensures { OnOk result (made.new.items ≡ made.old.items ++ found entries.now serial) }
-{
-    match entry_of(entries, serial) {
-        None => Ok(()),
-        Some(entry) => {
-            made.push(entry.copy(alloc)?)?;
-            Ok(())
-        }
-    }
-}
-
 /// Copies of the entries with these serials.
 pub fn picked(
     alloc: Global,
@@ -150,7 +126,9 @@ pub fn picked(
 {
     let mut made = Vec::new(alloc);
     for serial in serials {
-        push_found(alloc, &mut made, entries, *serial)?;
+        if let Some(entry) = entry_of(entries, *serial) {
+            made.push(entry.copy(alloc)?)?;
+        }
     }
     Ok(made)
 }

@@ -40,12 +40,6 @@ impl Gone {
         }
     }
 
-    fn is_outside(&self, entry: &(u64, Binding)) -> bool
-        ensures { result ≡ is_outside (is_among self.now) entry.now }
-    {
-        !self.set.contains(&entry.0)
-    }
-
     /// Copies of the entries that are not gone.
     #[tactic(auto, using(std::proofs::lemmas::List::Elements::filter_more))]
     pub fn left(
@@ -58,7 +52,7 @@ impl Gone {
     {
         let mut made = Vec::new(alloc);
         for entry in entries {
-            if self.is_outside(entry) {
+            if !self.set.contains(&entry.0) {
                 made.push(entry.copy(alloc)?)?;
             }
         }

@@ -2,15 +2,13 @@
 
 ghost use Rattle.std.specs.Prelude.{◌≡◌, IfOk, map};
 ghost use Rattle.std.specs.List.{list_all, list_any};
-ghost use Rattle.kob_names.specs.declared.kinds.Permission.TheVariants.{Deny};
-ghost use Rattle.kob_policy_review.specs.Below.{is_met_on, place_on, targets_below, yes_at};
-ghost use Rattle.kob_policy_review.specs.Classes.{is_met};
+ghost use Rattle.kob_policy_review.specs.Below.{is_met_on, place_on, yes_at};
 ghost use Rattle.kob_policy_review.specs.Sharing.{all_yes, allows_some, first_of, is_opened};
 ghost use Rattle.kob_policy_review.specs.Sharing.{names_below, some_yes};
 
 use crate::class::{Target, copied_target, is_met, is_on};
 use crate::finder::Finder;
-use crate::sides::is_nothing;
+use crate::sides::{is_nothing, some_met};
 use crate::targets::{at_prefix, target_of, targets_below};
 use kob_authorizer::Authorizer;
 use kob_names::{Binding, Operation, Permission, ResourceKind, Text};
@@ -24,18 +22,6 @@ pub struct Place {
     opened: bool,
 }
 
-fn is_met_on(
-    target: &Target,
-    permission: Permission,
-    host: &Option<Text>,
-    operation: Operation,
-    entry: &(u64, Binding),
-) -> bool
-    ensures { result ≡ is_met_on target.now permission host.now operation entry.now }
-{
-    is_on(target, entry) && is_met(permission, host, operation, entry)
-}
-
 fn some_met_on(
     target: &Target,
     permission: Permission,
@@ -45,7 +31,7 @@ fn some_met_on(
 ) -> bool
     ensures { result ≡ list_any (is_met_on target.now permission host.now operation) asking.now }
 {
-    asking.iter().any(|entry| is_met_on(target, permission, host, operation, entry))
+    asking.iter().any(|entry| is_on(target, entry) && is_met(permission, host, operation, entry))
 }
 
 fn yes_at(
@@ -84,21 +70,6 @@ pub fn first_of(alloc: Global, first: &Target, entry: &(u64, Binding)) -> Result
     }
 }
 
-fn is_denied_first(
-    alloc: Global,
-    first: &Target,
-    host: &Option<Text>,
-    operation: Operation,
-    asking: &[(u64, Binding)],
-    entry: &(u64, Binding),
-) -> Result<bool, AllocError>
-    ensures { IfOk result (λ denied. denied ≡ list_any
-        (is_met_on (first_of first.now entry.now) Deny host.now operation) asking.now) }
-{
-    let target = first_of(alloc, first, entry)?;
-    Ok(some_met_on(&target, Permission::Deny, host, operation, asking))
-}
-
 fn allows_some(
     alloc: Global,
     first: &Target,
@@ -113,7 +84,8 @@ fn allows_some(
     if !is_met(Permission::Allow, host, operation, entry) {
         return Ok(false);
     }
-    Ok(!is_denied_first(alloc, first, host, operation, asking, entry)?)
+    let target = first_of(alloc, first, entry)?;
+    Ok(!some_met_on(&target, Permission::Deny, host, operation, asking))
 }
 
 fn one_allows(
@@ -132,14 +104,6 @@ fn one_allows(
         }
     }
     Ok(false)
-}
-
-fn some_met(asking: &[(u64, Binding)], host: &Option<Text>, operation: Operation) -> bool
-    ensures { result ≡ list_any (is_met Deny host.now operation) asking.now }
-{
-    asking
-        .iter()
-        .any(|entry| is_met(Permission::Deny, host, operation, entry))
 }
 
 /// The names below a prefix: those that a prefixed pattern of it takes first, all, and whether some
@@ -187,7 +151,7 @@ impl NamesBelow {
     ) -> bool
         ensures { result ≡ all_yes self.now asking.now host.now operation }
     {
-        !some_met(asking, host, operation)
+        !some_met(asking, Permission::Deny, host, operation)
             && (some_met_on(&self.first, Permission::Allow, host, operation, asking)
                 || on_each(asking, host, operation, self.places.as_slice()))
     }
@@ -204,14 +168,6 @@ fn is_opened(alloc: Global, rules: &Finder<'_>, target: &Target) -> Result<bool,
     Ok(is_nothing(matching.as_slice()))
 }
 
-fn place_on(alloc: Global, rules: &Finder<'_>, target: &Target) -> Result<Place, AllocError>
-    ensures { IfOk result (λ made. made ≡ place_on rules.now target.now) }
-{
-    let opened = is_opened(alloc, rules, target)?;
-    let target = copied_target(alloc, target)?;
-    Ok(Place { target, opened })
-}
-
 /// The targets, with whether each is open to everyone.
 fn places_on(
     alloc: Global,
@@ -222,36 +178,17 @@ fn places_on(
 {
     let mut made = Vec::new(alloc);
     for target in targets {
-        made.push(place_on(alloc, rules, target)?)?;
+        let opened = is_opened(alloc, rules, target)?;
+        let target = copied_target(alloc, target)?;
+        made.push(Place { target, opened })?;
     }
     Ok(made)
-}
-
-fn is_open(place: &Place) -> bool
-    ensures { result ≡ is_opened place.now }
-{
-    place.opened
 }
 
 fn some_open(places: &[Place]) -> bool
     ensures { result ≡ list_any is_opened places.now }
 {
-    places.iter().any(|place| is_open(place))
-}
-
-/// The names that begin with the prefix, as a set of rules distinguishes them.
-fn places_below(
-    alloc: Global,
-    rules: &Authorizer,
-    resource: ResourceKind,
-    prefix: &Text,
-) -> Result<Vec<Place>, AllocError>
-    ensures { IfOk result (λ made. made.items ≡ map (place_on rules.now.contents)
-        (targets_below rules.now.contents.entries resource prefix.now)) }
-{
-    let targets = targets_below(alloc, rules.entries(), resource, prefix)?;
-    let finder = Finder::of(alloc, rules)?;
-    places_on(alloc, &finder, targets.as_slice())
+    places.iter().any(|place| place.opened)
 }
 
 /// The names that begin with the prefix.
@@ -264,7 +201,9 @@ pub fn names_below(
     ensures { IfOk result (λ made. made ≡ names_below rules.now.contents resource prefix.now) }
 {
     let first = at_prefix(alloc, resource, prefix)?;
-    let places = places_below(alloc, rules, resource, prefix)?;
+    let targets = targets_below(alloc, rules.entries(), resource, prefix)?;
+    let finder = Finder::of(alloc, rules)?;
+    let places = places_on(alloc, &finder, targets.as_slice())?;
     let opened = some_open(places.as_slice());
     Ok(NamesBelow {
         first,

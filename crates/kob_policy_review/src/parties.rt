@@ -1,8 +1,7 @@
 //! Parties, each once.
 
 ghost use Rattle.std.specs.Prelude.{◌≡◌, ◌∷◌, [], IfOk, None, OnOk, fold};
-ghost use Rattle.std.specs.List.{list_any};
-ghost use Rattle.kob_policy_review.specs.Classes.{is_party, principals_named, with_party, with_principal};
+ghost use Rattle.kob_policy_review.specs.Classes.{principals_named, with_party, with_principal};
 ghost use Rattle.kob_policy_review.specs.Finding.{is_held};
 
 use kob_names::{Binding, Text};
@@ -44,17 +43,11 @@ impl Parties {
         Ok(Parties { made, keys })
     }
 
-    fn knows(&self, text: &str) -> bool
-        ensures { result ≡ list_any (is_party text.now) self.now }
-    {
-        is_held(&self.keys, text)
-    }
-
     /// Puts the party last, unless it is there.
     fn add(&mut self, alloc: Global, text: &str) -> Result<(), AllocError>
         ensures { OnOk result (self.new ≡ with_party self.old text.now) }
     {
-        if self.knows(text) {
+        if is_held(&self.keys, text) {
             return Ok(());
         }
         let copy = Text::copied(alloc, text)?;
@@ -87,19 +80,6 @@ impl Parties {
         Ok(())
     }
 
-    fn add_both(
-        &mut self,
-        alloc: Global,
-        some: &[(u64, Binding)],
-        others: &[(u64, Binding)],
-    ) -> Result<(), AllocError>
-        ensures { OnOk result (self.new
-            ≡ fold with_principal (fold with_principal self.old some.now) others.now) }
-    {
-        self.add_principals(alloc, some)?;
-        self.add_principals(alloc, others)
-    }
-
     fn into_vec(self) -> Vec<Option<Text>>
         ensures { result.items ≡ self }
     {
@@ -124,7 +104,8 @@ pub fn principals_of_both(
         made.items ≡ fold with_principal (principals_named some.now) others.now) }
 {
     let mut made = Parties::others(alloc)?;
-    made.add_both(alloc, some, others)?;
+    made.add_principals(alloc, some)?;
+    made.add_principals(alloc, others)?;
     Ok(made.into_vec())
 }
 

@@ -1,13 +1,11 @@
 //! Bindings without which, each taken alone, no answer at all changes.
 
-ghost use Rattle.std.specs.Prelude.{◌≡◌, ◌==◌, ◌||◌, ◌++◌, ◌∷◌, [], IfOk, OnOk, ℕ, filter, map, nat_eq, not};
-ghost use Rattle.std.specs.Prelude.{if◌then◌else◌};
+ghost use Rattle.std.specs.Prelude.{◌≡◌, ◌==◌, IfOk, ℕ, filter, map, nat_eq};
 ghost use Rattle.kob_policy_review.specs.Classes.{is_on};
 ghost use Rattle.std.specs.List.{list_any};
-ghost use Rattle.kob_names.specs.Binding.{reaches};
 ghost use Rattle.std.specs.HashSet.{contains};
 ghost use Rattle.kob_policy_review.specs.Redundancy.{ListsUnused, around, bears_on_all, binds_all};
-ghost use Rattle.kob_policy_review.specs.Redundancy.{first_wider, is_outside, is_wider, reaches_all};
+ghost use Rattle.kob_policy_review.specs.Redundancy.{first_wider, is_outside, reaches_all};
 ghost use Rattle.kob_policy_review.specs.Redundancy.{reason_by, reason_of, takes_all};
 ghost use Rattle.kob_policy_review.specs.Redundancy.{unused_entry, unused_in};
 
@@ -17,7 +15,7 @@ use crate::matching::OPERATIONS;
 use crate::needed::needed;
 use crate::supers::is_super;
 use kob_authorizer::Authorizer;
-use kob_names::{Binding, Draft, Operation, Pattern, PatternKind, Permission, PlainValue};
+use kob_names::{Binding, Draft, Pattern, PatternKind, Permission, PlainValue};
 use std::alloc::{AllocError, Global};
 use std::collections::HashSet;
 
@@ -64,20 +62,13 @@ fn binds_all(all: &str, wide: &str, narrow: &str) -> bool
     wide == narrow || wide == all
 }
 
-fn reaches_too(wide: &Draft, narrow: &Draft, operation: Operation) -> bool
-    ensures { result ≡ (not (reaches narrow.now.permission narrow.now.operation operation)
-        || reaches wide.now.permission wide.now.operation operation) }
-{
-    !narrow.permission.reaches(narrow.operation, operation)
-        || wide.permission.reaches(wide.operation, operation)
-}
-
 fn reaches_all(wide: &Draft, narrow: &Draft) -> bool
     ensures { result ≡ reaches_all wide.now narrow.now }
 {
-    OPERATIONS
-        .iter()
-        .all(|operation| reaches_too(wide, narrow, *operation))
+    OPERATIONS.iter().all(|operation| {
+        !narrow.permission.reaches(narrow.operation, *operation)
+            || wide.permission.reaches(wide.operation, *operation)
+    })
 }
 
 /// Whether a binding bears on all that another one does.
@@ -91,14 +82,6 @@ fn bears_on_all(wide: &Draft, narrow: &Draft) -> bool
         && reaches_all(wide, narrow)
 }
 
-fn is_wider(permission: Permission, narrow: &(u64, Binding), wide: &(u64, Binding)) -> bool
-    ensures { result ≡ is_wider permission narrow.now wide.now }
-{
-    wide.0 != narrow.0
-        && wide.1.parts().permission == permission
-        && bears_on_all(wide.1.parts(), narrow.1.parts())
-}
-
 fn first_wider(
     entries: &[(u64, Binding)],
     permission: Permission,
@@ -106,9 +89,11 @@ fn first_wider(
 ) -> Option<u64>
     ensures { result ≡ first_wider entries.now permission narrow.now }
 {
-    let wider = entries
-        .iter()
-        .find(|entry| is_wider(permission, narrow, entry))?;
+    let wider = entries.iter().find(|wide| {
+        wide.0 != narrow.0
+            && wide.1.parts().permission == permission
+            && bears_on_all(wide.1.parts(), narrow.1.parts())
+    })?;
     Some(wider.0)
 }
 
@@ -169,33 +154,6 @@ pub fn set_of(alloc: Global, serials: &[u64]) -> Result<HashSet<u64>, AllocError
     Ok(set)
 }
 
-fn is_unneeded(set: &HashSet<u64>, entry: &(u64, Binding)) -> bool
-    ensures { result ≡ not (contains nat_eq set.now entry.now.0) }
-{
-    !set.contains(&entry.0)
-}
-
-fn push_outside(
-    alloc: Global,
-    found: &mut Vec<Unneeded>,
-    finder: &Finder<'_>,
-    set: &HashSet<u64>,
-    entry: &(u64, Binding),
-) -> Result<(), AllocError>
-    ensures { OnOk result (found.new.items ≡ found.old.items
-        ++ (if is_outside (contains nat_eq set.now) entry.now
-        then unused_entry finder.now entry.now ∷ [] else [])) }
-{
-    if is_unneeded(set, entry) {
-        let reason = reason_of(alloc, finder, entry)?;
-        found.push(Unneeded {
-            serial: entry.0,
-            reason,
-        })?;
-    }
-    Ok(())
-}
-
 /// Those whose serials are not in the set.
 #[tactic(auto, using(crate::proofs::Widening::outside_more))]
 fn outside(
@@ -209,7 +167,13 @@ fn outside(
 {
     let mut found = Vec::new(alloc);
     for entry in entries {
-        push_outside(alloc, &mut found, finder, set, entry)?;
+        if !set.contains(&entry.0) {
+            let reason = reason_of(alloc, finder, entry)?;
+            found.push(Unneeded {
+                serial: entry.0,
+                reason,
+            })?;
+        }
     }
     Ok(found)
 }

@@ -1,10 +1,9 @@
 //! Bindings that may go together: no answer at all changes without all of them.
 
-ghost use Rattle.std.specs.Prelude.{◌≡◌, ◌==◌, Contains, IfOk, OnOk, filter};
+ghost use Rattle.std.specs.Prelude.{◌≡◌, ◌==◌, IfOk, filter};
 ghost use Rattle.std.specs.List.{list_any};
 ghost use Rattle.kob_policy_review.specs.Redundancy.{is_outside};
 ghost use Rattle.kob_policy_review.specs.Removal.{ListsRemovable, concerned, is_among, is_needed_in, removable_in};
-ghost use Rattle.kob_policy_review.specs.Removal.{with_removable};
 
 use crate::gone::Gone;
 use crate::needed::push_needed_by;
@@ -72,24 +71,8 @@ pub fn is_needed_among(
     is_needed_in(alloc, rules, left.as_slice(), entry)
 }
 
-/// Puts a binding to the set, if no answer changes without it and the set.
-#[tactic(auto, unfolding(crate::specs::Removal::with_removable))]
-fn push_removable(
-    alloc: Global,
-    gone: &mut Gone,
-    sites: &Sites<'_>,
-    entry: &(u64, Binding),
-) -> Result<(), AllocError>
-    requires { Contains sites.now.entries entry.now }
-    ensures { OnOk result (gone.new ≡ with_removable sites.now gone.old entry.now) }
-{
-    if !sites.is_needed(alloc, gone, entry)? {
-        gone.push(entry.0)?;
-    }
-    Ok(())
-}
-
-#[tactic(auto, using(std::proofs::lemmas::List::Sums::fold_more))]
+/// The bindings that may go together, as they join.
+#[tactic(auto, using(std::proofs::lemmas::List::Sums::fold_more), unfolding(crate::specs::Removal::with_removable))]
 fn all_removable(
     alloc: Global,
     sites: &Sites<'_>,
@@ -100,7 +83,9 @@ fn all_removable(
 {
     let mut gone = Gone::new(alloc);
     for entry in entries {
-        push_removable(alloc, &mut gone, sites, entry)?;
+        if !sites.is_needed(alloc, &gone, entry)? {
+            gone.push(entry.0)?;
+        }
     }
     Ok(gone)
 }

@@ -4,7 +4,7 @@ ghost use Rattle.std.specs.Prelude.{◌≡◌, IfOk, not};
 ghost use Rattle.std.specs.List.{list_any};
 ghost use Rattle.kob_authorizer.specs.Index.{AreRising};
 ghost use Rattle.kob_policy_review.specs.Classes.{is_met};
-ghost use Rattle.kob_policy_review.specs.Difference.{asked_by, hosts_in, outcome_of, outcome_to};
+ghost use Rattle.kob_policy_review.specs.Difference.{asked_by, hosts_in, outcome_to};
 ghost use Rattle.kob_policy_review.specs.Difference.{principals_in, sides_on, some_in, yes_to};
 
 use crate::askers::Askers;
@@ -94,7 +94,11 @@ impl Sides {
     {
         let before = yes_to(self.open_before, self.before.as_slice(), host, operation);
         let after = yes_to(self.open_after, self.after.as_slice(), host, operation);
-        outcome_of(before, after)
+        match (before, after) {
+            (false, true) => Outcome::Gained,
+            (true, false) => Outcome::Lost,
+            _ => Outcome::Same,
+        }
     }
 }
 
@@ -152,17 +156,8 @@ impl<'a> Asked<'a> {
     }
 }
 
-fn outcome_of(before: bool, after: bool) -> Outcome
-    ensures { result ≡ outcome_of before after }
-{
-    match (before, after) {
-        (false, true) => Outcome::Gained,
-        (true, false) => Outcome::Lost,
-        _ => Outcome::Same,
-    }
-}
-
-fn some_met(
+/// Whether one of the entries is met.
+pub fn some_met(
     asking: &[(u64, Binding)],
     permission: Permission,
     host: &Option<Text>,

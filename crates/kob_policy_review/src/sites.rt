@@ -121,20 +121,7 @@ fn is_needed_at_one(
     Ok(false)
 }
 
-#[tactic(auto, unfolding(crate::specs::Sites::with_place))]
-fn add_place(
-    alloc: Global,
-    places: &mut PrefixTree,
-    place: u64,
-    entry: &(u64, Binding),
-) -> Result<(), AllocError>
-    ensures { OnOk result (places.new ≡ with_place place places.old entry.now) }
-{
-    let key = entry.0.to_be_bytes();
-    places.add(alloc, key.as_slice(), PatternKind::Literal, place)
-}
-
-#[tactic(auto, using(std::proofs::lemmas::List::Sums::fold_more))]
+#[tactic(auto, using(std::proofs::lemmas::List::Sums::fold_more), unfolding(crate::specs::Sites::with_place))]
 fn add_places(
     alloc: Global,
     places: &mut PrefixTree,
@@ -144,7 +131,8 @@ fn add_places(
     ensures { OnOk result (places.new ≡ fold (with_place place) places.old matching.now) }
 {
     for entry in matching {
-        add_place(alloc, places, place, entry)?;
+        let key = entry.0.to_be_bytes();
+        places.add(alloc, key.as_slice(), PatternKind::Literal, place)?;
     }
     Ok(())
 }

@@ -89,53 +89,33 @@ impl Targets {
         self.push(alloc, target)
     }
 
-    #[tactic(auto, unfolding(crate::specs::Classes::with_target_of))]
-    fn add_target_of(&mut self, alloc: Global, entry: &(u64, Binding)) -> Result<(), AllocError>
-        ensures { OnOk result (self.new ≡ with_target_of self.old entry.now) }
-    {
-        self.add(alloc, target_of(alloc, entry)?)
-    }
-
     /// Adds the names that the bindings' patterns take first.
-    #[tactic(auto, using(std::proofs::lemmas::List::Sums::fold_more))]
+    #[tactic(auto, using(std::proofs::lemmas::List::Sums::fold_more), unfolding(crate::specs::Classes::with_target_of))]
     pub fn add_all(&mut self, alloc: Global, entries: &[(u64, Binding)]) -> Result<(), AllocError>
         ensures { OnOk result (self.new ≡ fold with_target_of self.old entries.now) }
     {
         for entry in entries {
-            self.add_target_of(alloc, entry)?;
+            self.add(alloc, target_of(alloc, entry)?)?;
         }
         Ok(())
     }
 
+    /// Puts the names of a kind that no pattern takes.
     fn push_others(&mut self, alloc: Global, resource: ResourceKind) -> Result<(), AllocError>
         ensures { OnOk result (self.new ≡ self.old ++ others_on resource ∷ []) }
     {
-        let target = others_on(alloc, resource)?;
-        self.push(alloc, target)
-    }
-
-    fn push_cluster(&mut self, alloc: Global) -> Result<(), AllocError>
-        ensures { OnOk result (self.new ≡ self.old ++ the_cluster ∷ []) }
-    {
-        let target = the_cluster(alloc)?;
-        self.push(alloc, target)
-    }
-
-    #[tactic(auto, using(std::proofs::Common::append_assoc))]
-    fn push_open(&mut self, alloc: Global) -> Result<(), AllocError>
-        ensures { OnOk result (self.new ≡ self.old ++ open_targets) }
-    {
-        self.push_others(alloc, ResourceKind::Topic)?;
-        self.push_others(alloc, ResourceKind::Group)?;
-        self.push_cluster(alloc)?;
-        self.push_others(alloc, ResourceKind::TransactionalId)
+        let names = Names::Below(Text::copied(alloc, "")?);
+        self.push(alloc, Target { resource, names })
     }
 
     fn open(alloc: Global) -> Result<Targets, AllocError>
         ensures { IfOk result (λ made. made ≡ open_targets) }
     {
         let mut made = Targets::new(alloc);
-        made.push_open(alloc)?;
+        made.push_others(alloc, ResourceKind::Topic)?;
+        made.push_others(alloc, ResourceKind::Group)?;
+        made.push(alloc, the_cluster(alloc)?)?;
+        made.push_others(alloc, ResourceKind::TransactionalId)?;
         Ok(made)
     }
 
@@ -146,21 +126,6 @@ impl Targets {
         let mut made = Targets::open(alloc)?;
         made.add_all(alloc, entries)?;
         Ok(made)
-    }
-
-    fn add_around(
-        &mut self,
-        alloc: Global,
-        entries: &[(u64, Binding)],
-        resource: ResourceKind,
-        prefix: &Text,
-    ) -> Result<(), AllocError>
-        ensures { OnOk result (self.new ≡ fold with_target_of
-            (with_target self.old (at_prefix resource prefix.now)) entries.now) }
-    {
-        let target = at_prefix(alloc, resource, prefix)?;
-        self.add(alloc, target)?;
-        self.add_all(alloc, entries)
     }
 
     /// The names that a set of rules and one more prefix distinguish, each once.
@@ -174,7 +139,8 @@ impl Targets {
             (with_target open_targets (at_prefix resource prefix.now)) entries.now) }
     {
         let mut made = Targets::open(alloc)?;
-        made.add_around(alloc, entries, resource, prefix)?;
+        made.add(alloc, at_prefix(alloc, resource, prefix)?)?;
+        made.add_all(alloc, entries)?;
         Ok(made)
     }
 
@@ -206,14 +172,6 @@ fn names_by(alloc: Global, pattern: &Pattern) -> Result<Names, AllocError>
             }
         }
     }
-}
-
-/// The names of a kind that no pattern takes.
-fn others_on(alloc: Global, resource: ResourceKind) -> Result<Target, AllocError>
-    ensures { IfOk result (λ made. made ≡ others_on resource) }
-{
-    let names = Names::Below(Text::copied(alloc, "")?);
-    Ok(Target { resource, names })
 }
 
 /// The cluster, by its one name.
