@@ -100,12 +100,6 @@ request_form command = form_in request_forms command
 abbrev pub form_of_step : List ℕ → Option (List ℕ)
 form_of_step name = option_or (form_in service_forms name) (form_in consumer_forms name)
 
--- of any step of such a worker
-abbrev pub steps_form : WorkerKind → List ℕ
-steps_form Service =
-    codes "a step of a service: record, tick, run, restart, sweep, outbox or business; with visible late also visible"
-steps_form Consumer = codes "a step of a consumer: tick, run, restart or inbox"
-
 -- a request has the form of its question without the first word
 abbrev pub without_may : List ℕ → List ℕ
 without_may form = if starts_with nat_eq form (codes "may ") then drop 4 form else form
@@ -126,7 +120,9 @@ request_or_step words =
 
 -- of a line whose second word is no step of the worker that it begins with, if it has this kind
 abbrev pub form_of : Option WorkerKind → List (List ℕ) → List ℕ
-form_of (Some kind) words = steps_form kind
+form_of (Some Service) words =
+    codes "a step of a service: record, tick, run, restart, sweep, outbox or business; with visible late also visible"
+form_of (Some Consumer) words = codes "a step of a consumer: tick, run, restart or inbox"
 form_of None words = unwrap_or (form_in line_forms (word_at words 0)) (request_or_step words)
 
 unfoldable pub law_form : List ℕ

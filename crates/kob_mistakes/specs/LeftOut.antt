@@ -23,15 +23,11 @@ abbrev pub lacks_payload : List ℕ → List (List ℕ) → Bool
 lacks_payload line words =
     length words == 9 && word_is words 1 (codes "record") && not (has 123 line)
 
--- `reads` or a partition, behind which partitions stand
-abbrev pub is_before_partition : List ℕ → Bool
-is_before_partition word = bytes_eq word (codes "reads") || has 58 word
-
--- a word without a colon in place of a partition
+-- a word without a colon in place of a partition: behind `reads`, or behind a partition
 abbrev pub lacks_partition : List (List ℕ) → ℕ → Bool
 lacks_partition words place =
     word_is words 0 (codes "consumer") && nat_lt 8 place && not (has 58 (word_at words place))
-    && is_before_partition (word_at words (place - 1))
+    && (word_is words (place - 1) (codes "reads") || has 58 (word_at words (place - 1)))
 
 -- by a line, its words, and the place of its fault
 abbrev pub left_out : List ℕ → List (List ℕ) → ℕ → Option LeftOut

@@ -55,14 +55,11 @@ abbrev pub is_half : List ℕ → Bool
 is_half word =
     not (count_of 123 word == count_of 125 word) || count_of 34 word % 2 == 1
 
--- a record of too many words
-abbrev pub is_long_record : List (List ℕ) → Bool
-is_long_record words = word_is words 1 (codes "record") && nat_lt 10 (length words)
-
--- its first half is named
+-- of a record of too many words its first half is named
 abbrev pub half_place : List (List ℕ) → SceneFaultKind → Option ℕ
 half_place words kind =
-    if same_kind kind (Script fault.BadLine) && is_long_record words
+    if same_kind kind (Script fault.BadLine) && word_is words 1 (codes "record")
+    && nat_lt 10 (length words)
     then line_where is_half 0 words else None
 
 -- a line of the wrong shape that begins with no word of its own, no principal, and no worker

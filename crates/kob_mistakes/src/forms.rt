@@ -2,12 +2,11 @@
 
 ghost use Rattle.std.specs.Prelude.{◌≡◌, map, option_map};
 ghost use Rattle.std.specs.List.{list_any};
-ghost use Rattle.std.specs.Option.{is_some};
 ghost use Rattle.std.specs.Str.{bytes_eq};
 ghost use Rattle.kob_mistakes.specs.Commands.{is_command};
 ghost use Rattle.kob_mistakes.specs.Forms.{consumer_forms, form_in, form_of, form_of_step, line_forms};
 ghost use Rattle.kob_mistakes.specs.Forms.{request_form, request_forms, request_line_form};
-ghost use Rattle.kob_mistakes.specs.Forms.{request_or_step, service_forms, steps_form, without_may};
+ghost use Rattle.kob_mistakes.specs.Forms.{request_or_step, service_forms};
 
 use crate::words::word_at;
 use crate::worker::WorkerKind;
@@ -150,72 +149,29 @@ pub(crate) fn request_form(command: &[u8]) -> Option<&'static str>
 
 /// The form of a setting, a declaration, or a line that prints, by the word that it begins with.
 #[tactic(auto, unfolding(crate::specs::Forms::line_forms))]
-fn keyword_form(word: &[u8]) -> Option<&'static str>
+pub(crate) fn keyword_form(word: &[u8]) -> Option<&'static str>
     ensures { option_map (λ form. form.now) result ≡ form_in line_forms word.now }
 {
     form_in(&LINES, word)
 }
 
-/// Whether a word begins a setting, a declaration, or a line that prints.
-pub(crate) fn is_keyword(word: &[u8]) -> bool
-    ensures { result ≡ is_some (form_in line_forms word.now) }
-{
-    keyword_form(word).is_some()
-}
-
-/// Whether a word is the name of a step.
-pub(crate) fn is_step(word: &[u8]) -> bool
-    ensures { result ≡ is_some (form_of_step word.now) }
-{
-    form_of_step(word).is_some()
-}
-
-#[tactic(auto, unfolding(crate::specs::Forms::service_forms))]
-fn service_form(name: &[u8]) -> Option<&'static str>
-    ensures { option_map (λ form. form.now) result ≡ form_in service_forms name.now }
-{
-    form_in(&SERVICE_STEPS, name)
-}
-
-#[tactic(auto, unfolding(crate::specs::Forms::consumer_forms))]
-fn consumer_form(name: &[u8]) -> Option<&'static str>
-    ensures { option_map (λ form. form.now) result ≡ form_in consumer_forms name.now }
-{
-    form_in(&CONSUMER_STEPS, name)
-}
-
 /// The form of a line whose step has this name, if there is such a step.
-fn form_of_step(name: &[u8]) -> Option<&'static str>
+#[tactic(auto, unfolding(crate::specs::Forms::service_forms, crate::specs::Forms::consumer_forms))]
+pub(crate) fn form_of_step(name: &[u8]) -> Option<&'static str>
     ensures { option_map (λ form. form.now) result ≡ form_of_step name.now }
 {
-    match service_form(name) {
+    match form_in(&SERVICE_STEPS, name) {
         Some(form) => Some(form),
-        None => consumer_form(name),
+        None => form_in(&CONSUMER_STEPS, name),
     }
 }
 
-/// The form of any step of such a worker.
-fn steps_form(kind: WorkerKind) -> &'static str
-    ensures { result.now ≡ steps_form kind }
-{
-    match kind {
-        WorkerKind::Service =>
-            "a step of a service: record, tick, run, restart, sweep, outbox or business; with visible late also visible",
-        WorkerKind::Consumer => "a step of a consumer: tick, run, restart or inbox",
-    }
-}
-
-fn without_may(form: &'static str) -> &'static str
-    ensures { result.now ≡ without_may form.now }
-{
-    form.strip_prefix("may ").unwrap_or(form)
-}
-
+/// The form of a request, which is that of its question without `may`.
 fn request_line_form(command: &[u8]) -> &'static str
     ensures { result.now ≡ request_line_form command.now }
 {
     match request_form(command) {
-        Some(form) => without_may(form),
+        Some(form) => form.strip_prefix("may ").unwrap_or(form),
         None => "PRINCIPAL HOST COMMAND ..",
     }
 }
@@ -239,7 +195,9 @@ pub(crate) fn form_of(words: &[&[u8]], stepping: Option<WorkerKind>) -> &'static
     ensures { result.now ≡ form_of stepping (map (λ word. word.now) words.now) }
 {
     match stepping {
-        Some(kind) => steps_form(kind),
+        Some(WorkerKind::Service) =>
+            "a step of a service: record, tick, run, restart, sweep, outbox or business; with visible late also visible",
+        Some(WorkerKind::Consumer) => "a step of a consumer: tick, run, restart or inbox",
         None => match keyword_form(word_at(words, 0)) {
             Some(form) => form,
             None => request_or_step(words),

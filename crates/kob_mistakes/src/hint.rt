@@ -2,19 +2,10 @@
 
 ghost use Rattle.std.specs.Prelude.{◌≡◌, option_map};
 ghost use Rattle.kob_mistakes.specs.Hints.{begins_so, hint_on, hint_on_beginning};
-ghost use Rattle.kob_mistakes.specs.Hints.{hint_on_bytes_of, is_list, is_utf_16};
+ghost use Rattle.kob_mistakes.specs.Hints.{is_utf_16};
 
 use crate::quotes::{Unread, unread_in};
 use bstr::ByteSlice;
-
-/// A hint on a list that can't be read as UTF-8, if it has a mark of UTF-16, which is read elsewhere.
-pub(crate) fn hint_on_bytes(text: &[u8]) -> Option<&'static str> {
-    if is_utf_16(text, b"") {
-        Some("the text is UTF-16 with an odd number of bytes, or with an unpaired surrogate")
-    } else {
-        None
-    }
-}
 
 fn begins_so(text: &[u8], line: &[u8], beginning: &[u8]) -> bool
     ensures { result ≡ begins_so text.now line.now beginning.now }
@@ -22,16 +13,11 @@ fn begins_so(text: &[u8], line: &[u8], beginning: &[u8]) -> bool
     text.starts_with(beginning) || line.starts_with(beginning)
 }
 
-fn is_utf_16(text: &[u8], line: &[u8]) -> bool
+/// Whether a text, or a line of it, begins with a mark of UTF-16.
+pub(crate) fn is_utf_16(text: &[u8], line: &[u8]) -> bool
     ensures { result ≡ is_utf_16 text.now line.now }
 {
     begins_so(text, line, b"\xff\xfe") || begins_so(text, line, b"\xfe\xff")
-}
-
-fn is_list(text: &[u8], line: &[u8]) -> bool
-    ensures { result ≡ is_list text.now line.now }
-{
-    begins_so(text, line, b"Current ACLs for") || begins_so(text, line, b"ACLs for principal")
 }
 
 /// A hint on a text that is not what is asked for, by its first bytes or those of a line.
@@ -42,7 +28,9 @@ fn hint_on_beginning(text: &[u8], line: &[u8]) -> Option<&'static str>
         Some("the text begins with a byte order mark: write it as UTF-8 without one")
     } else if is_utf_16(text, line) {
         Some("the text is UTF-16: write it as UTF-8")
-    } else if is_list(text, line) {
+    } else if begins_so(text, line, b"Current ACLs for")
+        || begins_so(text, line, b"ACLs for principal")
+    {
         Some("this is a list of bindings: kob policy answers questions about it")
     } else if begins_so(text, line, b"kafka-acls") {
         Some(
@@ -71,16 +59,9 @@ pub(crate) fn hint_on_question(text: &[u8], line: &[u8]) -> Option<&'static str>
 pub fn hint_on(text: &[u8], line: &[u8], words: usize) -> Option<&'static str>
     ensures { option_map (λ hint. hint.now) result ≡ hint_on text.now line.now words }
 {
-    match hint_on_beginning(text, line) {
-        Some(hint) => Some(hint),
-        None => hint_on_bytes_of(line, words),
+    if let Some(hint) = hint_on_beginning(text, line) {
+        return Some(hint);
     }
-}
-
-/// A blank in JSON, which cuts a word in two, or quotes.
-fn hint_on_bytes_of(line: &[u8], words: usize) -> Option<&'static str>
-    ensures { option_map (λ hint. hint.now) result ≡ hint_on_bytes_of line.now words }
-{
     if line.contains(&b'{') && words > 10 {
         Some("a blank inside a word is written %20, as in {\"total\":%2010}")
     } else if !line.contains(&b'{') && (line.contains(&b'\'') || line.contains(&b'"')) {

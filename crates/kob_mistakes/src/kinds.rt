@@ -1,11 +1,10 @@
 //! The kinds of questions, and which one a word may mean.
 
 ghost use Rattle.std.specs.Prelude.{◌≡◌, IfOk, bytes_eq, find, map, option_copied};
-ghost use Rattle.kob_mistakes.specs.Kinds.{begins_question, is_alone, kind_called, kind_form, kind_name};
-ghost use Rattle.kob_mistakes.specs.Kinds.{kind_named, kinds, meant_by, nearest_kind};
+ghost use Rattle.kob_mistakes.specs.Kinds.{begins_question, is_alone, kind_form, kind_name};
+ghost use Rattle.kob_mistakes.specs.Kinds.{kind_named, kinds, meant_by};
 
 use crate::spelling::nearest;
-use kob_names::Text;
 use std::alloc::{AllocError, Global};
 
 /// A kind of question, by the word that it begins with.
@@ -131,26 +130,13 @@ pub fn meant_by(alloc: Global, word: &str, is_missing: bool) -> Result<Meant, Al
     if !is_missing {
         return Ok(Meant::File);
     }
-    match nearest_kind(alloc, word)? {
+    let names = kind_names();
+    let Some(name) = nearest(alloc, word, names.as_slice())? else {
+        return Ok(Meant::File);
+    };
+    match kind_named(name.as_str().as_bytes()) {
         Some(kind) => Ok(Meant::Misspelt(kind)),
         None => Ok(Meant::File),
-    }
-}
-
-fn nearest_kind(alloc: Global, word: &str) -> Result<Option<Kind>, AllocError>
-    ensures { IfOk result (λ kind. kind ≡ nearest_kind word.now) }
-{
-    let names = kind_names();
-    let name = nearest(alloc, word, names.as_slice())?;
-    Ok(kind_called(&name))
-}
-
-fn kind_called(name: &Option<Text>) -> Option<Kind>
-    ensures { result ≡ kind_called name.now }
-{
-    match name {
-        Some(name) => kind_named(name.as_str().as_bytes()),
-        None => None,
     }
 }
 

@@ -1,7 +1,7 @@
 //! Words that are left out of a line of a scene, known by what is in their places.
 
 ghost use Rattle.std.specs.Prelude.{◌≡◌, map};
-ghost use Rattle.kob_mistakes.specs.LeftOut.{is_before_partition, lacks_askers_host};
+ghost use Rattle.kob_mistakes.specs.LeftOut.{lacks_askers_host};
 ghost use Rattle.kob_mistakes.specs.LeftOut.{lacks_partition, lacks_payload, lacks_workers_host};
 ghost use Rattle.kob_mistakes.specs.LeftOut.{left_out, left_out_text, place_of_left_out};
 
@@ -83,17 +83,12 @@ fn lacks_payload(line: &[u8], words: &[&[u8]]) -> bool
     words.len() == 9 && word_is(words, 1, b"record") && !line.contains(&b'{')
 }
 
-fn is_before_partition(word: &[u8]) -> bool
-    ensures { result ≡ is_before_partition word.now }
-{
-    word == b"reads".as_slice() || word.contains(&b':')
-}
-
+/// Whether a word without a colon stands behind `reads`, or behind a partition.
 fn lacks_partition(words: &[&[u8]], place: usize) -> bool
     ensures { result ≡ lacks_partition (map (λ word. word.now) words.now) place }
 {
     word_is(words, 0, b"consumer")
         && place > 8
         && !word_at(words, place).contains(&b':')
-        && is_before_partition(word_at(words, place - 1))
+        && (word_is(words, place - 1, b"reads") || word_at(words, place - 1).contains(&b':'))
 }

@@ -1,7 +1,7 @@
 //! Where a line of a list of bindings is wrong.
 
-use crate::forms::{is_command, is_step};
-use crate::hint::hint_on_bytes;
+use crate::forms::{form_of_step, is_command};
+use crate::hint::is_utf_16;
 use crate::option::option_place;
 use crate::worker::declared_by;
 use bstr::ByteSlice;
@@ -71,25 +71,28 @@ fn has_unknown_value(word: &[u8]) -> bool {
     }
 }
 
-/// A hint on a line that is not one of a list, but one of a scene.
+/// A hint on a line that is not one of a list, but one of a scene, or on a list that can't be read as
+/// UTF-8, if it has a mark of UTF-16, which is read elsewhere.
 pub(crate) fn hint_on_list(text: &[u8], words: &[&[u8]]) -> Option<&'static str> {
     if is_of_scene(words) {
         Some("this looks like a scene: kob play plays it")
+    } else if is_utf_16(text, b"") {
+        Some("the text is UTF-16 with an odd number of bytes, or with an unpaired surrogate")
     } else {
-        hint_on_bytes(text)
+        None
     }
 }
 
-/// Whether a line looks like a declaration, a step of a worker, or a request that lists do not have.
+/// Whether a line looks like a declaration, a step of a worker, or a request other than those that
+/// lists may have.
 fn is_of_scene(words: &[&[u8]]) -> bool {
     match words {
-        [who, _, command, ..] if who.contains(&b':') => is_played(command),
-        [first, second, ..] => declared_by(first).is_some() || is_step(second),
+        [who, _, command, ..] if who.contains(&b':') => {
+            is_command(command)
+                && *command != b"create-acl".as_slice()
+                && *command != b"acl".as_slice()
+        }
+        [first, second, ..] => declared_by(first).is_some() || form_of_step(second).is_some(),
         _ => false,
     }
-}
-
-/// Whether a word is the name of a command other than those that lists may have.
-fn is_played(command: &[u8]) -> bool {
-    is_command(command) && command != b"create-acl".as_slice() && command != b"acl".as_slice()
 }

@@ -5,15 +5,15 @@ ghost use Rattle.kob_scene_text.specs.Misuses.{misuse_at};
 ghost use Rattle.kob_script.specs.Script.{line_words};
 ghost use Rattle.kob_script.specs.Words.{raw_words, words_of};
 ghost use Rattle.kob_mistakes.specs.Places.{begins_with_nothing, count_of, half_place, is_half};
-ghost use Rattle.kob_mistakes.specs.Places.{is_long_record, place_by, place_named, place_of};
+ghost use Rattle.kob_mistakes.specs.Places.{place_by, place_named, place_of};
 ghost use Rattle.kob_scene_text.specs.Places.{same_kind};
 ghost use Rattle.kob_mistakes.specs.Forms.{form_by};
 ghost use Rattle.kob_mistakes.specs.Lines.{line_of, line_where, lines_before};
 ghost use Rattle.kob_mistakes.specs.Mistakes.{form_at, hint_at, hint_named, nearest_on, place_at};
-ghost use Rattle.kob_mistakes.specs.Names.{name_declared, name_on, nearest_at, text_of, words_at};
-ghost use Rattle.kob_mistakes.specs.Names.{worker_names, workers_at};
+ghost use Rattle.kob_mistakes.specs.Names.{name_on, nearest_at, text_of};
+ghost use Rattle.kob_mistakes.specs.Names.{worker_names};
 
-use crate::forms::{LAW_FORM, form_of, is_keyword};
+use crate::forms::{LAW_FORM, form_of, keyword_form};
 use crate::hint::hint_on;
 use crate::left_out::{LeftOut, left_out};
 use crate::names::push_names;
@@ -211,7 +211,7 @@ fn begins_with_nothing(
         (map (λ word. word.now) words.now) kind) }
 {
     let first = word_at(words, 0);
-    if !is_bad_line(kind) || is_keyword(first) || first.contains(&b':') {
+    if !is_bad_line(kind) || keyword_form(first).is_some() || first.contains(&b':') {
         return Ok(false);
     }
     let worker = kind_named(alloc, before, first)?;
@@ -220,21 +220,15 @@ fn begins_with_nothing(
 
 /// A blank in JSON or in a quoted text cuts a word of a record in two. The first half is then the
 /// word that is named, not the one too many.
+#[tactic(auto, using(crate::proofs::Walking::lent_length))]
 fn half_place(words: &[&[u8]], kind: SceneFaultKind) -> Option<usize>
     ensures { result ≡ half_place (map (λ word. word.now) words.now) kind }
 {
-    if is_bad_line(kind) && is_long_record(words) {
+    if is_bad_line(kind) && word_is(words, 1, b"record") && words.len() > 10 {
         first_half(words)
     } else {
         None
     }
-}
-
-#[tactic(auto, using(crate::proofs::Walking::lent_length))]
-fn is_long_record(words: &[&[u8]]) -> bool
-    ensures { result ≡ is_long_record (map (λ word. word.now) words.now) }
-{
-    word_is(words, 1, b"record") && words.len() > 10
 }
 
 #[tactic(auto, using(crate::proofs::Walking::goes_on, crate::proofs::Walking::stops, crate::proofs::Walking::ends))]
@@ -279,8 +273,12 @@ fn nearest_at(
         return Ok(None);
     };
     let mut names = Vec::new(alloc);
-    push_workers(alloc, &mut names, lines, kind, place)?;
-    push_words(&mut names, words, kind, place, stepping)?;
+    if place == 0 || is_unknown_worker(kind) {
+        push_declared(alloc, &mut names, lines)?;
+    }
+    if !is_unknown_worker(kind) {
+        push_names(&mut names, words, place, stepping)?;
+    }
     Ok(unless_same(nearest(alloc, word, &names)?, word))
 }
 
@@ -305,42 +303,6 @@ fn is_unknown_worker(kind: SceneFaultKind) -> bool
     }
 }
 
-fn push_words<'a>(
-    names: &mut Vec<&'a str>,
-    words: &[&[u8]],
-    kind: SceneFaultKind,
-    place: usize,
-    stepping: Option<WorkerKind>,
-) -> Result<(), AllocError>
-    ensures { OnOk result (map (λ name. name.now) names.new.items
-        ≡ map (λ name. name.now) names.old.items
-        ++ words_at stepping (map (λ word. word.now) words.now) kind place) }
-{
-    if is_unknown_worker(kind) {
-        Ok(())
-    } else {
-        push_names(names, words, place, stepping)
-    }
-}
-
-fn push_workers<'a>(
-    alloc: Global,
-    names: &mut Vec<&'a str>,
-    lines: &[&'a [u8]],
-    kind: SceneFaultKind,
-    place: usize,
-) -> Result<(), AllocError>
-    ensures { OnOk result (map (λ name. name.now) names.new.items
-        ≡ map (λ name. name.now) names.old.items
-        ++ workers_at (map (λ line. line.now) lines.now) kind place) }
-{
-    if place == 0 || is_unknown_worker(kind) {
-        push_declared(alloc, names, lines)
-    } else {
-        Ok(())
-    }
-}
-
 /// Appends the names of the workers that lines declare.
 fn push_declared<'a>(
     alloc: Global,
@@ -352,21 +314,11 @@ fn push_declared<'a>(
 {
     for line in lines {
         let words = raw_words(alloc, line)?;
-        push_name(names, &words)?;
-    }
-    Ok(())
-}
-
-fn push_name<'a>(names: &mut Vec<&'a str>, words: &[&'a [u8]]) -> Result<(), AllocError>
-    ensures { OnOk result (map (λ name. name.now) names.new.items
-        ≡ map (λ name. name.now) names.old.items
-        ++ name_declared (map (λ word. word.now) words.now)) }
-{
-    if declared_by(word_at(words, 0)).is_none() {
-        return Ok(());
-    }
-    if let Some(name) = text_at(words, 1) {
-        names.push(name)?;
+        if declared_by(word_at(&words, 0)).is_some() {
+            if let Some(name) = text_at(&words, 1) {
+                names.push(name)?;
+            }
+        }
     }
     Ok(())
 }

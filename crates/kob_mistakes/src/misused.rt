@@ -8,33 +8,6 @@ use kob_scene_text::Misuse;
 use std::alloc::AllocError;
 
 #[tactic(auto, using(kob_words::proofs::Appending::appending))]
-fn push_behind(out: &mut Vec<u8>, word: &[u8], what: &[u8]) -> Result<(), AllocError>
-    ensures { OnOk result (out.new.items ≡ out.old.items ++ (word.now ++ what.now)) }
-{
-    out.extend_from_slice(word)?;
-    out.extend_from_slice(what)
-}
-
-#[tactic(auto, using(kob_words::proofs::Appending::appending))]
-fn push_consumer_step(out: &mut Vec<u8>, word: &[u8], worker: &[u8]) -> Result<(), AllocError>
-    ensures { OnOk result (out.new.items
-        ≡ out.old.items ++ misused_text Misuse.ConsumerStep word.now worker.now) }
-{
-    out.extend_from_slice(word)?;
-    out.extend_from_slice(b" is a step of a consumer, and ")?;
-    push_behind(out, worker, b" is a service")
-}
-
-#[tactic(auto, using(kob_words::proofs::Appending::appending))]
-fn push_service_step(out: &mut Vec<u8>, word: &[u8], worker: &[u8]) -> Result<(), AllocError>
-    ensures { OnOk result (out.new.items
-        ≡ out.old.items ++ misused_text Misuse.ServiceStep word.now worker.now) }
-{
-    out.extend_from_slice(word)?;
-    out.extend_from_slice(b" is a step of a service, and ")?;
-    push_behind(out, worker, b" is a consumer")
-}
-
 fn push_misuse(
     out: &mut Vec<u8>,
     misuse: Misuse,
@@ -44,11 +17,20 @@ fn push_misuse(
     ensures { OnOk result
         (out.new.items ≡ out.old.items ++ misused_text misuse word.now worker.now) }
 {
+    out.extend_from_slice(word)?;
     match misuse {
-        Misuse::ServiceName => push_behind(out, word, b" is a service, not a consumer"),
-        Misuse::ConsumerName => push_behind(out, word, b" is a consumer, not a service"),
-        Misuse::ServiceStep => push_service_step(out, word, worker),
-        Misuse::ConsumerStep => push_consumer_step(out, word, worker),
+        Misuse::ServiceName => out.extend_from_slice(b" is a service, not a consumer"),
+        Misuse::ConsumerName => out.extend_from_slice(b" is a consumer, not a service"),
+        Misuse::ServiceStep => {
+            out.extend_from_slice(b" is a step of a service, and ")?;
+            out.extend_from_slice(worker)?;
+            out.extend_from_slice(b" is a consumer")
+        }
+        Misuse::ConsumerStep => {
+            out.extend_from_slice(b" is a step of a consumer, and ")?;
+            out.extend_from_slice(worker)?;
+            out.extend_from_slice(b" is a service")
+        }
     }
 }
 

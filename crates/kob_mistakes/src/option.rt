@@ -3,9 +3,9 @@
 ghost use Rattle.std.specs.Prelude.{◌≡◌, ◌<◌, ◌^◌, ◌==◌, IfOk, IfSome, drop, false, length, map, option_map};
 ghost use Rattle.std.specs.List.{position};
 ghost use Rattle.std.specs.Result.{is_ok};
-ghost use Rattle.kob_mistakes.specs.Options.{decoded_at, given_of, is_free, is_valid, is_valid_text, is_value, is_whole, misnamed};
+ghost use Rattle.kob_mistakes.specs.Options.{decoded_at, given_of, is_valid, is_value, is_whole, misnamed};
 ghost use Rattle.kob_mistakes.specs.Options.{misnamed_at, misplaced, name_of, option_place};
-ghost use Rattle.kob_mistakes.specs.Options.{place_among, stands_alone, taken_after, takes_next, takes_value};
+ghost use Rattle.kob_mistakes.specs.Options.{place_among, taken_after, takes_next};
 ghost use Rattle.kob_mistakes.specs.Options.{unless_valid, value_in, value_of};
 ghost use Rattle.kob_script.specs.Words.{host_of, principal_of};
 
@@ -149,12 +149,6 @@ fn takes_next(kind: Value, is_given: bool) -> bool
     }
 }
 
-fn stands_alone(word: &[u8]) -> bool
-    ensures { result ≡ stands_alone word.now }
-{
-    is_whole(value_of(name_of(word)), given_of(word).is_some())
-}
-
 /// Whether a word can be the value of the option before it: it does not begin with `-`, but for `-`.
 fn is_value(word: Option<&[u8]>) -> bool
     ensures { result ≡ is_value (option_map (λ word. word.now) word.entry) }
@@ -165,20 +159,16 @@ fn is_value(word: Option<&[u8]>) -> bool
     }
 }
 
-fn takes_value(word: &[u8], next: Option<&[u8]>) -> bool
-    ensures { result ≡ takes_value word.now (option_map (λ word. word.now) next.entry) }
-{
-    takes_next(value_of(name_of(word)), given_of(word).is_some()) && is_value(next)
-}
-
 /// Whether the next word is the value of an option; None if a word is no option, nor such a value.
 #[tactic(auto, unfolding(crate::specs::Options::taken_after))]
 fn taken_after(is_taken: bool, word: &[u8], next: Option<&[u8]>) -> Option<bool>
     ensures { result ≡ taken_after is_taken word.now (option_map (λ word. word.now) next.entry) }
 {
-    if is_taken || stands_alone(word) {
+    let kind = value_of(name_of(word));
+    let is_given = given_of(word).is_some();
+    if is_taken || is_whole(kind, is_given) {
         Some(false)
-    } else if takes_value(word, next) {
+    } else if takes_next(kind, is_given) && is_value(next) {
         Some(true)
     } else {
         None
@@ -262,30 +252,13 @@ fn unless_valid(
     }
 }
 
+#[tactic(auto, unfolding(crate::specs::Options::is_free, crate::specs::Options::is_valid_text))]
 fn is_valid(alloc: Global, kind: Value, value: &[u8]) -> Result<bool, AllocError>
     ensures { IfOk result (λ is. is ≡ is_valid kind value.now) }
 {
-    match as_text(value) {
-        Some(text) => is_valid_text(alloc, kind, text),
-        None => Ok(is_free(kind)),
-    }
-}
-
-/// Whether any bytes are a value.
-#[tactic(auto, unfolding(crate::specs::Options::is_free))]
-fn is_free(kind: Value) -> bool
-    ensures { result ≡ is_free kind }
-{
-    match kind {
-        Value::Unknown | Value::Flag => true,
-        Value::Principal | Value::Host | Value::Operation | Value::Pattern | Value::Any => false,
-    }
-}
-
-#[tactic(auto, unfolding(crate::specs::Options::is_valid_text))]
-fn is_valid_text(alloc: Global, kind: Value, text: &str) -> Result<bool, AllocError>
-    ensures { IfOk result (λ is. is ≡ is_valid_text kind text.now) }
-{
+    let Some(text) = as_text(value) else {
+        return Ok(matches!(kind, Value::Unknown | Value::Flag));
+    };
     match kind {
         Value::Principal => is_principal(alloc, text),
         Value::Host => is_host(alloc, text),

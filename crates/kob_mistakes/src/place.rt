@@ -1,7 +1,7 @@
 //! The place of the word that a fault of a scene is about.
 
 ghost use Rattle.std.specs.Prelude.{◌≡◌, IfOk, map};
-ghost use Rattle.kob_mistakes.specs.Places.{whole_place, word_place};
+ghost use Rattle.kob_mistakes.specs.Places.{word_place};
 
 use crate::option::option_place;
 use kob_scene_text::{SceneFaultKind, fault_place};
@@ -21,16 +21,9 @@ pub fn word_place(
     ensures { IfOk result (λ place. place
         ≡ word_place (map (λ line. line.now) before.now) kind words.now) }
 {
-    match fault_place(alloc, before, words, kind)? {
-        Some(place) => Ok(place),
-        None => whole_place(alloc, words, kind),
+    if let Some(place) = fault_place(alloc, before, words, kind)? {
+        return Ok(place);
     }
-}
-
-/// The word that is named where a fault is one of the whole line.
-fn whole_place(alloc: Global, words: &[Word<'_>], kind: SceneFaultKind) -> Result<usize, AllocError>
-    ensures { IfOk result (λ place. place ≡ whole_place kind words.now) }
-{
     match kind {
         SceneFaultKind::Script(
             kind @ (FaultKind::Usage
