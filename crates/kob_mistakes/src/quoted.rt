@@ -3,7 +3,7 @@
 ghost use Rattle.std.specs.Prelude.{◌≡◌, IfOk, find, map, option_map};
 ghost use Rattle.kob_mistakes.specs.Lines.{line_where};
 ghost use Rattle.kob_mistakes.specs.Quoted.{is_asker, is_between, is_quoted};
-ghost use Rattle.kob_mistakes.specs.Quoted.{is_with_quotes, quoted_among, quoted_behind, quoted_name};
+ghost use Rattle.kob_mistakes.specs.Quoted.{is_with_quotes, quoted_among, quoted_name};
 
 use crate::words::{line_at, lines_of, raw_words, word_at};
 use std::alloc::{AllocError, Global};
@@ -46,23 +46,16 @@ fn quoted_among<'a>(words: &[&'a [u8]]) -> Option<&'a [u8]>
         ≡ quoted_among (map (λ word. word.now) words.now) }
 {
     match words {
-        [principal, _, command, first, rest @ ..] if is_asker(principal) => quoted_behind(
-            command, first, rest,
-        ),
+        [principal, _, command, first, rest @ ..] if is_asker(principal) => {
+            if is_quoted(first) {
+                Some(first)
+            } else if *command == b"acl".as_slice() {
+                first_quoted(rest)
+            } else {
+                None
+            }
+        }
         _ => None,
-    }
-}
-
-fn quoted_behind<'a>(command: &[u8], first: &'a [u8], rest: &[&'a [u8]]) -> Option<&'a [u8]>
-    ensures { option_map (λ word. word.now) result
-        ≡ quoted_behind command.now first.now (map (λ word. word.now) rest.now) }
-{
-    if is_quoted(first) {
-        Some(first)
-    } else if command == b"acl".as_slice() {
-        first_quoted(rest)
-    } else {
-        None
     }
 }
 

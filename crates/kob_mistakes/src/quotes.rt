@@ -2,8 +2,7 @@
 
 ghost use Rattle.std.specs.Prelude.{◌≡◌, ◌≤◌, ◌++◌, IfOk, OnOk, length, map};
 ghost use Rattle.std.specs.List.{slice_range};
-ghost use Rattle.kob_mistakes.specs.Quotes.{after, double_after, is_plain, plain_after};
-ghost use Rattle.kob_mistakes.specs.Quotes.{quoted_words, with_word};
+ghost use Rattle.kob_mistakes.specs.Quotes.{after, is_plain, quoted_words, with_word};
 
 use crate::words::is_blank;
 use kob_script::{LineError, Word};
@@ -24,8 +23,17 @@ impl Quoting {
         ensures { result ≡ after self byte }
     {
         match self {
-            Quoting::Plain => plain_after(byte),
-            Quoting::Double => double_after(byte),
+            Quoting::Plain => match byte {
+                b'\'' => Quoting::Single,
+                b'"' => Quoting::Double,
+                b'\\' => Quoting::Escaped,
+                _ => Quoting::Plain,
+            },
+            Quoting::Double => match byte {
+                b'\\' => Quoting::DoubleEscaped,
+                b'"' => Quoting::Plain,
+                _ => Quoting::Double,
+            },
             Quoting::Single if byte == b'\'' => Quoting::Plain,
             Quoting::Single => Quoting::Single,
             Quoting::Escaped => Quoting::Plain,
@@ -50,32 +58,6 @@ impl Quoting {
     /// Whether a shell would replace what a byte begins here.
     fn replaces(self, byte: u8) -> bool {
         matches!(self, Quoting::Plain | Quoting::Double) && matches!(byte, b'$' | b'`')
-    }
-}
-
-fn plain_after(byte: u8) -> Quoting
-    ensures { result ≡ plain_after byte }
-{
-    if byte == b'\'' {
-        Quoting::Single
-    } else if byte == b'"' {
-        Quoting::Double
-    } else if byte == b'\\' {
-        Quoting::Escaped
-    } else {
-        Quoting::Plain
-    }
-}
-
-fn double_after(byte: u8) -> Quoting
-    ensures { result ≡ double_after byte }
-{
-    if byte == b'\\' {
-        Quoting::DoubleEscaped
-    } else if byte == b'"' {
-        Quoting::Plain
-    } else {
-        Quoting::Double
     }
 }
 

@@ -5,8 +5,7 @@ ghost use Rattle.std.specs.List.{list_any};
 ghost use Rattle.std.specs.Option.{option_map};
 ghost use Rattle.kob_mistakes.specs.Lines.{line_where};
 ghost use Rattle.kob_mistakes.specs.Records.{are_of_variant, are_with_state, before_ending, doubtful_line};
-ghost use Rattle.kob_mistakes.specs.Records.{ending_hint, hint_on_record, lacks_before_ending};
-ghost use Rattle.kob_mistakes.specs.Records.{missing_at, missing_before};
+ghost use Rattle.kob_mistakes.specs.Records.{ending_hint, hint_on_record, missing_at};
 ghost use Rattle.kob_mistakes.specs.Records.{doubtful_state, ending_named, ending_word};
 ghost use Rattle.kob_mistakes.specs.Records.{is_of_variant, is_with_state, variant_word, word_is};
 
@@ -66,23 +65,18 @@ fn ending_named(word: &[u8]) -> Option<Ending>
 
 /// The place of the word that is wrong, if it is one of a record. Where the last words are missing,
 /// it is the place of a word that stands behind the state, in place of the end.
+#[tactic(auto, using(crate::proofs::Walking::lent_length))]
 pub(crate) fn before_ending(words: &[&[u8]], place: usize) -> usize
     ensures { result ≡ before_ending (map (λ word. word.now) words.now) place }
 {
-    if lacks_before_ending(words, place) {
+    if word_is(words, 1, b"record")
+        && place == words.len()
+        && ending_named(word_at(words, place.saturating_sub(1))).is_some()
+    {
         place.saturating_sub(1)
     } else {
         place
     }
-}
-
-#[tactic(auto, using(crate::proofs::Walking::lent_length))]
-fn lacks_before_ending(words: &[&[u8]], place: usize) -> bool
-    ensures { result ≡ lacks_before_ending (map (λ word. word.now) words.now) place }
-{
-    word_is(words, 1, b"record")
-        && place == words.len()
-        && ending_named(word_at(words, place.saturating_sub(1))).is_some()
 }
 
 /// A hint on the place of a record that is wrong: what is missing there, or which service may have
@@ -96,7 +90,10 @@ pub(crate) fn hint_on_record(words: &[&[u8]], place: usize) -> Option<&'static s
         return None;
     }
     match words.get(place) {
-        Some(word) => missing_before(word, missing_at(place)),
+        Some(word) => match ending_named(word) {
+            Some(ending) => missing_at(place).or(Some(ending.hint())),
+            None => None,
+        },
         None => missing_at(place),
     }
 }
@@ -115,16 +112,6 @@ fn missing_at(place: usize) -> Option<&'static str>
         8 => Some("KEY is missing here"),
         9 => Some("STATE is missing here"),
         _ => None,
-    }
-}
-
-fn missing_before(word: &[u8], missing: Option<&'static str>) -> Option<&'static str>
-    ensures { option_map (λ text. text.now) result
-        ≡ missing_before (ending_named word.now) (option_map (λ text. text.now) missing.entry) }
-{
-    match ending_named(word) {
-        Some(ending) => missing.or(Some(ending.hint())),
-        None => None,
     }
 }
 

@@ -3,8 +3,7 @@
 ghost use Rattle.std.specs.Prelude.{◌≡◌, ◌≤◌, IfOk, length};
 ghost use Rattle.std.specs.Result.{is_ok};
 ghost use Rattle.kob_script.specs.Words.{named_host, named_principal};
-ghost use Rattle.kob_mistakes.specs.Rows.{fits, is_answer, is_how, is_listed, is_many_named};
-ghost use Rattle.kob_mistakes.specs.Rows.{is_host, is_operation, is_resource, misfit};
+ghost use Rattle.kob_mistakes.specs.Rows.{fits, is_host, is_listed, is_many_named, misfit};
 
 use kob_names::ResourceKind;
 use kob_script::{LineError, Word, host_of, lent_text_of, principal_of};
@@ -60,42 +59,19 @@ pub(crate) fn misfit(alloc: Global, row: &[Fit], words: &[Word<'_>]) -> Result<u
 fn fits(alloc: Global, fit: Fit, word: &Word<'_>) -> Result<bool, AllocError>
     ensures { IfOk result (λ is. is ≡ fits fit word.now) }
 {
+    let name = word.decoded();
     match fit {
         Fit::Act | Fit::Topic | Fit::Group | Fit::Name | Fit::Id => Ok(true),
-        Fit::Prefix => Ok(word.decoded() == b"prefix".as_slice()),
+        Fit::Prefix => Ok(name == b"prefix".as_slice()),
         Fit::Principal => is_principal(alloc, word),
         Fit::Host => is_host(alloc, word),
-        Fit::Operation => Ok(is_operation(word.decoded())),
-        Fit::Resource => Ok(is_resource(word.decoded())),
-        Fit::ManyNamed => Ok(is_many_named(word.decoded())),
-        Fit::Answer => Ok(is_answer(word.decoded())),
-        Fit::May => Ok(word.decoded() == b"may".as_slice()),
-        Fit::How => Ok(is_how(word.decoded())),
+        Fit::Operation => Ok(operation_named(name).is_some() || is_listed(name)),
+        Fit::Resource => Ok(resource_named(name).is_some() || is_listed(name)),
+        Fit::ManyNamed => Ok(is_many_named(name)),
+        Fit::Answer => Ok(name == b"yes".as_slice() || name == b"no".as_slice()),
+        Fit::May => Ok(name == b"may".as_slice()),
+        Fit::How => Ok(name == b"idempotent".as_slice() || name == b"transactional".as_slice()),
     }
-}
-
-fn is_operation(name: &[u8]) -> bool
-    ensures { result ≡ is_operation name.now }
-{
-    operation_named(name).is_some() || is_listed(name)
-}
-
-fn is_resource(name: &[u8]) -> bool
-    ensures { result ≡ is_resource name.now }
-{
-    resource_named(name).is_some() || is_listed(name)
-}
-
-fn is_answer(word: &[u8]) -> bool
-    ensures { result ≡ is_answer word.now }
-{
-    word == b"yes".as_slice() || word == b"no".as_slice()
-}
-
-fn is_how(word: &[u8]) -> bool
-    ensures { result ≡ is_how word.now }
-{
-    word == b"idempotent".as_slice() || word == b"transactional".as_slice()
 }
 
 fn is_principal(alloc: Global, word: &Word<'_>) -> Result<bool, AllocError>

@@ -3,7 +3,7 @@
 ghost use Rattle.std.specs.Prelude.{◌≡◌, IfOk, OnOk, fold, map};
 ghost use Rattle.std.specs.Char.{to_ascii_lowercase};
 ghost use Rattle.std.specs.String.{string_bytes};
-ghost use Rattle.kob_mistakes.specs.Spelling.{changes_to, distance, is_compared, nearest};
+ghost use Rattle.kob_mistakes.specs.Spelling.{changes_to, is_compared, nearest};
 ghost use Rattle.kob_mistakes.specs.Spelling.{none_near, unless_same, with_nearer};
 
 use kob_names::Text;
@@ -23,18 +23,12 @@ fn lowered(alloc: Global, text: &str) -> Result<String, AllocError>
 }
 
 #[tactic(auto, unfolding(crate::specs::Spelling::distance))]
-fn distance(alloc: Global, word: &str, other: &str) -> Result<usize, AllocError>
-    ensures { IfOk result (λ changes. changes ≡ distance word.now other.now) }
-{
-    osa_distance(alloc, word, other)
-}
-
 fn changes_to(alloc: Global, word: &str, name: &str) -> Result<usize, AllocError>
     ensures { IfOk result (λ changes. changes ≡ changes_to word.now name.now) }
 {
     let word = lowered(alloc, word)?;
     let name = lowered(alloc, name)?;
-    distance(alloc, word.as_str(), name.as_str())
+    osa_distance(alloc, word.as_str(), name.as_str())
 }
 
 /// The nearest of some names, and how many changes it needs; without one, the fewest changes that
