@@ -37,8 +37,6 @@ fn copies_a_call(rt: &impl Abort, alloc: Global) {
     };
     let copy = call.copy(alloc).expect(rt, COPY);
     let is_same = copy.request.same(&call.request) && copy.heard.same(&call.heard);
-    drop(copy);
-    drop(call);
     assert!(rt; is_same);
 }
 

@@ -188,20 +188,17 @@ fn are_judged(
 fn reaches<R: Abort + Threads + Wait + Sync>(rt: &R, alloc: Global) {
     let mut elsewhere = other_side(rt, alloc);
     let event = event_of(rt, alloc, CREATE_ORDERS);
-    drop(answered(rt, alloc, &mut elsewhere, 0, event));
+    let _ = answered(rt, alloc, &mut elsewhere, 0, event);
     let sent = sent(rt, alloc, &mut elsewhere);
     let taken = taken(rt, alloc, &mut elsewhere);
     are_judged(rt, alloc, &elsewhere.entries, &sent, &taken);
-    drop(elsewhere);
-    drop(sent);
-    drop(taken);
 }
 
 /// The calls of a line that asks for a producer id and then for the groups.
 fn calls_over<R: Wait>(alloc: Global, remote: Remote<'_, R>) -> Vec<Call> {
     let mut line = Connection::new(alloc, remote);
-    drop(line.send(alloc, Request::InitProducerId));
-    drop(line.send(alloc, Request::ListGroups));
+    let _ = line.send(alloc, Request::InitProducerId);
+    let _ = line.send(alloc, Request::ListGroups);
     line.into_calls()
 }
 
@@ -226,7 +223,6 @@ fn calls<R: Abort + Threads + Wait + Sync>(rt: &R, alloc: Global) {
     let calls = calls_of(rt, alloc, &mut elsewhere);
     assert_eq!(rt; calls.iter().filter(|call| call.heard.is_some()).count(), 2);
     let journal = journal_of(rt, alloc, &elsewhere.entries);
-    drop(elsewhere);
     let part = Part { worker: 7, calls };
     assert_eq!(rt; is_served(alloc, &journal, &part), Ok(true));
 }

@@ -59,7 +59,6 @@ fn serve_at_once<R: Abort + Threads + Wait + Sync>(rt: &R, alloc: Global, worker
     let scripts = scripts_of(rt, alloc, METADATA, workers, 2);
     let end = run(rt, alloc, Vec::new(alloc), Vec::new(alloc), scripts, &gate);
     assert!(rt; tells_two_each(&end, workers));
-    drop(end);
     assert!(rt; gate.all_came());
 }
 
@@ -101,7 +100,6 @@ fn two_hundred_produces(rt: HostRuntime) {
     for told in end.transcripts.iter().skip(1) {
         note(&rt, told, &mut seen);
     }
-    drop(end);
     assert!(rt; !seen.contains(&false));
     assert_eq!(rt; gate.calls(), 202);
 }
@@ -124,9 +122,7 @@ fn too_many_workers_or_entries(rt: HostRuntime) {
     let gate = Holding::at(&[], 0);
     let many = refusal(&rt, rt.alloc(), (65, 1), &gate);
     assert!(rt; matches!(&many, FleetFault::TooManyWorkers));
-    drop(many);
     let long = refusal(&rt, rt.alloc(), (1, 1_000_001), &gate);
     assert!(rt; matches!(&long, FleetFault::JournalFull));
-    drop(long);
     assert_eq!(rt; gate.calls(), 0);
 }

@@ -11,9 +11,7 @@ use std::process::Abort;
 /// Whether the reply to a call of a line is received.
 fn is_heard<L: Line>(alloc: Global, line: &mut L) -> bool {
     let delivery = line.send(alloc, Request::InitProducerId);
-    let is_heard = matches!(&delivery, Delivery::Delivered(_));
-    drop(delivery);
-    is_heard
+    matches!(&delivery, Delivery::Delivered(_))
 }
 
 /// Two of three calls over a journal for two entries are served, where the second is none of the
@@ -24,7 +22,7 @@ fn fills(rt: &impl Abort, alloc: Global, recorded: &mut Recorded) {
     let mut line = RecordedLine::open(alloc, recorded, 7, principal, host);
     let first = is_heard(alloc, &mut line);
     let second = line.server.call(alloc, Request::InitProducerId);
-    drop(second.expect(rt, "a reply"));
+    let _ = second.expect(rt, "a reply");
     let before = line.calls.fault;
     let third = is_heard(alloc, &mut line);
     let (after, unmade) = (line.calls.fault, line.unmade_calls());
@@ -41,5 +39,4 @@ fn a_full_journal_is_named(rt: HostRuntime) {
     fills(&rt, rt.alloc(), &mut recorded);
     let workers = recorded.journal().iter().map(|entry| entry.worker);
     assert!(rt; workers.eq([7, 7]));
-    drop(recorded);
 }

@@ -34,7 +34,7 @@ fn start_again<L: Line>(rt: &impl Abort, alloc: Global, outbox: &mut Outbox, lin
     refuse_from_here(alloc);
     router.restart();
     drop(router);
-    drop(Router::new(alloc, other, 1_000));
+    let _ = Router::new(alloc, other, 1_000);
     assert!(rt; (moved, idle) == (Came::On, Came::Idle));
     assert!(rt; are_first_two(line.made_calls()) && line.unmade_calls() == 0);
 }
@@ -47,8 +47,6 @@ fn a_router_starts_again(rt: HostRuntime) {
     let mut line = line_to(&rt, alloc, &mut broker);
     start_again(&rt, alloc, &mut outbox, &mut line);
     drop(line);
-    drop(broker);
-    drop(outbox);
 }
 
 /// Whether exactly these calls were made: for a position, and for records.
@@ -72,7 +70,7 @@ fn begin_again<L: Line>(rt: &impl Abort, alloc: Global, inbox: &mut Inbox, line:
     refuse_from_here(alloc);
     consumer.restart();
     drop(consumer);
-    drop(Consumer::new(alloc, other.group, other.assignment, 10));
+    let _ = Consumer::new(alloc, other.group, other.assignment, 10);
     assert!(rt; (placed, idle) == (Came::On, Came::Idle));
     assert!(rt; asked_and_fetched(line.made_calls()) && line.unmade_calls() == 0);
 }
@@ -85,6 +83,4 @@ fn a_consumer_begins_again(rt: HostRuntime) {
     let mut line = line_to(&rt, alloc, &mut broker);
     begin_again(&rt, alloc, &mut inbox, &mut line);
     drop(line);
-    drop(broker);
-    drop(inbox);
 }

@@ -40,9 +40,7 @@ fn a_record_goes_round(rt: HostRuntime) {
     let shared = SharedBroker::open(recorded);
     assert_eq!(rt; shared.session(1, principal, host).seen(), 0);
     let (broker, journal) = shared.finish().into_parts();
-    drop(broker);
     assert!(rt; has_one(&journal));
-    drop(journal);
 }
 
 /// Whether one event was noted, at the place 0.
@@ -67,8 +65,6 @@ fn desks_open_and_close(rt: HostRuntime) {
     assert!(rt; desk.len() == 1 && are_of_one(desk.receipts()));
     let notes = desk.close();
     assert!(rt; notes.len() == 1 && notes.events().len() == 1 && are_of_one(notes.receipts()));
-    drop(notes);
-    drop(shared);
 }
 
 /// The laws are called on the end of a plan. A pipeline of a service that sends two events and of a
@@ -88,12 +84,10 @@ fn call_on_end<R: Abort + Threads + Wait + Sync>(rt: &R, alloc: Global, plan: &P
     assert_eq!(rt; end.journal.iter().count(), FIRST_EVENTS + 6);
     assert_eq!(rt; end.first.len(), FIRST_EVENTS);
     assert!(rt; is_marked(&end) && each_begins(&end, 0));
-    drop(end);
 }
 
 #[test]
 fn laws_are_called(rt: HostRuntime) {
     let plan = plan_of_two(&rt, rt.alloc());
     call_on_end(&rt, rt.alloc(), &plan);
-    drop(plan);
 }

@@ -203,8 +203,6 @@ fn play<R: Abort + Threads + Wait + Sync>(rt: &R, alloc: Global, played: Played<
     assert!(rt; breaks_no_premise(&plan, &end), "{name}");
     call_laws(&plan, &end);
     assert!(rt; is_due(alloc, &mut end, played.due), "{name}");
-    drop(end);
-    drop(plan);
     assert!(rt; gate.all_came(), "{name}");
 }
 
@@ -229,9 +227,7 @@ fn refusal<R: Abort + Threads + Wait + Sync>(
         revoked: false,
     };
     let plan = plan(rt, alloc, cast);
-    let ran = run(rt, alloc, &plan, gate);
-    drop(plan);
-    ran.err().expect(rt, "a refusal")
+    run(rt, alloc, &plan, gate).err().expect(rt, "a refusal")
 }
 
 #[test]
@@ -239,9 +235,7 @@ fn too_many_steps(rt: HostRuntime) {
     let gate = Holding::at(&[], 0);
     let long = refusal(&rt, rt.alloc(), &[], &gate);
     assert!(rt; matches!(&long, PipelineFault::JournalFull));
-    drop(long);
     let many = refusal(&rt, rt.alloc(), &["g"; 64], &gate);
     assert!(rt; matches!(&many, PipelineFault::TooManyWorkers));
-    drop(many);
     assert_eq!(rt; gate.calls(), 0);
 }

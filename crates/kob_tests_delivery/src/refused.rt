@@ -128,8 +128,6 @@ fn a_router_makes_up(rt: HostRuntime) {
         None => end(alloc, &mut broker),
         end => end,
     };
-    drop(broker);
-    drop(outbox);
     assert_eq!(rt; end, Some(2));
 }
 
@@ -170,7 +168,6 @@ fn fill(rt: &impl Abort, alloc: Global, broker: &mut Broker) {
     let recorded = record(alloc, &mut outbox, 2, "paid").expect(rt, READY);
     assert_eq!(rt; recorded, 2);
     assert!(rt; sends_all(rt, alloc, &mut outbox, broker));
-    drop(outbox);
 }
 
 /// If any one allocation is refused, the ticks that follow finish the work: two events around a
@@ -182,7 +179,5 @@ fn a_consumer_makes_up(rt: HostRuntime) {
     let mut broker = broker_of_orders(&rt, alloc);
     fill(&rt, alloc, &mut broker);
     assert!(rt; takes_all(&rt, alloc, &mut inbox, &mut broker));
-    drop(broker);
     assert!(rt; has_two(&mut inbox));
-    drop(inbox);
 }

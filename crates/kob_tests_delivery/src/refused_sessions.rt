@@ -60,8 +60,6 @@ fn calls_of_a_session(rt: HostRuntime) {
         assert_eq!(rt; writes(&rt, alloc, &mut root, &request, due), Ok(true));
     }
     assert_eq!(rt; root.seen(), 3);
-    drop(root);
-    drop(shared);
 }
 
 /// Whether two scripts are run to the right end. `None` if memory or a thread was refused.
@@ -69,13 +67,11 @@ fn serves_two<R: Abort + Threads + Wait + Sync>(rt: &R, alloc: Global) -> Option
     let scripts = scripts_of(rt, alloc, METADATA, 2, 2);
     let gate = Holding::at(&[], 0);
     let ended = ended(rt, alloc, Vec::new(alloc), Vec::new(alloc), scripts, &gate);
-    let told = match &ended {
+    match &ended {
         Ok(end) => Some(tells_two_each(end, 2)),
         Err(FleetFault::Stopped(FleetStop::Memory(_) | FleetStop::NotBegun)) => None,
         Err(_) => Some(false),
-    };
-    drop(ended);
-    told
+    }
 }
 
 #[test]
@@ -99,14 +95,11 @@ fn is_whole(alloc: Global, end: &mut PipelineEnd) -> bool {
 fn delivers_two<R: Abort + Threads + Wait + Sync>(rt: &R, alloc: Global) -> Option<bool> {
     let plan = plan_of_two(rt, alloc);
     let mut ran = run(rt, alloc, &plan, &Holding::at(&[], 0));
-    drop(plan);
-    let delivered = match &mut ran {
+    match &mut ran {
         Ok(end) => Some(is_whole(alloc, end)),
         Err(PipelineFault::Stopped(FleetStop::Memory(_) | FleetStop::NotBegun)) => None,
         Err(_) => Some(false),
-    };
-    drop(ran);
-    delivered
+    }
 }
 
 #[test]

@@ -46,7 +46,6 @@ fn send_all<R: Abort + Wait, L: Line>(
         let tick = service.tick(rt, alloc);
         let is_idle = matches!(&tick, Tick::Idle);
         assert!(rt; is_idle || matches!(&tick, Tick::Moved(_)));
-        drop(tick);
         if is_idle && is_last {
             break;
         }
@@ -125,7 +124,5 @@ fn events_are_recorded_while_others_are_sent(rt: HostRuntime) {
     let end = run_over(&rt, alloc, &shared);
     let (mut broker, journal) = shared.finish().into_parts();
     assert!(rt; are_records(alloc, &mut broker, &IDS));
-    drop(broker);
     assert_eq!(rt; is_served(alloc, &journal, end.part()), Ok(true));
-    drop(end);
 }

@@ -19,10 +19,7 @@ impl<'a, R: Wait> Serve for Remote<'a, R> {
     fn serve(&mut self, _alloc: Global, request: Request) -> Result<Option<Reply>, CallFault> {
         match self.requests.send(self.rt, request) {
             Ok(()) => Ok(self.replies.recv(self.rt).ok()),
-            Err(unsent) => {
-                drop(unsent);
-                Ok(None)
-            }
+            Err(_) => Ok(None),
         }
     }
 }

@@ -9,9 +9,7 @@ use std::process::Abort;
 fn entries(rt: &impl Abort, alloc: Global) -> Vec<Entry> {
     let mut elsewhere = recorded(rt, alloc, 2);
     serve_all(rt, alloc, &mut elsewhere, &[(3, CREATE), (5, WRITE)]);
-    let entries = copies(rt, alloc, elsewhere.journal(), 0, 2);
-    drop(elsewhere);
-    entries
+    copies(rt, alloc, elsewhere.journal(), 0, 2)
 }
 
 /// Both entries are replayed by a new broker.
@@ -20,7 +18,6 @@ fn both_are_taken(rt: &impl Abort, alloc: Global, entries: &[Entry]) {
     let replayed = replayed.expect(rt, "both entries");
     let workers = replayed.journal().iter().map(|entry| entry.worker);
     assert!(rt; workers.eq([3, 5]));
-    drop(replayed);
 }
 
 // Two entries, the second of which asks for what the first one made. They don't fit a journal of

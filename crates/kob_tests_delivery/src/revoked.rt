@@ -28,7 +28,6 @@ pub(crate) fn write_allowed(rt: &impl Abort, alloc: Global) -> Vec<Binding> {
         _ => None,
     };
     let binding = Binding::new(alloc, draft.expect(rt, READY)).expect(rt, READY);
-    drop(request);
     vec![in alloc; binding].expect(rt, READY)
 }
 
@@ -107,7 +106,6 @@ fn revoke_before<R: Abort + Threads + Wait + Sync>(rt: &R, alloc: Global, number
     let gate = Holding::at(&holds, 0);
     let end = revoke_at(rt, alloc, &gate);
     assert!(rt; is_revoked(&end, number), "before request {number}");
-    drop(end);
     assert!(rt; gate.all_came(), "before request {number}");
 }
 

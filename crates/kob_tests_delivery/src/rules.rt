@@ -252,5 +252,4 @@ fn premises_are_decided(rt: HostRuntime) {
     rules_hold(&rt, alloc, &recorded, &actors, &names);
     reservations_last(&rt, alloc, &recorded, service, &names);
     in_turn(&rt, alloc, &recorded, &actors, &names);
-    drop(recorded);
 }

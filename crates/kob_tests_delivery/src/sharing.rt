@@ -87,7 +87,6 @@ fn are_shared(
     assert_eq!(rt; found, None);
     let event = repeated(rt, alloc, target, rows.first().expect(rt, "a row"));
     serve(rt, alloc, recorded, 3, &event);
-    drop(event);
     let found = unshared(rt, alloc, recorded, target, rows, assignment);
     assert_eq!(rt; found, Some(1));
     serve_all(rt, alloc, recorded, &[(3, WRITE_ORDERS)]);
@@ -107,5 +106,4 @@ fn shared_topics_are_told(rt: HostRuntime) {
     let rows = outbox(&rt, alloc, 1).after(0, 10).expect(&rt, READY);
     let mut recorded = recorded(&rt, alloc, 10);
     are_shared(&rt, alloc, &mut recorded, &target, &rows, &assignment);
-    drop(recorded);
 }

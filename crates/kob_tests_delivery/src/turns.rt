@@ -183,8 +183,6 @@ fn holds_over<R: Abort + Wait>(rt: &R, alloc: Global, shared: &RotatingBroker) {
     hands_out(rt, alloc, shared, 8, &mut past);
     are_served(rt, alloc, &past, sent.part(), taken.part());
     is_reached(rt, alloc, &past, &sent, &taken);
-    drop(sent);
-    drop(taken);
 }
 
 // The broker's journals have at most three entries each.
@@ -193,5 +191,4 @@ fn events_over_changed_lines_reach_the_inbox_in_turn(rt: HostRuntime) {
     let (_, continued) = recorded(&rt, rt.alloc(), 3).next(rt.alloc());
     let shared = RotatingBroker::open(continued);
     holds_over(&rt, rt.alloc(), &shared);
-    drop(shared);
 }
