@@ -23,5 +23,6 @@ again_decides one other =
 pub again_is_equivalence : IsEquivalence is_again
 again_is_equivalence = decided is_again again_decides
 
-pub hashed_alike : (one other : Binding) → is_again one other ≡ true → hashed_texts one ≡ hashed_texts other
+pub hashed_alike : (one other : Binding) → is_again one other ≡ true
+    → hashed_texts one ≡ hashed_texts other
 hashed_alike one other again = ap hashed_texts ((again_decides one other).0 again)

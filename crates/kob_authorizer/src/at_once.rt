@@ -12,9 +12,9 @@ use kob_names::Binding;
 use kob_prefix_tree::PrefixTree;
 use std::alloc::{AllocError, Global};
 
-/// The bindings to which none in force is equal, each once, and the serials of all bindings in their
-/// order. The new ones get the serials from `next` on. If there are not so many, the serials mean
-/// nothing.
+/// The bindings to which none in force is equal, each once, and the serials of all bindings in
+/// their order. The new ones get the serials from `next` on. If there are not so many, the serials
+/// mean nothing.
 pub fn new_bindings(
     alloc: Global,
     entries: &[(u64, Binding)],

@@ -1,6 +1,6 @@
 //! The new bindings of a creation, before they have serials.
 
-ghost use Rattle.std.specs.Prelude.{[], ◌≡◌, ◌+◌, ◌++◌, ◌<◌, ◌≤◌, ◌∷◌, Some, length, IfOk, OnOk};
+ghost use Rattle.std.specs.Prelude.{[], ◌≡◌, ◌+◌, ◌<◌, ◌≤◌, ◌∷◌, Some, length, IfOk, OnOk};
 ghost use Rattle.std.specs.List.{enumerate_from};
 ghost use Rattle.kob_authorizer.specs.Creation.{serial_limit, serial_of, with_new};
 
