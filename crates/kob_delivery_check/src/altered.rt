@@ -4,11 +4,10 @@ ghost use Rattle.std.specs.Prelude.{◌≡◌, ℕ, List, IfOk, map, nat_eq, rev
 ghost use Rattle.std.specs.HashMap.{get};
 ghost use Rattle.std.specs.Option.{option_copied};
 ghost use Rattle.kob_delivery_check.specs.Altered.{altered_row, event_with, is_altered};
-ghost use Rattle.kob_delivery_check.specs.Altered.{is_altered_from, is_copy, is_key};
+ghost use Rattle.kob_delivery_check.specs.Altered.{is_copy};
 ghost use Rattle.kob_outbox.specs.declared.event.OutboxEvent.{OutboxEvent};
 
 use kob_inbox::InboxRow;
-use kob_names::Bytes;
 use kob_outbox::OutboxEvent;
 use std::alloc::{AllocError, Global};
 use std::collections::HashMap;
@@ -40,7 +39,10 @@ pub(crate) fn is_altered(recorded: &HashMap<u128, &OutboxEvent>, row: &InboxRow)
         → ((id : ℕ) → option_copied (get nat_eq recorded.now id) ≡ event_with id (reverse events))
         → result ≡ is_altered events row.now }
 {
-    is_altered_from(recorded.get(&row.id.as_u128()).copied(), row)
+    match recorded.get(&row.id.as_u128()).copied() {
+        Some(event) => !is_copy(event, row),
+        None => false,
+    }
 }
 
 /// Each event by its id.
@@ -59,27 +61,14 @@ pub(crate) fn events_by_id<'e>(
     Ok(recorded)
 }
 
-fn is_altered_from(recorded: Option<&OutboxEvent>, row: &InboxRow) -> bool
-    ensures { result ≡ is_altered_from (option_copied recorded.entry) row.now }
-{
-    match recorded {
-        Some(event) => !is_copy(event, row),
-        None => false,
-    }
-}
-
 fn is_copy(event: &OutboxEvent, row: &InboxRow) -> bool
     ensures { result ≡ is_copy event.now row.now }
 {
-    is_key(event.aggregate_id.as_bytes(), &row.key)
-        && row.value.as_slice() == event.payload.as_bytes()
-}
-
-fn is_key(id: &[u8], key: &Option<Bytes>) -> bool
-    ensures { result ≡ is_key id.now key.now }
-{
-    match key {
-        Some(key) => key.as_slice() == id,
+    match &row.key {
+        Some(key) => {
+            key.as_slice() == event.aggregate_id.as_bytes()
+                && row.value.as_slice() == event.payload.as_bytes()
+        }
         None => false,
     }
 }

@@ -4,9 +4,8 @@ ghost use Rattle.std.specs.Prelude.{◌≡◌, ◌==◌, ◌<◌, ◌++◌, IfOk
 ghost use Rattle.kob_delivery_check.specs.Logs.{is_on};
 ghost use Rattle.std.specs.List.{find, position};
 ghost use Rattle.std.specs.Option.{option_copied};
-ghost use Rattle.kob_delivery_check.specs.Causes.{assigned_to, cause_at, cause_beside, cause_by};
-ghost use Rattle.kob_delivery_check.specs.Causes.{cause_in, cause_of, cause_to, loss_at, loss_by};
-ghost use Rattle.kob_delivery_check.specs.Causes.{losses_by, row_with};
+ghost use Rattle.kob_delivery_check.specs.Causes.{assigned_to, cause_beside, cause_in};
+ghost use Rattle.kob_delivery_check.specs.Causes.{cause_of, loss_at, losses_by, row_with};
 ghost use Rattle.kob_delivery_check.specs.Logs.{number_of};
 
 use crate::fate::Fate;
@@ -19,7 +18,7 @@ use kob_names::Text;
 use kob_outbox::OutboxEvent;
 use kob_rights::Request;
 use kob_router::Place;
-use kob_shared::{Entry, Journal};
+use kob_shared::Journal;
 use std::alloc::{AllocError, Global};
 
 /// Why no tick of a consumer takes an event in, by the journal of its broker. Entries are named by
@@ -97,34 +96,10 @@ fn push_loss(
     ensures { OnOk result (losses.new.items ≡ losses.old.items
         ++ loss_at reader.now rows.now journal.now (map (λ event. event.now) events.now) (place, fate)) }
 {
-    if fate.is_lost() {
-        push_lost(
-            alloc,
-            losses,
-            reader,
-            rows,
-            journal,
-            place,
-            event_at(events, place),
-        )
-    } else {
-        Ok(())
+    if !fate.is_lost() {
+        return Ok(());
     }
-}
-
-fn push_lost(
-    alloc: Global,
-    losses: &mut Vec<LostEvent>,
-    reader: &Subscription,
-    rows: &[InboxRow],
-    journal: &Journal,
-    place: usize,
-    event: Option<&OutboxEvent>,
-) -> Result<(), AllocError>
-    ensures { OnOk result (losses.new.items ≡ losses.old.items
-        ++ loss_by reader.now rows.now journal.now place (option_copied event.entry)) }
-{
-    let Some(event) = event else {
+    let Some(event) = event_at(events, place) else {
         return Ok(());
     };
     let id = event.id.as_u128();
@@ -179,28 +154,11 @@ fn cause_of(
 ) -> Result<Cause, AllocError>
     ensures { IfOk result (λ cause. cause ≡ cause_of reader.now journal.now event) }
 {
-    match sent_at(journal, event) {
-        None => Ok(Cause::Unsent),
-        Some(sent) => cause_by(alloc, reader, journal, event, sent, journal.get(sent)),
-    }
-}
-
-fn cause_by(
-    alloc: Global,
-    reader: &Subscription,
-    journal: &Journal,
-    event: u128,
-    sent: usize,
-    entry: Option<&Entry>,
-) -> Result<Cause, AllocError>
-    requires { sent < length journal.now }
-    ensures { IfOk result (λ cause. cause
-        ≡ cause_by reader.now journal.now event sent (option_copied entry.entry)) }
-{
-    let Some(entry) = entry else {
-        return Ok(Cause::Unknown);
+    let Some(sent) = sent_at(journal, event) else {
+        return Ok(Cause::Unsent);
     };
-    match assigned_to(reader.assignment.as_slice(), &entry.event.request) {
+    let request = &journal.entry_at(sent).event.request;
+    match assigned_to(reader.assignment.as_slice(), request) {
         None => Ok(Cause::Unread { sent }),
         Some(assigned) => cause_in(alloc, reader, journal, event, sent, assigned),
     }
@@ -243,24 +201,9 @@ fn cause_in(
         unreachable!()
     }
     let log = log_until(alloc, &reader.group, place, journal, sent + 1)?;
-    match offset_of(event, log.events()) {
-        None => Ok(Cause::Unknown),
-        Some(offset) => out_of_reach(alloc, reader, journal, sent, assigned, place, offset),
-    }
-}
-
-fn out_of_reach(
-    alloc: Global,
-    reader: &Subscription,
-    journal: &Journal,
-    sent: usize,
-    assigned: usize,
-    place: &Place,
-    offset: usize,
-) -> Result<Cause, AllocError>
-    ensures { IfOk result (λ cause. cause
-        ≡ cause_at reader.now place.now journal.now sent assigned (Some offset)) }
-{
+    let Some(offset) = offset_of(event, log.events()) else {
+        return Ok(Cause::Unknown);
+    };
     let offset = offset as u64;
     let found = obstacles(alloc, &reader.group, place, offset, journal)?;
     let by = obstacle_of(sent, &found);

@@ -4,8 +4,7 @@ ghost use Rattle.std.specs.Prelude.{◌≡◌, ◌==◌, nat_eq};
 ghost use Rattle.std.specs.HashSet.{contains};
 ghost use Rattle.std.specs.List.{find};
 ghost use Rattle.std.specs.Option.{option_copied};
-ghost use Rattle.kob_delivery_check.specs.Fates.{fate_ahead, fate_by, is_delivered, is_lost};
-ghost use Rattle.kob_delivery_check.specs.Fates.{is_waiting};
+ghost use Rattle.kob_delivery_check.specs.Fates.{fate_by, is_delivered, is_lost, is_waiting};
 
 use crate::reach::Stored;
 use std::collections::HashSet;
@@ -37,18 +36,12 @@ pub(crate) fn fate_by(
     if taken.contains(&event) {
         return Fate::Delivered;
     }
-    fate_ahead(first_of(ahead, event), waiting.contains(&event))
-}
-
-fn fate_ahead(stored: Option<&Stored>, waits: bool) -> Fate
-    ensures { result ≡ fate_ahead (option_copied stored.entry) waits }
-{
-    match stored {
+    match first_of(ahead, event) {
         Some(stored) => Fate::Ahead {
             assigned: stored.assigned,
             offset: stored.offset,
         },
-        None if waits => Fate::Outbox,
+        None if waiting.contains(&event) => Fate::Outbox,
         None => Fate::Lost,
     }
 }

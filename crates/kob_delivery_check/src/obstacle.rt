@@ -1,6 +1,6 @@
 //! Which entries of a journal put a record out of a group's reach.
 
-ghost use Rattle.std.specs.Prelude.{◌≡◌, ◌<◌, ◌++◌, ◌||◌, ◌&&◌, IfOk, OnOk, length, max, nat_le, nat_lt, not, unwrap_or};
+ghost use Rattle.std.specs.Prelude.{◌≡◌, ◌<◌, ◌++◌, ◌||◌, ◌&&◌, IfOk, OnOk, length, max, nat_le, nat_lt, unwrap_or};
 ghost use Rattle.kob_delivery_check.specs.Causes.{deletes_topic, is_behind, obstacle_of, obstacles};
 ghost use Rattle.kob_delivery_check.specs.Causes.{noted};
 ghost use Rattle.std.specs.List.{find};
@@ -32,17 +32,10 @@ pub(crate) fn obstacles(
         let was_behind = is_behind(offset, &log);
         log.note(group, place, &entry.event.request, &entry.reply)?;
         let deletes = deletes_topic(place, &entry.event.request, &entry.reply);
-        let moves = is_moved(was_behind, is_behind(offset, &log));
+        let moves = is_behind(offset, &log) && !was_behind;
         note_if(&mut found, at, deletes || moves)?;
     }
     Ok(found)
-}
-
-/// Whether a record is out of reach that was not before.
-fn is_moved(was_behind: bool, is_behind: bool) -> bool
-    ensures { result ≡ (is_behind && not was_behind) }
-{
-    is_behind && !was_behind
 }
 
 fn note_if(found: &mut Vec<usize>, at: usize, is_obstacle: bool) -> Result<(), AllocError>

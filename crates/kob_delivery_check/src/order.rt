@@ -1,6 +1,6 @@
 //! Which events came before an event of their aggregate that was recorded before them.
 
-ghost use Rattle.std.specs.Prelude.{◌≡◌, ◌++◌, ℕ, List, IfOk, None, OnOk, Some, false, map};
+ghost use Rattle.std.specs.Prelude.{◌≡◌, ◌++◌, ℕ, List, IfOk, None, OnOk, map};
 ghost use Rattle.std.specs.Prelude.{nat_eq, reverse, unwrap_or};
 ghost use Rattle.std.specs.HashMap.{get};
 ghost use Rattle.std.specs.HashSet.{contains};
@@ -91,21 +91,16 @@ fn push_unless(
     ensures { OnOk result (early.new.items ≡ early.old.items ++ early_by is_next arrival before) }
 {
     match before {
-        Some(before) if !is_next => push_early(early, arrival, before),
+        Some(before) if !is_next => {
+            early.push(Early {
+                at: arrival.at,
+                event: arrival.event,
+                before,
+            })?;
+            Ok(())
+        }
         _ => Ok(()),
     }
-}
-
-fn push_early(early: &mut Vec<Early>, arrival: Arrival, before: u128) -> Result<(), AllocError>
-    ensures { OnOk result (early.new.items
-        ≡ early.old.items ++ early_by false arrival (Some before)) }
-{
-    early.push(Early {
-        at: arrival.at,
-        event: arrival.event,
-        before,
-    })?;
-    Ok(())
 }
 
 /// For the id of each event, the id of the event of its aggregate that was recorded before it.

@@ -1,6 +1,6 @@
 //! How the answer to a check is printed.
 
-ghost use Rattle.std.specs.Prelude.{◌≡◌, ◌++◌, OnOk, map, slice_get};
+ghost use Rattle.std.specs.Prelude.{◌≡◌, ◌++◌, OnOk, map};
 ghost use Rattle.std.specs.List.{count_by, position};
 ghost use Rattle.std.specs.Option.{option_copied};
 ghost use Rattle.kob_delivery_check.specs.Fates.{is_delivered, is_lost, is_waiting};
@@ -70,13 +70,8 @@ fn push_first_waiting(
     match first_waiting(fates) {
         None => Ok(()),
         Some(place) => {
-            push_waits(
-                out,
-                assignment,
-                place,
-                event_at(events, place),
-                fate_at(fates, place),
-            )
+            let fate = fates.get(place).copied();
+            push_waits(out, assignment, place, event_at(events, place), fate)
         }
     }
 }
@@ -85,12 +80,6 @@ fn first_waiting(fates: &[Fate]) -> Option<usize>
     ensures { result ≡ position is_waiting fates.now }
 {
     fates.iter().position(|fate| fate.is_waiting())
-}
-
-fn fate_at(fates: &[Fate], place: usize) -> Option<Fate>
-    ensures { result ≡ slice_get fates.now place }
-{
-    fates.get(place).copied()
 }
 
 #[tactic(auto, using(kob_words::proofs::Appending::appending))]

@@ -1,11 +1,9 @@
 //! How events that are out of order are printed.
 
 ghost use Rattle.std.specs.Prelude.{◌≡◌, ◌<◌, ◌++◌, OnOk, Some, length, map, slice_get};
-ghost use Rattle.std.specs.Option.{option_copied};
-ghost use Rattle.kob_delivery_check.specs.PrintedOrder.{before_event, before_named, early_event};
-ghost use Rattle.kob_delivery_check.specs.PrintedOrder.{early_named, inbox_place, place_of};
-ghost use Rattle.kob_delivery_check.specs.PrintedOrder.{record_line, record_lines, row_line};
-ghost use Rattle.kob_delivery_check.specs.PrintedOrder.{row_lines};
+ghost use Rattle.kob_delivery_check.specs.PrintedOrder.{before_named, early_named, inbox_place};
+ghost use Rattle.kob_delivery_check.specs.PrintedOrder.{place_of, record_line, record_lines};
+ghost use Rattle.kob_delivery_check.specs.PrintedOrder.{row_line, row_lines};
 
 use crate::cause::event_at;
 use crate::order::Early;
@@ -18,44 +16,34 @@ use kob_router::Place;
 use kob_words::push_counted;
 use std::alloc::AllocError;
 
+/// The event that came, by its id.
 #[tactic(auto, using(kob_words::proofs::Appending::appending))]
-fn push_early(
-    out: &mut Vec<u8>,
-    place: usize,
-    event: Option<&OutboxEvent>,
-) -> Result<(), AllocError>
-    ensures { OnOk result (out.new.items
-        ≡ out.old.items ++ early_event place (option_copied event.entry)) }
+fn push_early_named(out: &mut Vec<u8>, events: &[&OutboxEvent], id: u128) -> Result<(), AllocError>
+    ensures { OnOk result (out.new.items ≡ out.old.items
+        ++ early_named (map (λ event. event.now) events.now)
+        (place_of id (map (λ event. event.now) events.now))) }
 {
-    let Some(event) = event else {
+    let Some(place) = place_of(id, events) else {
+        return Ok(());
+    };
+    let Some(event) = event_at(events, place) else {
         return Ok(());
     };
     out.extend_from_slice(b"misordered")?;
     push_event(out, (place as u64).saturating_add(1), event)
 }
 
-/// The event that came, by its id.
-fn push_early_named(out: &mut Vec<u8>, events: &[&OutboxEvent], id: u128) -> Result<(), AllocError>
+/// The event that was recorded before it, by its id.
+#[tactic(auto, using(kob_words::proofs::Appending::appending))]
+fn push_before_named(out: &mut Vec<u8>, events: &[&OutboxEvent], id: u128) -> Result<(), AllocError>
     ensures { OnOk result (out.new.items ≡ out.old.items
-        ++ early_named (map (λ event. event.now) events.now)
+        ++ before_named (map (λ event. event.now) events.now)
         (place_of id (map (λ event. event.now) events.now))) }
 {
-    match place_of(id, events) {
-        None => Ok(()),
-        Some(place) => push_early(out, place, event_at(events, place)),
-    }
-}
-
-#[tactic(auto, using(kob_words::proofs::Appending::appending))]
-fn push_before(
-    out: &mut Vec<u8>,
-    place: usize,
-    event: Option<&OutboxEvent>,
-) -> Result<(), AllocError>
-    ensures { OnOk result (out.new.items
-        ≡ out.old.items ++ before_event place (option_copied event.entry)) }
-{
-    let Some(event) = event else {
+    let Some(place) = place_of(id, events) else {
+        return Ok(());
+    };
+    let Some(event) = event_at(events, place) else {
         return Ok(());
     };
     out.extend_from_slice(b", before")?;
@@ -63,18 +51,6 @@ fn push_before(
     out.extend_from_slice(b" row")?;
     push_counted(out, (place as u64).saturating_add(1))?;
     out.extend_from_slice(b"\n")
-}
-
-/// The event that was recorded before it, by its id.
-fn push_before_named(out: &mut Vec<u8>, events: &[&OutboxEvent], id: u128) -> Result<(), AllocError>
-    ensures { OnOk result (out.new.items ≡ out.old.items
-        ++ before_named (map (λ event. event.now) events.now)
-        (place_of id (map (λ event. event.now) events.now))) }
-{
-    match place_of(id, events) {
-        None => Ok(()),
-        Some(place) => push_before(out, place, event_at(events, place)),
-    }
 }
 
 pub(crate) fn push_inbox_place(out: &mut Vec<u8>, at: u64) -> Result<(), AllocError>

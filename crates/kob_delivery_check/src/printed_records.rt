@@ -3,36 +3,22 @@
 ghost use Rattle.std.specs.Prelude.{◌≡◌, ◌++◌, OnOk, Some, map};
 ghost use Rattle.std.specs.Option.{option_copied};
 ghost use Rattle.kob_words.specs.Words.{counted};
-ghost use Rattle.kob_delivery_check.specs.PrintedRecords.{blamed_text, by_text, cause_text};
-ghost use Rattle.kob_delivery_check.specs.PrintedRecords.{committed_text, deed_text, deleted_text};
-ghost use Rattle.kob_delivery_check.specs.PrintedRecords.{deletion_text, doubled_by};
-ghost use Rattle.kob_delivery_check.specs.PrintedRecords.{doubled_item, doubled_line, doubled_lines};
+ghost use Rattle.kob_delivery_check.specs.PrintedRecords.{by_text, cause_text, deed_text};
+ghost use Rattle.kob_delivery_check.specs.PrintedRecords.{doubled_by, doubled_item, doubled_lines};
 ghost use Rattle.kob_delivery_check.specs.PrintedRecords.{lost_item, lost_line, lost_lines};
-ghost use Rattle.kob_delivery_check.specs.PrintedRecords.{producer_of, producer_text, sender_at};
-ghost use Rattle.kob_delivery_check.specs.PrintedRecords.{sender_text, senders_text, unread_at};
-ghost use Rattle.kob_delivery_check.specs.PrintedRecords.{unread_text};
+ghost use Rattle.kob_delivery_check.specs.PrintedRecords.{producer_of, sender_at, senders_text};
+ghost use Rattle.kob_delivery_check.specs.PrintedRecords.{unread_at};
 
 use crate::cause::{Cause, LostEvent, event_at};
 use crate::printed_pieces::{push_assigned, push_event};
 use crate::reach::{Stored, record_at};
 use crate::sent::{put_at, sent_at};
-use kob_names::{Idem, Text};
 use kob_outbox::OutboxEvent;
 use kob_rights::{Body, Reply, Request};
 use kob_router::Place;
 use kob_shared::{Entry, Journal};
 use kob_words::{push_counted, push_spaced};
 use std::alloc::AllocError;
-
-#[tactic(auto, using(kob_words::proofs::Appending::appending))]
-fn push_committed(out: &mut Vec<u8>, offset: u64, group: &Text) -> Result<(), AllocError>
-    ensures { OnOk result (out.new.items ≡ out.old.items ++ committed_text offset group.now) }
-{
-    out.extend_from_slice(b" committed")?;
-    push_counted(out, offset)?;
-    out.extend_from_slice(b" for group")?;
-    push_spaced(out, group.as_str().as_bytes())
-}
 
 /// A number after a text.
 #[tactic(auto, using(kob_words::proofs::Appending::appending))]
@@ -43,38 +29,38 @@ pub(crate) fn push_labelled(out: &mut Vec<u8>, label: &[u8], number: u64) -> Res
     push_counted(out, number)
 }
 
-fn push_deleted(out: &mut Vec<u8>, start: u64) -> Result<(), AllocError>
-    ensures { OnOk result (out.new.items ≡ out.old.items ++ deleted_text start) }
-{
-    push_labelled(out, b" deleted the records before", start)
-}
-
-fn push_deletion(out: &mut Vec<u8>, reply: &Reply) -> Result<(), AllocError>
-    ensures { OnOk result (out.new.items ≡ out.old.items ++ deletion_text reply.now) }
-{
-    match reply {
-        Reply::Done(Body::Start(start)) => push_deleted(out, *start),
-        _ => Ok(()),
-    }
-}
-
+/// What a request did that put a record out of reach.
+#[tactic(auto, using(kob_words::proofs::Appending::appending))]
 fn push_deed(out: &mut Vec<u8>, request: &Request, reply: &Reply) -> Result<(), AllocError>
     ensures { OnOk result (out.new.items ≡ out.old.items ++ deed_text request.now reply.now) }
 {
     match request {
-        Request::OffsetCommit(asked) => push_committed(out, asked.offset, &asked.group),
-        Request::DeleteRecords(_) => push_deletion(out, reply),
+        Request::OffsetCommit(asked) => {
+            out.extend_from_slice(b" committed")?;
+            push_counted(out, asked.offset)?;
+            out.extend_from_slice(b" for group")?;
+            push_spaced(out, asked.group.as_str().as_bytes())
+        }
+        Request::DeleteRecords(_) => match reply {
+            Reply::Done(Body::Start(start)) => {
+                push_labelled(out, b" deleted the records before", *start)
+            }
+            _ => Ok(()),
+        },
         Request::DeleteTopics(_) => out.extend_from_slice(b" deleted the topic"),
         _ => Ok(()),
     }
 }
 
+/// The entry that put a record out of reach.
 #[tactic(auto, using(kob_words::proofs::Appending::appending))]
-fn push_blamed(out: &mut Vec<u8>, at: usize, entry: Option<&Entry>) -> Result<(), AllocError>
-    ensures { OnOk result (out.new.items
-        ≡ out.old.items ++ blamed_text at (option_copied entry.entry)) }
+fn push_by(out: &mut Vec<u8>, journal: &Journal, by: Option<usize>) -> Result<(), AllocError>
+    ensures { OnOk result (out.new.items ≡ out.old.items ++ by_text journal.now by) }
 {
-    let Some(entry) = entry else {
+    let Some(at) = by else {
+        return Ok(());
+    };
+    let Some(entry) = journal.get(at) else {
         return Ok(());
     };
     out.extend_from_slice(b", entry")?;
@@ -84,20 +70,16 @@ fn push_blamed(out: &mut Vec<u8>, at: usize, entry: Option<&Entry>) -> Result<()
     push_deed(out, &entry.event.request, &entry.reply)
 }
 
-fn push_by(out: &mut Vec<u8>, journal: &Journal, by: Option<usize>) -> Result<(), AllocError>
-    ensures { OnOk result (out.new.items ≡ out.old.items ++ by_text journal.now by) }
-{
-    match by {
-        None => Ok(()),
-        Some(at) => push_blamed(out, at, journal.get(at)),
-    }
-}
-
+/// The partition that the PRODUCE of an entry names.
 #[tactic(auto, using(kob_words::proofs::Appending::appending))]
-fn push_unread(out: &mut Vec<u8>, request: &Request) -> Result<(), AllocError>
-    ensures { OnOk result (out.new.items ≡ out.old.items ++ unread_text request.now) }
+fn push_unread(out: &mut Vec<u8>, entry: Option<&Entry>) -> Result<(), AllocError>
+    ensures { OnOk result (out.new.items
+        ≡ out.old.items ++ unread_at (option_copied entry.entry)) }
 {
-    match request {
+    let Some(entry) = entry else {
+        return Ok(());
+    };
+    match &entry.event.request {
         Request::Produce(asked) => {
             out.extend_from_slice(b" in")?;
             push_spaced(out, asked.topic.as_str().as_bytes())?;
@@ -105,16 +87,6 @@ fn push_unread(out: &mut Vec<u8>, request: &Request) -> Result<(), AllocError>
             out.extend_from_slice(b", not read")
         }
         _ => Ok(()),
-    }
-}
-
-fn push_unread_at(out: &mut Vec<u8>, entry: Option<&Entry>) -> Result<(), AllocError>
-    ensures { OnOk result (out.new.items
-        ≡ out.old.items ++ unread_at (option_copied entry.entry)) }
-{
-    match entry {
-        None => Ok(()),
-        Some(entry) => push_unread(out, &entry.event.request),
     }
 }
 
@@ -131,7 +103,7 @@ fn push_cause(
     match cause {
         Cause::Unknown => Ok(()),
         Cause::Unsent => out.extend_from_slice(b", no entry sent it"),
-        Cause::Unread { sent } => push_unread_at(out, journal.get(sent)),
+        Cause::Unread { sent } => push_unread(out, journal.get(sent)),
         Cause::OutOfReach {
             assigned,
             offset,
@@ -188,51 +160,22 @@ pub(crate) fn push_losses(
     Ok(())
 }
 
-fn push_producer(out: &mut Vec<u8>, idem: Option<Idem>) -> Result<(), AllocError>
-    ensures { OnOk result (out.new.items ≡ out.old.items ++ producer_text idem) }
-{
-    match idem {
-        None => out.extend_from_slice(b" without a producer id"),
-        Some(idem) => push_producer_id(out, idem),
-    }
-}
-
-#[tactic(auto, using(kob_words::proofs::Appending::appending))]
-fn push_producer_id(out: &mut Vec<u8>, idem: Idem) -> Result<(), AllocError>
-    ensures { OnOk result (out.new.items ≡ out.old.items ++ producer_text (Some idem)) }
-{
-    out.extend_from_slice(b" by producer")?;
-    push_counted(out, idem.id)
-}
-
-fn push_producer_of(out: &mut Vec<u8>, request: &Request) -> Result<(), AllocError>
+/// The producer id of a PRODUCE.
+fn push_producer(out: &mut Vec<u8>, request: &Request) -> Result<(), AllocError>
     ensures { OnOk result (out.new.items ≡ out.old.items ++ producer_of request.now) }
 {
-    match request {
-        Request::Produce(asked) => push_producer(out, asked.batch.idem),
-        _ => Ok(()),
+    let Request::Produce(asked) = request else {
+        return Ok(());
+    };
+    match asked.batch.idem {
+        None => out.extend_from_slice(b" without a producer id"),
+        Some(idem) => push_labelled(out, b" by producer", idem.id),
     }
 }
 
+/// An entry that sent an event, after a text, and its producer id.
 #[tactic(auto, using(kob_words::proofs::Appending::appending))]
 fn push_sender(
-    out: &mut Vec<u8>,
-    label: &[u8],
-    at: usize,
-    entry: Option<&Entry>,
-) -> Result<(), AllocError>
-    ensures { OnOk result (out.new.items
-        ≡ out.old.items ++ sender_text label.now at (option_copied entry.entry)) }
-{
-    let Some(entry) = entry else {
-        return Ok(());
-    };
-    out.extend_from_slice(label)?;
-    push_counted(out, at as u64)?;
-    push_producer_of(out, &entry.event.request)
-}
-
-fn push_sender_at(
     out: &mut Vec<u8>,
     label: &[u8],
     journal: &Journal,
@@ -240,10 +183,15 @@ fn push_sender_at(
 ) -> Result<(), AllocError>
     ensures { OnOk result (out.new.items ≡ out.old.items ++ sender_at label.now journal.now at) }
 {
-    match at {
-        None => Ok(()),
-        Some(at) => push_sender(out, label, at, journal.get(at)),
-    }
+    let Some(at) = at else {
+        return Ok(());
+    };
+    let Some(entry) = journal.get(at) else {
+        return Ok(());
+    };
+    out.extend_from_slice(label)?;
+    push_counted(out, at as u64)?;
+    push_producer(out, &entry.event.request)
 }
 
 /// The entry that put a record where it is, and the first that sent its event.
@@ -257,40 +205,14 @@ fn push_senders(
     ensures { OnOk result (out.new.items
         ≡ out.old.items ++ senders_text journal.now assignment.now stored) }
 {
-    push_sender_at(
-        out,
-        b", entry",
-        journal,
-        put_at(assignment, stored, journal),
-    )?;
-    push_sender_at(
-        out,
-        b", first entry",
-        journal,
-        sent_at(journal, stored.event),
-    )
-}
-
-#[tactic(auto, using(kob_words::proofs::Appending::appending))]
-fn push_doubled_line(
-    out: &mut Vec<u8>,
-    journal: &Journal,
-    assignment: &[Place],
-    place: usize,
-    event: &OutboxEvent,
-    stored: Stored,
-) -> Result<(), AllocError>
-    ensures { OnOk result (out.new.items ≡ out.old.items
-        ++ doubled_line journal.now assignment.now place event.now stored) }
-{
-    out.extend_from_slice(b"doubled")?;
-    push_event(out, (place as u64).saturating_add(1), event)?;
-    push_assigned(out, assignment, stored.assigned, stored.offset)?;
-    push_senders(out, journal, assignment, stored)?;
-    out.extend_from_slice(b"\n")
+    let put = put_at(assignment, stored, journal);
+    push_sender(out, b", entry", journal, put)?;
+    let sent = sent_at(journal, stored.event);
+    push_sender(out, b", first entry", journal, sent)
 }
 
 /// The line of an event's record that has an earlier one; nothing for a record of another event.
+#[tactic(auto, using(kob_words::proofs::Appending::appending))]
 fn push_doubled(
     out: &mut Vec<u8>,
     journal: &Journal,
@@ -302,11 +224,14 @@ fn push_doubled(
     ensures { OnOk result (out.new.items ≡ out.old.items
         ++ doubled_by journal.now assignment.now place event.now stored) }
 {
-    if stored.event == event.id.as_u128() {
-        push_doubled_line(out, journal, assignment, place, event, stored)
-    } else {
-        Ok(())
+    if stored.event != event.id.as_u128() {
+        return Ok(());
     }
+    out.extend_from_slice(b"doubled")?;
+    push_event(out, (place as u64).saturating_add(1), event)?;
+    push_assigned(out, assignment, stored.assigned, stored.offset)?;
+    push_senders(out, journal, assignment, stored)?;
+    out.extend_from_slice(b"\n")
 }
 
 /// The lines of an event's records that have an earlier one.

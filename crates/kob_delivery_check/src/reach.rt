@@ -3,7 +3,6 @@
 ghost use Rattle.std.specs.Prelude.{◌≡◌, ◌<◌, ◌++◌, IfOk, OnOk, Some, length, slice_get};
 ghost use Rattle.std.specs.List.{enumerate_from, flat_map};
 ghost use Rattle.kob_delivery_check.specs.Reaches.{records_ahead, records_from, stored_at};
-ghost use Rattle.kob_delivery_check.specs.Reaches.{records_within};
 
 use crate::partition_log::PartitionLog;
 use std::alloc::{AllocError, Global};
@@ -30,16 +29,10 @@ pub fn records_ahead(alloc: Global, reaches: &[Reach]) -> Result<Vec<Stored>, Al
 {
     let mut ahead = Vec::new(alloc);
     for assigned in 0..reaches.len() {
-        push_reach(&mut ahead, assigned, &reaches[assigned])?;
+        let reach = &reaches[assigned];
+        push_from(&mut ahead, assigned, reach.from, reach.log.events())?;
     }
     Ok(ahead)
-}
-
-fn push_reach(ahead: &mut Vec<Stored>, assigned: usize, reach: &Reach) -> Result<(), AllocError>
-    ensures { OnOk result (ahead.new.items
-        ≡ ahead.old.items ++ records_within (assigned, reach.now)) }
-{
-    push_from(ahead, assigned, reach.from, reach.log.events())
 }
 
 /// Adds the records of a partition from an offset on.

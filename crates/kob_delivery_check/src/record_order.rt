@@ -1,7 +1,7 @@
 //! Which records are in their partition before an event that was recorded before them.
 
 ghost use Rattle.std.specs.Prelude.{◌≡◌, ◌++◌, IfOk, OnOk, map};
-ghost use Rattle.kob_delivery_check.specs.Order.{early_on, early_records, early_within};
+ghost use Rattle.kob_delivery_check.specs.Order.{early_records, early_within};
 ghost use Rattle.kob_delivery_check.specs.Order.{record_arrival};
 
 use crate::come::{Arrival, events_come};
@@ -60,7 +60,9 @@ fn push_within(
     let mut records = Vec::new(alloc);
     push_once(&mut records, assignment, assigned, reach)?;
     let arrivals = record_arrivals(alloc, &records)?;
-    push_on(alloc, early, assigned, events, &arrivals)
+    let events = events_come(alloc, events, &arrivals)?;
+    let found = early_in(alloc, &events, &arrivals)?;
+    push_each(early, assigned, &found)
 }
 
 fn record_arrivals(alloc: Global, records: &[Stored]) -> Result<Vec<Arrival>, AllocError>
@@ -74,21 +76,6 @@ fn record_arrivals(alloc: Global, records: &[Stored]) -> Result<Vec<Arrival>, Al
         })?;
     }
     Ok(arrivals)
-}
-
-fn push_on(
-    alloc: Global,
-    early: &mut Vec<EarlyRecord>,
-    assigned: usize,
-    events: &[&OutboxEvent],
-    arrivals: &[Arrival],
-) -> Result<(), AllocError>
-    ensures { OnOk result (early.new.items ≡ early.old.items
-        ++ early_on assigned (map (λ event. event.now) events.now) arrivals.now) }
-{
-    let events = events_come(alloc, events, arrivals)?;
-    let found = early_in(alloc, &events, arrivals)?;
-    push_each(early, assigned, &found)
 }
 
 fn push_each(

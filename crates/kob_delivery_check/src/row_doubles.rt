@@ -57,23 +57,10 @@ fn push_if(
     ensures { OnOk result (doubled.new.items
         ≡ doubled.old.items ++ double_by has_come arrival (first_of arrival.event arrivals.now)) }
 {
-    if has_come {
-        push_double(doubled, arrival, first_of(arrivals, arrival.event))?;
+    if !has_come {
+        return Ok(());
     }
-    Ok(())
-}
-
-ghost use Rattle.std.specs.Prelude.{true};
-
-fn push_double(
-    doubled: &mut Vec<DoubledRow>,
-    arrival: Arrival,
-    first: Option<&Arrival>,
-) -> Result<(), AllocError>
-    ensures { OnOk result (doubled.new.items
-        ≡ doubled.old.items ++ double_by true arrival (option_copied first.entry)) }
-{
-    let Some(first) = first else {
+    let Some(first) = first_of(arrivals, arrival.event) else {
         return Ok(());
     };
     doubled.push(DoubledRow {

@@ -1,10 +1,9 @@
 //! Where a consumer that begins at the end commits before it asks for its group's commit.
 
 ghost use Rattle.std.specs.Prelude.{◌≡◌, IfOk};
-ghost use Rattle.kob_delivery_check.specs.Starts.{end_unless, start_by, start_due, start_on};
+ghost use Rattle.kob_delivery_check.specs.Starts.{start_due, start_on};
 
 use crate::journaled::log_by;
-use crate::partition_log::PartitionLog;
 use kob_inbox::Consumer;
 use kob_names::PlainValue;
 use kob_rights::OffsetCommit;
@@ -32,6 +31,7 @@ pub fn start_due(
     Ok(None)
 }
 
+/// The commit of the end of a partition, if there is neither a position nor a commit.
 fn start_on(
     alloc: Global,
     journal: &Journal,
@@ -42,7 +42,7 @@ fn start_on(
 {
     let group = &consumer.subscription().group;
     let log = log_by(alloc, group, place, journal)?;
-    let Some(offset) = start_by(consumer.position(place), &log) else {
+    let (None, None) = (consumer.position(place), log.committed()) else {
         return Ok(None);
     };
     let group = group.copy(alloc)?;
@@ -51,25 +51,6 @@ fn start_on(
         group,
         topic,
         partition: place.partition,
-        offset,
+        offset: log.events().len() as u64,
     }))
-}
-
-/// The end of a partition, if there is neither a position nor a commit.
-fn start_by(own: Option<u64>, log: &PartitionLog) -> Option<u64>
-    ensures { result ≡ start_by own log.now }
-{
-    match own {
-        Some(_) => None,
-        None => end_unless(log.committed(), log.events().len() as u64),
-    }
-}
-
-fn end_unless(committed: Option<u64>, end: u64) -> Option<u64>
-    ensures { result ≡ end_unless committed end }
-{
-    match committed {
-        Some(_) => None,
-        None => Some(end),
-    }
 }

@@ -2,7 +2,6 @@
 
 ghost use Rattle.std.specs.Prelude.{◌≡◌, IfOk, OnOk};
 ghost use Rattle.kob_delivery_check.specs.Unread.{has_partition, unread_of, with_entry, with_produce};
-ghost use Rattle.kob_delivery_check.specs.Unread.{with_request};
 
 use kob_names::{PlainValue, Text};
 use kob_rights::{Produce, Reply, Request};
@@ -38,24 +37,10 @@ fn note_entry(
     ensures { OnOk result (found.new.items
         ≡ with_entry worker assignment.now found.old.items entry.now) }
 {
-    if entry.worker == worker {
-        note_request(alloc, found, assignment, &entry.event.request, &entry.reply)
-    } else {
-        Ok(())
+    if entry.worker != worker {
+        return Ok(());
     }
-}
-
-fn note_request(
-    alloc: Global,
-    found: &mut Vec<Place>,
-    assignment: &[Place],
-    request: &Request,
-    reply: &Reply,
-) -> Result<(), AllocError>
-    ensures { OnOk result (found.new.items
-        ≡ with_request assignment.now found.old.items request.now reply.now) }
-{
-    match (request, reply) {
+    match (&entry.event.request, &entry.reply) {
         (Request::Produce(asked), Reply::Done(_)) => note_produce(alloc, found, assignment, asked),
         _ => Ok(()),
     }

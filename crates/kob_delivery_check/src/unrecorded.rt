@@ -1,7 +1,7 @@
 //! Events whose service crashed before it recorded them.
 
 ghost use Rattle.std.specs.Prelude.{◌≡◌, ◌++◌, IfOk, OnOk, map};
-ghost use Rattle.kob_delivery_check.specs.Unrecorded.{aggregate_text, has_new_id, no_row_text};
+ghost use Rattle.kob_delivery_check.specs.Unrecorded.{has_new_id, no_row_text};
 ghost use Rattle.kob_delivery_check.specs.Unrecorded.{unrecorded_line, unrecorded_lines};
 ghost use Rattle.kob_delivery_check.specs.Unrecorded.{unrecorded_of};
 
@@ -53,18 +53,10 @@ fn push_line(out: &mut Vec<u8>, event: &OutboxEvent) -> Result<(), AllocError>
     ensures { OnOk result (out.new.items ≡ out.old.items ++ unrecorded_line event.now) }
 {
     out.extend_from_slice(b"lost")?;
-    push_aggregate(out, event)?;
-    push_no_row(out)
-}
-
-/// An event by its id and its aggregate.
-#[tactic(auto, using(kob_words::proofs::Appending::appending))]
-fn push_aggregate(out: &mut Vec<u8>, event: &OutboxEvent) -> Result<(), AllocError>
-    ensures { OnOk result (out.new.items ≡ out.old.items ++ aggregate_text event.now) }
-{
     push_id(out, event.id)?;
     push_spaced(out, event.aggregate_type.as_bytes())?;
-    push_spaced(out, event.aggregate_id.as_bytes())
+    push_spaced(out, event.aggregate_id.as_bytes())?;
+    push_no_row(out)
 }
 
 #[tactic(auto, unfolding(crate::specs::Unrecorded::no_row_text))]

@@ -56,7 +56,7 @@ permission_known Allow = record { is = plain_is_word (codes "ALLOW") refl refl r
 permission_known Deny = record { is = plain_is_word (codes "DENY") refl refl refl; other = refl; read = refl }
 
 seven_parts : (c a b d e f g h : List ℕ)
-    → c ++ ((a ++ b ++ d ++ e ++ (f ++ g ++ h)) ++ []) ≡ c ++ (a ++ (b ++ (d ++ (e ++ (f ++ (g ++ (h ++ [])))))))
+    → c ++ ((a ++ b ++ d ++ e ++ f ++ g ++ h) ++ []) ≡ c ++ (a ++ (b ++ (d ++ (e ++ (f ++ (g ++ (h ++ [])))))))
 seven_parts c a b d e f g h = simp (append_assoc, append-nil)
 
 -- the words of a binding

@@ -164,7 +164,7 @@ pattern_part patterns.Prefixed = record { printed = refl; is = plain_is_word (co
 -- all parts
 
 grouped : (c a b d e f g h : List ℕ)
-    → c ++ (a ++ b ++ d ++ (e ++ f ++ g ++ h)) ≡ c ++ (a ++ (b ++ (d ++ (e ++ (f ++ (g ++ (h ++ [])))))))
+    → c ++ (a ++ b ++ d ++ e ++ f ++ g ++ h) ≡ c ++ (a ++ (b ++ (d ++ (e ++ (f ++ (g ++ (h ++ [])))))))
 grouped c a b d e f g h = simp (append_assoc, append-nil)
 
 abbrev seven : List ℕ → List ℕ → List ℕ → List ℕ → List ℕ → List ℕ → List ℕ → List ℕ → List ℕ

@@ -17,15 +17,11 @@ form_with variant other =
     ∷ After keyword.Start slot.Start ∷ After variant (slot.Keyword other)
     ∷ OrEnd ∷ One (slot.Keyword keyword.Reads) ∷ Each slot.Partition ∷ []
 
-abbrev pub commits_form : List Part
-commits_form = form_with keyword.Commits keyword.Before
-
-abbrev pub no_form : List Part
-no_form = form_with keyword.No keyword.Dedup
-
 -- by the word with which a variant begins
 abbrev pub form_by : List ℕ → List Part
-form_by variant = if bytes_eq variant (codes "no") then no_form else commits_form
+form_by variant =
+    if bytes_eq variant (codes "no") then form_with keyword.No keyword.Dedup
+    else form_with keyword.Commits keyword.Before
 
 -- by the words behind the number of records
 abbrev pub form_behind : List Word → List Part
@@ -33,9 +29,9 @@ form_behind (word ∷ start ∷ variant ∷ words) =
     if bytes_eq word.decoded (codes "start") then form_by variant.decoded
     else form_by word.decoded
 form_behind (variant ∷ words) = form_by variant.decoded
-form_behind [] = commits_form
+form_behind [] = form_by (codes "commits")
 
 -- of consumer
 abbrev pub consumer_form : List Word → List Part
 consumer_form (name ∷ principal ∷ host ∷ keyword ∷ group ∷ its ∷ max ∷ words) = form_behind words
-consumer_form words = commits_form
+consumer_form words = form_by (codes "commits")

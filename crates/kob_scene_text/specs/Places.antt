@@ -1,5 +1,5 @@
 -- Which word of a line has the fault that its scene has.
-use Rattle.std.specs.Prelude.{◌≡◌, ℕ, nat_eq, Bool, true, false, not, is_none, ◌&&◌, ◌||◌, List, [], ◌∷◌, Option, Some, None, codes, drop, map, slice_get, unwrap_or, if◌then◌else◌}
+use Rattle.std.specs.Prelude.{ℕ, nat_eq, Bool, true, false, not, is_none, ◌&&◌, ◌||◌, List, [], ◌∷◌, Option, Some, None, codes, drop, map, slice_get, unwrap_or, if◌then◌else◌}
 use Rattle.std.specs.List.{list_any, position}
 use Rattle.std.specs.Option.{option_map}
 use Rattle.std.specs.Result.{result_err}
@@ -66,11 +66,6 @@ is_declared first lines name = list_any (λ line. are_of first name (line_words 
 unfoldable pub names_variant : List Word → Bool
 names_variant words = is_variant_sending (sending_first words).0
 
--- words declare a service of this name that sends otherwise than the proved router
-abbrev pub are_of_variant_service : List ℕ → List Word → Bool
-are_of_variant_service name words =
-    are_of (codes "service") name words && names_variant (drop 6 words)
-
 -- the word that begins what makes a consumer a variant
 abbrev pub begins_variant : Option Word → Bool
 begins_variant None = false
@@ -78,15 +73,12 @@ begins_variant (Some word) =
     bytes_eq word.decoded (codes "start") || bytes_eq word.decoded (codes "commits")
     || bytes_eq word.decoded (codes "no")
 
--- words declare a consumer of this name that begins at the end, or takes in otherwise than the
--- proved one
-abbrev pub are_of_variant_consumer : List ℕ → List Word → Bool
-are_of_variant_consumer name words =
-    are_of (codes "consumer") name words && begins_variant (slice_get words 8)
-
--- words declare a worker of this name that is a variant
+-- words declare a worker of this name that is a variant: a service that sends otherwise than the
+-- proved router, or a consumer that begins at the end, or takes in otherwise than the proved one
 abbrev pub are_of_variant : List ℕ → List Word → Bool
-are_of_variant name words = are_of_variant_service name words || are_of_variant_consumer name words
+are_of_variant name words =
+    (are_of (codes "service") name words && names_variant (drop 6 words))
+    || (are_of (codes "consumer") name words && begins_variant (slice_get words 8))
 
 abbrev pub is_variant : List (List ℕ) → List ℕ → Bool
 is_variant lines name = list_any (λ line. are_of_variant name (line_words line)) lines
@@ -140,14 +132,6 @@ keyword_text keyword.Order = codes "order"
 
 abbrev pub setting_form : Word → List Part
 setting_form first = if is_super first then One slot.Principal ∷ [] else One slot.Switch ∷ []
-
--- of law
-abbrev pub law_form : List Part
-law_form = One slot.LawService ∷ One slot.LawConsumer ∷ []
-
--- of check
-abbrev pub pair_form : List Part
-pair_form = One slot.ServiceName ∷ One slot.ConsumerName ∷ []
 
 -- of expect, by the word behind the two names
 abbrev pub expect_form_by : List ℕ → List Part
@@ -250,10 +234,6 @@ slot_fault lines slot.Loss word =
 slot_fault lines (slot.Keyword which) word =
     fault_unless (bytes_eq word.decoded (keyword_text which)) bad_line
 
--- A word has a fault of this kind.
-abbrev pub HasFault : SceneFaultKind → List (Option SceneFaultKind) → Type 0
-HasFault kind faults = list_any (is_of kind) faults ≡ true
-
 -- the faults of words in their order, by a form; a word too few or too many is one of the line
 abbrev pub faults_in : List (List ℕ) → List Part → List Word → List (Option SceneFaultKind)
 faults_in lines [] [] = []
@@ -289,8 +269,10 @@ word_faults lines Setting first rest = None ∷ faults_in lines (setting_form fi
 word_faults lines Service first rest = None ∷ faults_in lines (service_form rest) rest
 word_faults lines Consumer first rest = None ∷ faults_in lines (consumer_form rest) rest
 word_faults lines Journal first rest = None ∷ faults_in lines [] rest
-word_faults lines Law first rest = None ∷ faults_in lines law_form rest
-word_faults lines Check first rest = None ∷ faults_in lines pair_form rest
+word_faults lines Law first rest =
+    None ∷ faults_in lines (One slot.LawService ∷ One slot.LawConsumer ∷ []) rest
+word_faults lines Check first rest =
+    None ∷ faults_in lines (One slot.ServiceName ∷ One slot.ConsumerName ∷ []) rest
 word_faults lines Expect first rest = None ∷ faults_in lines (expect_form rest) rest
 word_faults lines (Of worker) first rest =
     None ∷ worker_faults (sending_in lines first.decoded) worker rest

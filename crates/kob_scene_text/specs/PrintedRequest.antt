@@ -28,21 +28,12 @@ use Rattle.kob_rights.specs.declared.request.Request.TheVariants as requests
 abbrev pub worded : List ℕ → List ℕ
 worded word = codes " " ++ word
 
--- PERMISSION PRINCIPAL HOST OPERATION
-abbrev pub grant_text : Draft → List ℕ
-grant_text d =
-    worded (permission_name d.permission) ++ spaced d.principal ++ spaced d.host
-    ++ worded (operation_name d.operation)
-
--- RESOURCE PATTERN NAME
-abbrev pub target_text : Draft → List ℕ
-target_text d =
-    worded (resource_name d.resource) ++ worded (pattern_name d.pattern.kind)
-    ++ spaced d.pattern.name
-
--- a binding of a creation
+-- a binding of a creation: PERMISSION PRINCIPAL HOST OPERATION RESOURCE PATTERN NAME
 abbrev pub draft_text : Draft → List ℕ
-draft_text d = grant_text d ++ target_text d
+draft_text d =
+    worded (permission_name d.permission) ++ spaced d.principal ++ spaced d.host
+    ++ worded (operation_name d.operation) ++ worded (resource_name d.resource)
+    ++ worded (pattern_name d.pattern.kind) ++ spaced d.pattern.name
 
 abbrev pub pattern_text : FilterPattern → List ℕ
 pattern_text patterns.Any = codes " any"
@@ -68,18 +59,12 @@ operation_text operation = or_dash (λ it. worded (operation_name it)) operation
 abbrev pub permission_text : Option Permission → List ℕ
 permission_text permission = or_dash (λ it. worded (permission_name it)) permission
 
--- RESOURCE NAME PATTERN
-abbrev pub asked_target : BindingFilter → List ℕ
-asked_target f = resource_text f.resource ++ or_dash asked_text f.name ++ pattern_text f.pattern
-
--- PRINCIPAL HOST OPERATION PERMISSION
-abbrev pub asked_grant : BindingFilter → List ℕ
-asked_grant f =
-    or_dash spaced f.principal ++ or_dash asked_text f.host ++ operation_text f.operation
-    ++ permission_text f.permission
-
+-- RESOURCE NAME PATTERN PRINCIPAL HOST OPERATION PERMISSION
 abbrev pub filter_text : BindingFilter → List ℕ
-filter_text f = asked_target f ++ asked_grant f
+filter_text f =
+    resource_text f.resource ++ or_dash asked_text f.name ++ pattern_text f.pattern
+    ++ or_dash spaced f.principal ++ or_dash asked_text f.host ++ operation_text f.operation
+    ++ permission_text f.permission
 
 -- How requests are printed: as a script writes them.
 

@@ -103,9 +103,9 @@ service_at number name declared = record {
   worker = number;
   principal = declared.who.principal;
   host = declared.who.host;
-  settings = declared.route.settings;
-  routed = declared.route.routed;
-  sending = declared.route.sending;
+  settings = declared.settings;
+  routed = declared.routed;
+  sending = declared.sending;
 }
 
 -- service NAME and its declaration
@@ -182,18 +182,12 @@ abbrev pub is_variant_consumer : Option Consumer → Bool
 is_variant_consumer None = false
 is_variant_consumer (Some consumer) = is_latest consumer.start || is_variant_taking consumer.taking
 
--- the service at this place sends otherwise than the proved router
-abbrev pub is_variant_service_at : List Service → ℕ → Bool
-is_variant_service_at services place = is_variant_service (slice_get services place)
-
--- the consumer at this place begins at the end, or takes in otherwise than the proved one
-abbrev pub is_variant_consumer_at : List Consumer → ℕ → Bool
-is_variant_consumer_at consumers place = is_variant_consumer (slice_get consumers place)
-
--- one of the two is a variant
+-- the service at its place sends otherwise than the proved router, or the consumer at its place
+-- begins at the end, or takes in otherwise than the proved one
 abbrev pub has_variant : List Service → ℕ → List Consumer → ℕ → Bool
 has_variant services service consumers consumer =
-    is_variant_service_at services service || is_variant_consumer_at consumers consumer
+    is_variant_service (slice_get services service)
+    || is_variant_consumer (slice_get consumers consumer)
 
 -- law SERVICE CONSUMER, of which none is a variant
 abbrev pub with_law : Seen → List Word → Result Seen SceneFaultKind

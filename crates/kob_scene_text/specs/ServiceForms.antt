@@ -3,6 +3,7 @@ use Rattle.std.specs.Prelude.{ℕ, List, [], ◌∷◌, Option, Some, None, code
 use Rattle.std.specs.Str.{bytes_eq}
 use Rattle.kob_script.specs.Words.{Word}
 use Rattle.kob_scene_text.specs.Steps.{hides_rows}
+use Rattle.kob_scene_text.specs.declared.forms.Keyword.{Keyword}
 use Rattle.kob_scene_text.specs.declared.forms.Keyword.TheVariants as keyword
 use Rattle.kob_scene_text.specs.declared.forms.Part.{Part}
 use Rattle.kob_scene_text.specs.declared.forms.Part.TheVariants.{One, After, OrEnd}
@@ -25,46 +26,27 @@ service_words more =
     One slot.NewName ∷ One slot.Principal ∷ One slot.Host
     ∷ One (slot.Keyword keyword.Partitions) ∷ One slot.Partitions ∷ more
 
--- of a service with the proved router, and of each variant
-abbrev pub proved_form : List Part
-proved_form = service_words route_words
+-- of a variant of two words
+abbrev pub variant_form : Keyword → Keyword → List Part
+variant_form one other =
+    service_words (One (slot.Keyword one) ∷ One (slot.Keyword other) ∷ route_words)
 
-abbrev pub retries_form : List Part
-retries_form =
-    service_words
-    (One (slot.Keyword keyword.Retries) ∷ One (slot.Keyword keyword.New) ∷ route_words)
-
-abbrev pub deletes_form : List Part
-deletes_form =
-    service_words
-    (One (slot.Keyword keyword.Deletes) ∷ One (slot.Keyword keyword.First) ∷ route_words)
-
-abbrev pub not_form : List Part
-not_form =
-    service_words
-    (One (slot.Keyword keyword.Not) ∷ One (slot.Keyword keyword.Idempotent) ∷ route_words)
-
-abbrev pub separate_form : List Part
-separate_form = service_words (One (slot.Keyword keyword.Separate) ∷ route_words)
-
-abbrev pub visible_form : List Part
-visible_form =
-    service_words
-    (One (slot.Keyword keyword.Visible) ∷ One (slot.Keyword keyword.Late) ∷ route_words)
-
+-- of each variant, else of a service with the proved router
 abbrev pub service_form_by : List ℕ → List Part
 service_form_by variant =
-    if bytes_eq variant (codes "retries") then retries_form
-    else (if bytes_eq variant (codes "deletes") then deletes_form
-    else (if bytes_eq variant (codes "not") then not_form
-    else (if bytes_eq variant (codes "separate") then separate_form
-    else (if bytes_eq variant (codes "visible") then visible_form else proved_form))))
+    if bytes_eq variant (codes "retries") then variant_form keyword.Retries keyword.New
+    else (if bytes_eq variant (codes "deletes") then variant_form keyword.Deletes keyword.First
+    else (if bytes_eq variant (codes "not") then variant_form keyword.Not keyword.Idempotent
+    else (if bytes_eq variant (codes "separate")
+    then service_words (One (slot.Keyword keyword.Separate) ∷ route_words)
+    else (if bytes_eq variant (codes "visible") then variant_form keyword.Visible keyword.Late
+    else service_words route_words))))
 
 -- of service, by the word behind the number of partitions
 abbrev pub service_form : List Word → List Part
 service_form (name ∷ principal ∷ host ∷ keyword ∷ number ∷ variant ∷ words) =
     service_form_by variant.decoded
-service_form words = proved_form
+service_form words = service_form_by (codes "by")
 
 -- Steps.
 
@@ -76,20 +58,14 @@ record_words more =
 abbrev pub record_form : List Part
 record_form = record_words []
 
--- of a record with or without one more word, of two variants
-abbrev pub crash_form : List Part
-crash_form = record_words (OrEnd ∷ One (slot.Keyword keyword.Crash) ∷ [])
-
-abbrev pub late_form : List Part
-late_form = record_words (OrEnd ∷ One (slot.Keyword keyword.Late) ∷ [])
-
+-- of a record, of two variants with or without one more word
 abbrev pub record_form_by : Sending → List Part
 record_form_by Proved = record_form
 record_form_by RetriesNew = record_form
 record_form_by DeletesFirst = record_form
 record_form_by NotIdempotent = record_form
-record_form_by Separate = crash_form
-record_form_by VisibleLate = late_form
+record_form_by Separate = record_words (OrEnd ∷ One (slot.Keyword keyword.Crash) ∷ [])
+record_form_by VisibleLate = record_words (OrEnd ∷ One (slot.Keyword keyword.Late) ∷ [])
 
 abbrev pub tick_form : List Part
 tick_form = OrEnd ∷ One slot.Loss ∷ []

@@ -1,6 +1,5 @@
 -- The names of steps, those of services and those of consumers.
-use Rattle.std.specs.Prelude.{ℕ, Bool, List, [], ◌∷◌, Option, codes, find}
-use Rattle.std.specs.Option.{is_some}
+use Rattle.std.specs.Prelude.{ℕ, List, [], ◌∷◌, Option, codes, find}
 use Rattle.std.specs.Str.{bytes_eq}
 use Rattle.kob_scene_text.specs.declared.step_names.StepName.{StepName}
 use Rattle.kob_scene_text.specs.declared.step_names.StepName.TheVariants.{Record, Tick, Run, Restart, Sweep, Outbox, Business, Visible, Inbox}
@@ -23,7 +22,3 @@ all_steps =
 -- the step of this name
 abbrev pub step_named : List ℕ → Option StepName
 step_named word = find (λ step. bytes_eq word (step_text step)) all_steps
-
--- the words that begin a step
-abbrev pub begins_step : List ℕ → Bool
-begins_step word = is_some (step_named word)

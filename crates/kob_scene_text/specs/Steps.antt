@@ -20,6 +20,7 @@ use Rattle.kob_scene_text.specs.declared.scene.Sending.TheVariants.{Proved, Retr
 use Rattle.kob_scene_text.specs.declared.scene.ServiceStep.{ServiceStep}
 use Rattle.kob_scene_text.specs.Reading.{◌>>>◌, as_scripts, bad_line}
 use Rattle.std.specs.List.{list_any}
+use Rattle.std.specs.Option.{is_some}
 use Rattle.kob_script.specs.Script.{is_setting}
 use Rattle.kob_scene_text.specs.declared.name.Worker.{Worker}
 use Rattle.kob_scene_text.specs.declared.line.Head.{Head}
@@ -29,7 +30,7 @@ use Rattle.kob_router.specs.declared.line.Loss.TheVariants as losses
 use Rattle.kob_scene_text.specs.declared.scene.ServiceStep.TheVariants as service_steps
 use Rattle.kob_scene_text.specs.declared.step_names.StepName.{StepName}
 use Rattle.kob_scene_text.specs.declared.step_names.StepName.TheVariants as steps
-use Rattle.kob_scene_text.specs.StepNames.{begins_step, step_named}
+use Rattle.kob_scene_text.specs.StepNames.{step_named}
 
 -- a business row: its key and its state
 abbrev pub Written : Type 0
@@ -204,12 +205,10 @@ expected_by first second =
     else (if bytes_eq first (codes "delivered") && bytes_eq second.decoded (codes "all")
     then Ok expectations.Delivered else Err bad_line)
 
-abbrev pub expected_alone : List ℕ → Result Expected SceneFaultKind
-expected_alone word = if bytes_eq word (codes "order") then Ok expectations.Order else Err bad_line
-
 -- what is expected: delivered all, lost ID, or order
 abbrev pub expected_of : List Word → Result Expected SceneFaultKind
-expected_of (word ∷ []) = expected_alone word.decoded
+expected_of (word ∷ []) =
+    if bytes_eq word.decoded (codes "order") then Ok expectations.Order else Err bad_line
 expected_of (first ∷ second ∷ []) = expected_by first.decoded second
 expected_of (first ∷ second ∷ word ∷ words) = Err bad_line
 expected_of [] = Err bad_line
@@ -219,7 +218,7 @@ expected_of [] = Err bad_line
 -- the second word begins a step
 abbrev pub asks_step : List Word → Bool
 asks_step [] = false
-asks_step (second ∷ words) = begins_step second.decoded
+asks_step (second ∷ words) = is_some (step_named second.decoded)
 
 -- A declared worker's line is a step. Where none has the name, the line asks for a step of an
 -- unknown worker if it has a step's word, and else is a request, whose faults are those of scripts.
@@ -227,12 +226,8 @@ abbrev pub head_by : Option Worker → List Word → Head
 head_by (Some worker) rest = Of worker
 head_by None rest = if asks_step rest then Unknown else Request
 
--- a first word with a colon is a principal
-abbrev pub head_named : Option Worker → List ℕ → List Word → Head
-head_named worker name rest =
-    if list_any (λ byte. byte == 58) name then Request else head_by worker rest
-
--- what a line begins with, whose first word is no setting, where a worker may have that name
+-- what a line begins with, whose first word is no setting, where a worker may have that name; a
+-- first word with a colon is a principal
 abbrev pub head_by_word : Option Worker → List ℕ → List Word → Head
 head_by_word worker name rest =
     if bytes_eq name (codes "service") then Service
@@ -241,7 +236,7 @@ head_by_word worker name rest =
     else (if bytes_eq name (codes "law") then Law
     else (if bytes_eq name (codes "check") then Check
     else (if bytes_eq name (codes "expect") then Expect
-    else head_named worker name rest)))))
+    else (if list_any (λ byte. byte == 58) name then Request else head_by worker rest))))))
 
 abbrev pub head_of : Option Worker → Word → List Word → Head
 head_of worker first rest =

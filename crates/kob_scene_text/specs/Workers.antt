@@ -26,12 +26,10 @@ use Rattle.kob_router.specs.declared.settings.RouteSettings.{RouteSettings}
 use Rattle.kob_router.specs.declared.settings.Routing.{Routing}
 use Rattle.kob_router.specs.Route.{entries_of, is_template}
 use Rattle.kob_script.specs.declared.fault.FaultKind.TheVariants.{BadLine, BadWord}
-use Rattle.kob_scene_text.specs.declared.service_lines.DeclaredRoute.{DeclaredRoute}
 use Rattle.kob_scene_text.specs.declared.service_lines.DeclaredService.{DeclaredService}
 use Rattle.bstr.specs.Find.{first_of, matches}
 use Rattle.kob_router.specs.declared.place.Place.{Place}
 use Rattle.kob_scene_text.specs.declared.consumer_lines.DeclaredConsumer.{DeclaredConsumer}
-use Rattle.kob_scene_text.specs.declared.consumer_lines.Reads.{Reads}
 use Rattle.kob_scene_text.specs.declared.name.Worker.TheVariants as workers
 
 -- the place of the service, or the consumer, of a name
@@ -163,21 +161,16 @@ sending_first [] = (Proved, [])
 sending_first (one ∷ rest) =
     if bytes_eq one.decoded (codes "separate") then (Separate, rest) else sending_pair (one ∷ rest)
 
--- so many partitions, how rows are sent, and a route
-abbrev pub declared_route : Word → List Word → Result DeclaredRoute SceneFaultKind
-declared_route partitions words =
-    partitions_of partitions >>> λ number.
+abbrev pub service_with : Word → Word → Word → List Word → Result DeclaredService SceneFaultKind
+service_with principal host partitions words =
+    as_scripts (who_of principal host) >>> λ who. partitions_of partitions >>> λ number.
     as_scripts (settings_of (sending_first words).1) >>> λ settings.
     route_of settings >>> λ route. Ok (record {
+      who = who;
       settings = settings;
       routed = record { route = route; partitions = number };
       sending = (sending_first words).0;
     })
-
-abbrev pub service_with : Word → Word → Word → List Word → Result DeclaredService SceneFaultKind
-service_with principal host partitions words =
-    as_scripts (who_of principal host) >>> λ who. declared_route partitions words >>> λ route.
-    Ok (record { who = who; route = route })
 
 -- PRINCIPAL HOST partitions N, a variant or not, and the words of a route
 abbrev pub service_of : List Word → Result DeclaredService SceneFaultKind
@@ -227,49 +220,27 @@ start_first (keyword ∷ word ∷ rest) =
     else Ok (Earliest, keyword ∷ word ∷ rest)
 start_first words = Ok (Earliest, words)
 
--- the variant that two words name
-abbrev pub taking_of : Word → Word → Option Taking
-taking_of one other =
-    if bytes_eq one.decoded (codes "commits") && bytes_eq other.decoded (codes "before")
-    then Some takings.CommitsBefore
-    else (if bytes_eq one.decoded (codes "no") && bytes_eq other.decoded (codes "dedup")
-    then Some takings.NoDedup else None)
-
-abbrev pub taking_by : Option Taking → List Word → List Word → Taking × List Word
-taking_by None all rest = (takings.Proved, all)
-taking_by (Some taking) all rest = (taking, rest)
-
 -- a variant where the words begin with its name, else the proved consumer, and the words behind it
 abbrev pub taking_first : List Word → Taking × List Word
-taking_first (one ∷ other ∷ rest) = taking_by (taking_of one other) (one ∷ other ∷ rest) rest
+taking_first (one ∷ other ∷ rest) =
+    if bytes_eq one.decoded (codes "commits") && bytes_eq other.decoded (codes "before")
+    then (takings.CommitsBefore, rest)
+    else (if bytes_eq one.decoded (codes "no") && bytes_eq other.decoded (codes "dedup")
+    then (takings.NoDedup, rest) else (takings.Proved, one ∷ other ∷ rest))
 taking_first words = (takings.Proved, words)
-
--- [start latest], a variant or not, and [reads TOPIC:PARTITION ..]
-abbrev pub reads_of : List Word → Result Reads FaultKind
-reads_of words =
-    start_first words >>= λ start. places_of (taking_first start.1).1 >>= λ places.
-    Ok (record {
-      start = start.0;
-      taking = (taking_first start.1).0;
-      assignment = places;
-    })
-
--- what stands behind who it is
-abbrev pub reading_of : Who → Word → Word → List Word → Result DeclaredConsumer SceneFaultKind
-reading_of who group max words =
-    as_scripts (text_of group) >>> λ group. max_of max >>> λ max.
-    as_scripts (reads_of words) >>> λ reads.
-    Ok (record {
-      who = who;
-      subscription = record { group = group; assignment = reads.assignment; max = max };
-      start = reads.start;
-      taking = reads.taking;
-    })
 
 abbrev pub consumer_with : Word → Word → Word → Word → List Word
     → Result DeclaredConsumer SceneFaultKind
 consumer_with principal host group max words =
-    as_scripts (who_of principal host) >>> λ who. reading_of who group max words
+    as_scripts (who_of principal host) >>> λ who. as_scripts (text_of group) >>> λ group.
+    max_of max >>> λ max. as_scripts (start_first words) >>> λ start.
+    as_scripts (places_of (taking_first start.1).1) >>> λ places.
+    Ok (record {
+      who = who;
+      subscription = record { group = group; assignment = places; max = max };
+      start = start.0;
+      taking = (taking_first start.1).0;
+    })
 
 -- PRINCIPAL HOST group G max N, where it begins, how it takes in, and what is read
 abbrev pub consumer_of : List Word → Result DeclaredConsumer SceneFaultKind

@@ -1,13 +1,10 @@
 //! Lines that declare a consumer, after its name.
 
 ghost use Rattle.std.specs.Prelude.{◌≡◌};
-ghost use Rattle.std.specs.Option.{option_map};
 ghost use Rattle.kob_script.specs.Words.{Gives as ScriptGives, GivesSeen as ScriptGivesSeen, each};
 ghost use Rattle.kob_scene_text.specs.Reading.{Gives};
-ghost use Rattle.kob_scene_text.specs.Workers.{reads_of, start_first, start_named};
-ghost use Rattle.kob_scene_text.specs.Workers.{taking_first, taking_of};
-ghost use Rattle.kob_scene_text.specs.Workers.{consumer_of, consumer_with, cut, max_of, place_in};
-ghost use Rattle.kob_scene_text.specs.Workers.{place_of, places_of, reading_of};
+ghost use Rattle.kob_scene_text.specs.Workers.{consumer_of, cut, max_of, place_of, places_of};
+ghost use Rattle.kob_scene_text.specs.Workers.{start_first, start_named, taking_first};
 
 use crate::fault::{SceneFaultKind, StepError};
 use crate::name::{Who, who_of};
@@ -28,14 +25,6 @@ pub(crate) struct DeclaredConsumer {
     pub(crate) taking: Taking,
 }
 
-/// Where a consumer begins, how it takes in, and the partitions that it reads.
-#[derive(Drop)]
-struct Reads {
-    start: Start,
-    taking: Taking,
-    assignment: Items<Place>,
-}
-
 /// `PRINCIPAL HOST group GROUP max N [start latest]`, then a variant or not, then `[reads
 /// TOPIC:PARTITION ..]`. The words are checked from left to right.
 pub(crate) fn consumer_of(alloc: Global, words: &[Word<'_>]) -> Result<DeclaredConsumer, StepError>
@@ -44,53 +33,25 @@ pub(crate) fn consumer_of(alloc: Global, words: &[Word<'_>]) -> Result<DeclaredC
     match words {
         [principal, host, first, group, second, max, rest @ ..]
             if first.decoded() == b"group".as_slice() && second.decoded() == b"max".as_slice() => {
-            consumer_with(alloc, principal, host, group, max, rest)
+            let who = who_of(alloc, principal, host)?;
+            let group = text_of(alloc, group)?;
+            let max = max_of(max)?;
+            let (start, rest) = start_first(rest)?;
+            let (taking, rest) = taking_first(rest);
+            let assignment = places_of(alloc, rest)?;
+            Ok(DeclaredConsumer {
+                who,
+                subscription: Subscription {
+                    group,
+                    assignment,
+                    max,
+                },
+                start,
+                taking,
+            })
         }
         _ => Err(StepError::Fault(SceneFaultKind::Script(FaultKind::BadLine))),
     }
-}
-
-fn consumer_with(
-    alloc: Global,
-    principal: &Word<'_>,
-    host: &Word<'_>,
-    group: &Word<'_>,
-    max: &Word<'_>,
-    words: &[Word<'_>],
-) -> Result<DeclaredConsumer, StepError>
-    ensures { Gives result (consumer_with principal.now host.now group.now max.now words.now) }
-{
-    let who = who_of(alloc, principal, host)?;
-    reading_of(alloc, who, group, max, words)
-}
-
-/// What stands behind who it is.
-fn reading_of(
-    alloc: Global,
-    who: Who,
-    group: &Word<'_>,
-    max: &Word<'_>,
-    words: &[Word<'_>],
-) -> Result<DeclaredConsumer, StepError>
-    ensures { Gives result (reading_of who group.now max.now words.now) }
-{
-    let group = text_of(alloc, group)?;
-    let max = max_of(max)?;
-    let Reads {
-        start,
-        taking,
-        assignment,
-    } = reads_of(alloc, words)?;
-    Ok(DeclaredConsumer {
-        who,
-        subscription: Subscription {
-            group,
-            assignment,
-            max,
-        },
-        start,
-        taking,
-    })
 }
 
 /// From 1 on. `BadNumber` comes before `BadMax`.
@@ -103,20 +64,6 @@ pub(crate) fn max_of(word: &Word<'_>) -> Result<u64, StepError>
     } else {
         Err(StepError::Fault(SceneFaultKind::BadMax))
     }
-}
-
-/// What stands behind the number of records.
-fn reads_of(alloc: Global, words: &[Word<'_>]) -> Result<Reads, LineError>
-    ensures { ScriptGives result (reads_of words.now) }
-{
-    let (start, words) = start_first(words)?;
-    let (taking, words) = taking_first(words);
-    let assignment = places_of(alloc, words)?;
-    Ok(Reads {
-        start,
-        taking,
-        assignment,
-    })
 }
 
 /// Where it begins, and the words after that.
@@ -149,24 +96,15 @@ fn taking_first<'w, 'l>(words: &'w [Word<'l>]) -> (Taking, &'w [Word<'l>])
     ensures rest { result.1.now ≡ (taking_first words.entry.now).1 }
 {
     match words {
-        [one, other, rest @ ..] => match taking_of(one, other) {
-            Some(taking) => (taking, rest),
-            None => (Taking::Proved, words),
-        },
+        [one, two, rest @ ..]
+            if one.decoded() == b"commits".as_slice() && two.decoded() == b"before".as_slice() => {
+            (Taking::CommitsBefore, rest)
+        }
+        [one, two, rest @ ..]
+            if one.decoded() == b"no".as_slice() && two.decoded() == b"dedup".as_slice() => {
+            (Taking::NoDedup, rest)
+        }
         _ => (Taking::Proved, words),
-    }
-}
-
-/// The variant that two words name.
-fn taking_of(one: &Word<'_>, other: &Word<'_>) -> Option<Taking>
-    ensures { result ≡ taking_of one.now other.now }
-{
-    if one.decoded() == b"commits".as_slice() && other.decoded() == b"before".as_slice() {
-        Some(Taking::CommitsBefore)
-    } else if one.decoded() == b"no".as_slice() && other.decoded() == b"dedup".as_slice() {
-        Some(Taking::NoDedup)
-    } else {
-        None
     }
 }
 
@@ -195,30 +133,16 @@ fn each_place(alloc: Global, words: &[Word<'_>]) -> Result<Items<Place>, LineErr
 }
 
 /// `TOPIC:PARTITION`, split at the first colon that is not escaped.
+#[tactic(auto, unfolding(crate::specs::Workers::cut))]
 pub(crate) fn place_of(alloc: Global, word: &Word<'_>) -> Result<Place, LineError>
     ensures { ScriptGives result (place_of word.now) }
 {
-    match cut(word.raw()) {
-        Some((topic, partition)) => place_by(alloc, topic, partition),
-        None => Err(LineError::Fault(FaultKind::BadLine)),
-    }
-}
-
-ghost use Rattle.std.specs.Prelude.{Some};
-
-fn place_by(alloc: Global, topic: &[u8], partition: &[u8]) -> Result<Place, LineError>
-    ensures { ScriptGives result (place_in (Some (topic.now, partition.now))) }
-{
+    let Some((topic, partition)) = word.raw().split_once_str(b":") else {
+        return Err(LineError::Fault(FaultKind::BadLine));
+    };
     let topic = Word::read(alloc, topic)?;
     let topic = text_of(alloc, &topic)?;
     let partition = Word::read(alloc, partition)?;
     let partition = number_of(&partition)?;
     Ok(Place { topic, partition })
-}
-
-#[tactic(auto, unfolding(crate::specs::Workers::cut))]
-fn cut(word: &[u8]) -> Option<(&[u8], &[u8])>
-    ensures { option_map (λ parts. (parts.0.now, parts.1.now)) result ≡ cut word.now }
-{
-    word.split_once_str(b":")
 }

@@ -2,9 +2,8 @@
 
 ghost use Rattle.std.specs.Prelude.{◌≡◌};
 ghost use Rattle.std.specs.Option.{option_map};
-ghost use Rattle.kob_scene_text.specs.Places.{consumer_step_form};
-ghost use Rattle.kob_scene_text.specs.Places.{expect_form, expect_form_by, law_form};
-ghost use Rattle.kob_scene_text.specs.Places.{keyword_text, pair_form, setting_form, step_form};
+ghost use Rattle.kob_scene_text.specs.Places.{expect_form, expect_form_by, keyword_text};
+ghost use Rattle.kob_scene_text.specs.Places.{setting_form, step_form};
 ghost use Rattle.kob_scene_text.specs.ServiceForms.{tick_form};
 
 use crate::name::Worker;
@@ -94,6 +93,16 @@ pub(crate) enum Part {
     Each(Slot),
 }
 
+pub(crate) const NAME: Part = Part::One(Slot::NewName);
+
+pub(crate) const PRINCIPAL: Part = Part::One(Slot::Principal);
+
+pub(crate) const HOST: Part = Part::One(Slot::Host);
+
+pub(crate) const TEXT: Part = Part::One(Slot::Text);
+
+pub(crate) const OR_END: Part = Part::OrEnd;
+
 pub(crate) fn keyword_text(keyword: Keyword) -> &'static str
     ensures { result.now ≡ keyword_text keyword }
 {
@@ -138,20 +147,6 @@ pub(crate) fn setting_form(first: &Word<'_>) -> &'static [Part]
     }
 }
 
-/// The words behind `law`.
-pub(crate) fn law_form() -> &'static [Part]
-    ensures { result.now ≡ law_form }
-{
-    &[Part::One(Slot::LawService), Part::One(Slot::LawConsumer)]
-}
-
-/// The words behind `check`.
-pub(crate) fn pair_form() -> &'static [Part]
-    ensures { result.now ≡ pair_form }
-{
-    &[Part::One(Slot::ServiceName), Part::One(Slot::ConsumerName)]
-}
-
 /// The words behind `expect`, of which the third says which others there are.
 pub(crate) fn expect_form(words: &[Word<'_>]) -> &'static [Part]
     ensures { result.now ≡ expect_form words.now }
@@ -194,28 +189,21 @@ pub(crate) fn tick_form() -> &'static [Part]
     &[Part::OrEnd, Part::One(Slot::Loss)]
 }
 
-/// The words behind a step's name, of a consumer; None if consumers have no such step.
-fn consumer_step_form(step: StepName) -> Option<&'static [Part]>
-    ensures { option_map (λ parts. parts.now) result ≡ consumer_step_form step }
-{
-    match step {
-        StepName::Tick => Some(tick_form()),
-        StepName::Run | StepName::Restart | StepName::Inbox => Some(&[]),
-        StepName::Record
-        | StepName::Sweep
-        | StepName::Outbox
-        | StepName::Business
-        | StepName::Visible => None,
-    }
-}
-
 /// The words behind a step's name; None if the worker has no such step. A service sends so.
 pub(crate) fn step_form(sending: Sending, worker: Worker, name: &[u8]) -> Option<&'static [Part]>
     ensures { option_map (λ parts. parts.now) result ≡ step_form sending worker name.now }
 {
-    match (step_named(name), worker) {
-        (Some(step), Worker::Service(_)) => service_step_form(sending, step),
-        (Some(step), Worker::Consumer(_)) => consumer_step_form(step),
-        (None, _) => None,
+    match (step_named(name)?, worker) {
+        (step, Worker::Service(_)) => service_step_form(sending, step),
+        (StepName::Tick, Worker::Consumer(_)) => Some(tick_form()),
+        (StepName::Run | StepName::Restart | StepName::Inbox, Worker::Consumer(_)) => Some(&[]),
+        (
+            StepName::Record
+            | StepName::Sweep
+            | StepName::Outbox
+            | StepName::Business
+            | StepName::Visible,
+            Worker::Consumer(_),
+        ) => None,
     }
 }

@@ -1,29 +1,28 @@
 //! The reader of a line of a scene.
 
 ghost use Rattle.std.specs.Prelude.{◌≡◌, ◌++◌, map, IfOk, OnOk};
-ghost use Rattle.kob_scene_text.specs.Steps.{asks_step, head_by, head_by_word, head_named, head_of};
+ghost use Rattle.kob_scene_text.specs.Steps.{head_by, head_of};
 ghost use Rattle.kob_scene_text.specs.Scenes.{ReadsLine, ReadsNext};
-ghost use Rattle.kob_scene_text.specs.Scenes.{asked, is_early};
+ghost use Rattle.kob_scene_text.specs.Scenes.{asked};
 ghost use Rattle.kob_scene_text.specs.Scenes.{next_worker, so_far, told};
-ghost use Rattle.kob_scene_text.specs.Scenes.{consumer_at, service_at};
 ghost use Rattle.kob_scene_text.specs.Reading.{Gives};
 ghost use Rattle.kob_scene_text.specs.Scenes.{pair_named, pair_of, with_check, with_consumer};
-ghost use Rattle.kob_scene_text.specs.Scenes.{with_expect, with_head, with_journal, with_law};
+ghost use Rattle.kob_scene_text.specs.Scenes.{with_expect, with_journal, with_law};
 ghost use Rattle.kob_scene_text.specs.Scenes.{with_requests, with_service, with_setting};
 ghost use Rattle.kob_scene_text.specs.Scenes.{with_step, with_steps, with_words};
 ghost use Rattle.std.specs.Prelude.{Ok, [], ◌∷◌};
 
-use crate::consumer_lines::{DeclaredConsumer, consumer_of};
+use crate::consumer_lines::consumer_of;
 use crate::fault::{SceneFaultKind, StepError};
 use crate::name::{Worker, consumer_named, new_name, service_named, worker_named};
 use crate::reading::Reading;
 use crate::scene::{Consumer, Service, Step};
-use crate::service_lines::{DeclaredService, service_of};
+use crate::service_lines::service_of;
 use crate::step_lines::{consumer_step, expected_of, service_step};
-use crate::step_names::begins_step;
+use crate::step_names::step_named;
 use crate::variants::{has_variant, sending_at};
 use kob_acl_cli::CliArgs;
-use kob_names::{Text, sum_of};
+use kob_names::sum_of;
 use kob_rights::Event;
 use kob_script::{
     FaultKind, Word, answer_to, events_of, everyone_of, is_setting, is_super, super_of, words_of,
@@ -57,40 +56,15 @@ pub(crate) fn read_line(alloc: Global, reading: &mut Reading, line: &[u8]) -> Re
     added
 }
 
-/// Whether the word after the first begins a step.
-fn asks_step(rest: &[Word<'_>]) -> bool
-    ensures { result ≡ asks_step rest.now }
+/// What a line begins with. A first word that is no keyword is a principal if it has a colon, and
+/// else the name of a worker.
+pub(crate) fn head_of(worker: Option<Worker>, first: &Word<'_>, rest: &[Word<'_>]) -> Head
+    ensures { result ≡ head_of worker first.now rest.now }
 {
-    match rest {
-        [second, ..] => begins_step(second.decoded()),
-        [] => false,
-    }
-}
-
-fn head_by(worker: Option<Worker>, rest: &[Word<'_>]) -> Head
-    ensures { result ≡ head_by worker rest.now }
-{
-    match worker {
-        Some(worker) => Head::Of(worker),
-        None if asks_step(rest) => Head::Unknown,
-        None => Head::Request,
-    }
-}
-
-/// A first word with a colon is a principal; any other is the name of a worker.
-fn head_named(worker: Option<Worker>, name: &[u8], rest: &[Word<'_>]) -> Head
-    ensures { result ≡ head_named worker name.now rest.now }
-{
-    if name.contains(&b':') {
-        return Head::Request;
-    }
-    head_by(worker, rest)
-}
-
-fn head_by_word(worker: Option<Worker>, name: &[u8], rest: &[Word<'_>]) -> Head
-    ensures { result ≡ head_by_word worker name.now rest.now }
-{
-    if name == b"service".as_slice() {
+    let name = first.decoded();
+    if is_setting(first) {
+        Head::Setting
+    } else if name == b"service".as_slice() {
         Head::Service
     } else if name == b"consumer".as_slice() {
         Head::Consumer
@@ -102,18 +76,23 @@ fn head_by_word(worker: Option<Worker>, name: &[u8], rest: &[Word<'_>]) -> Head
         Head::Check
     } else if name == b"expect".as_slice() {
         Head::Expect
+    } else if name.contains(&b':') {
+        Head::Request
     } else {
-        head_named(worker, name, rest)
+        head_by(worker, rest)
     }
 }
 
-pub(crate) fn head_of(worker: Option<Worker>, first: &Word<'_>, rest: &[Word<'_>]) -> Head
-    ensures { result ≡ head_of worker first.now rest.now }
+/// Where no worker has the name, the line asks for a step of an unknown one if it has the word of a
+/// step.
+fn head_by(worker: Option<Worker>, rest: &[Word<'_>]) -> Head
+    ensures { result ≡ head_by worker rest.now }
 {
-    if is_setting(first) {
-        return Head::Setting;
+    match (worker, rest) {
+        (Some(worker), _) => Head::Of(worker),
+        (None, [second, ..]) if step_named(second.decoded()).is_some() => Head::Unknown,
+        (None, _) => Head::Request,
     }
-    head_by_word(worker, first.decoded(), rest)
 }
 
 /// Adds the steps that ask for these events, in order.
@@ -137,31 +116,11 @@ impl Reading {
     ) -> Result<(), StepError>
         ensures { ReadsNext self.new result (with_words answer.now (so_far self.old) words.now) }
     {
-        match words {
-            [] => Ok(()),
-            [first, rest @ ..] => {
-                let worker = worker_named(&self.services, &self.consumers, first.decoded());
-                let head = head_of(worker, first, rest);
-                self.add_by(alloc, head, first, rest, words, answer)
-            }
-        }
-    }
-
-    /// Adds what a line says that begins so.
-    fn add_by(
-        &mut self,
-        alloc: Global,
-        head: Head,
-        first: &Word<'_>,
-        rest: &[Word<'_>],
-        words: &[Word<'_>],
-        answer: &Option<CliArgs>,
-    ) -> Result<(), StepError>
-        requires { words.now ≡ first.now ∷ rest.now }
-        ensures { ReadsNext self.new result
-            (with_head answer.now head (so_far self.old) first.now rest.now) }
-    {
-        match head {
+        let [first, rest @ ..] = words else {
+            return Ok(());
+        };
+        let worker = worker_named(&self.services, &self.consumers, first.decoded());
+        match head_of(worker, first, rest) {
             Head::Setting => self.add_setting(alloc, first, rest),
             Head::Service => self.add_service(alloc, rest),
             Head::Consumer => self.add_consumer(alloc, rest),
@@ -185,7 +144,7 @@ impl Reading {
         ensures { ReadsNext self.new result
             (with_setting (so_far self.old) first.now arguments.now) }
     {
-        if !self.is_early() {
+        if !self.steps.is_empty() || !self.services.is_empty() || !self.consumers.is_empty() {
             return Err(StepError::Fault(SceneFaultKind::Script(FaultKind::LateSetting)));
         }
         if is_super(first) {
@@ -195,12 +154,6 @@ impl Reading {
             self.everyone = everyone_of(arguments)?;
         }
         Ok(())
-    }
-
-    fn is_early(&self) -> bool
-        ensures { result ≡ is_early (so_far self.now) }
-    {
-        self.steps.is_empty() && self.services.is_empty() && self.consumers.is_empty()
     }
 
     /// The number of the worker that is declared next.
@@ -218,33 +171,15 @@ impl Reading {
         };
         let worker = self.next_worker()?;
         let name = new_name(alloc, &self.services, &self.consumers, name)?;
-        match service_of(alloc, rest) {
-            Ok(declared) => self.push_service(worker, name, declared),
-            Err(error) => {
-                drop(name);
-                Err(error)
-            }
-        }
-    }
-
-    fn push_service(
-        &mut self,
-        worker: usize,
-        name: Text,
-        declared: DeclaredService,
-    ) -> Result<(), StepError>
-        ensures { ReadsNext self.new result (Ok (record (so_far self.old) {
-          services = self.old.services.items ++ service_at worker name declared ∷ [];
-        })) }
-    {
+        let declared = service_of(alloc, rest)?;
         self.services.push(Service {
             name,
             worker,
             principal: declared.who.principal,
             host: declared.who.host,
-            settings: declared.route.settings,
-            routed: declared.route.routed,
-            sending: declared.route.sending,
+            settings: declared.settings,
+            routed: declared.routed,
+            sending: declared.sending,
         })?;
         Ok(())
     }
@@ -257,25 +192,7 @@ impl Reading {
         };
         let worker = self.next_worker()?;
         let name = new_name(alloc, &self.services, &self.consumers, name)?;
-        match consumer_of(alloc, rest) {
-            Ok(declared) => self.push_consumer(worker, name, declared),
-            Err(error) => {
-                drop(name);
-                Err(error)
-            }
-        }
-    }
-
-    fn push_consumer(
-        &mut self,
-        worker: usize,
-        name: Text,
-        declared: DeclaredConsumer,
-    ) -> Result<(), StepError>
-        ensures { ReadsNext self.new result (Ok (record (so_far self.old) {
-          consumers = self.old.consumers.items ++ consumer_at worker name declared ∷ [];
-        })) }
-    {
+        let declared = consumer_of(alloc, rest)?;
         self.consumers.push(Consumer {
             name,
             worker,

@@ -1,8 +1,7 @@
 //! What a word of a line is where its line means something else by it.
 
-ghost use Rattle.std.specs.Prelude.{◌≡◌, IfOk, map, option_map};
-ghost use Rattle.kob_scene_text.specs.Misuses.{misuse_at, misuse_behind, misuse_between};
-ghost use Rattle.kob_scene_text.specs.Misuses.{misuse_of_name, misuse_of_step, misuse_of_worker};
+ghost use Rattle.std.specs.Prelude.{◌≡◌, IfOk, map};
+ghost use Rattle.kob_scene_text.specs.Misuses.{misuse_at, misuse_between};
 
 use crate::fault::SceneFaultKind;
 use crate::name::Worker;
@@ -38,68 +37,30 @@ pub fn misuse_at(
         ≡ misuse_at (map (λ line. line.now) before.now) words.now kind place) }
 {
     if same_kind(kind, SceneFaultKind::UnknownWorker) {
-        misuse_of_name(alloc, before, words.get(place))
+        let Some(word) = words.get(place) else {
+            return Ok(None);
+        };
+        match worker_in(alloc, before, word.decoded())? {
+            Some(Worker::Service(_)) => Ok(Some(Misuse::ServiceName)),
+            Some(Worker::Consumer(_)) => Ok(Some(Misuse::ConsumerName)),
+            None => Ok(None),
+        }
     } else if same_kind(kind, SceneFaultKind::Script(FaultKind::BadLine)) && place == 1 {
-        misuse_behind(alloc, before, words)
+        let [worker, step, ..] = words else {
+            return Ok(None);
+        };
+        let worker = worker_in(alloc, before, worker.decoded())?;
+        Ok(misuse_between(worker, step_named(step.decoded())))
     } else {
         Ok(None)
     }
 }
 
-fn misuse_of_name(
-    alloc: Global,
-    before: &[&[u8]],
-    word: Option<&Word<'_>>,
-) -> Result<Option<Misuse>, AllocError>
-    ensures { IfOk result (λ misuse. misuse ≡ misuse_of_name
-        (map (λ line. line.now) before.now) (option_map (λ word. word.now) word.entry)) }
-{
-    match word {
-        Some(word) => {
-            let worker = worker_in(alloc, before, word.decoded())?;
-            Ok(worker.map(misuse_of_worker))
-        }
-        None => Ok(None),
-    }
-}
-
-fn misuse_of_worker(worker: Worker) -> Misuse
-    ensures { result ≡ misuse_of_worker worker }
-{
-    match worker {
-        Worker::Service(_) => Misuse::ServiceName,
-        Worker::Consumer(_) => Misuse::ConsumerName,
-    }
-}
-
-/// What the second word of a line is.
-fn misuse_behind(
-    alloc: Global,
-    before: &[&[u8]],
-    words: &[Word<'_>],
-) -> Result<Option<Misuse>, AllocError>
-    ensures { IfOk result (λ misuse. misuse
-        ≡ misuse_behind (map (λ line. line.now) before.now) words.now) }
-{
-    match words {
-        [worker, step, ..] => {
-            let worker = worker_in(alloc, before, worker.decoded())?;
-            Ok(misuse_between(worker, step_named(step.decoded())))
-        }
-        [_] | [] => Ok(None),
-    }
-}
-
+/// What a step is behind the name of a worker.
 fn misuse_between(worker: Option<Worker>, step: Option<StepName>) -> Option<Misuse>
     ensures { result ≡ misuse_between worker step }
 {
-    misuse_of_step(worker?, step?)
-}
-
-fn misuse_of_step(worker: Worker, step: StepName) -> Option<Misuse>
-    ensures { result ≡ misuse_of_step worker step }
-{
-    match (worker, step) {
+    match (worker?, step?) {
         (Worker::Service(_), StepName::Inbox) => Some(Misuse::ConsumerStep),
         (
             Worker::Consumer(_),

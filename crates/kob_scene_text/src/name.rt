@@ -1,6 +1,6 @@
 //! Names of workers, the words that cannot be names, and who works under a name.
 
-ghost use Rattle.std.specs.Prelude.{◌≡◌, bytes_eq, codes};
+ghost use Rattle.std.specs.Prelude.{◌≡◌};
 ghost use Rattle.kob_script.specs.Words.{Gives as ScriptGives};
 ghost use Rattle.kob_scene_text.specs.Workers.{consumer_named, is_keyword, is_name, is_name_byte};
 ghost use Rattle.kob_scene_text.specs.Workers.{new_name, service_named, who_of, worker_named};
@@ -59,12 +59,6 @@ pub(crate) fn consumer_named(consumers: &[Consumer], name: &[u8]) -> Option<usiz
         .position(|consumer| consumer.name.as_str().as_bytes() == name)
 }
 
-fn is_name_byte(byte: u8) -> bool
-    ensures { result ≡ is_name_byte byte }
-{
-    byte.is_ascii_alphanumeric() || byte == b'-' || byte == b'_'
-}
-
 /// Whether a line with this first word is not a step.
 fn is_keyword(name: &[u8]) -> bool
     ensures { result ≡ is_keyword name.now }
@@ -82,23 +76,17 @@ fn is_keyword(name: &[u8]) -> bool
 fn has_name_bytes(name: &[u8]) -> bool
     ensures { result ≡ list_all is_name_byte name.now }
 {
-    name.iter().all(|byte| is_name_byte(*byte))
+    name.iter().all(|byte| byte.is_ascii_alphanumeric() || *byte == b'-' || *byte == b'_')
 }
 
 /// The journal names by `-` whom a scene's own requests are from, so that no worker has that name.
-fn is_dash(name: &[u8]) -> bool
-    ensures { result ≡ bytes_eq name.now (codes "-") }
-{
-    name == b"-".as_slice()
-}
-
 pub(crate) fn is_name(name: &[u8]) -> bool
     ensures { result ≡ is_name name.now }
 {
     !name.is_empty()
         && name.len() <= 64
         && !is_keyword(name)
-        && !is_dash(name)
+        && name != b"-".as_slice()
         && has_name_bytes(name)
 }
 

@@ -1,15 +1,14 @@
 //! Which word of a line has the fault that its scene has.
 
-ghost use Rattle.std.specs.Prelude.{◌≡◌, ◌∷◌, IfOk, None, map, option_map};
-ghost use Rattle.kob_scene_text.specs.Places.{fault_place, faults_in, is_of, place_by};
-ghost use Rattle.kob_scene_text.specs.Places.{request_place, same_kind, step_faults, word_faults};
-ghost use Rattle.kob_scene_text.specs.Places.{worker_faults};
+ghost use Rattle.std.specs.Prelude.{◌≡◌, ◌∷◌, IfOk, None, map};
+ghost use Rattle.kob_scene_text.specs.Places.{fault_place, faults_in, is_of, place_by, same_kind};
+ghost use Rattle.kob_scene_text.specs.Places.{word_faults, worker_faults};
 ghost use Rattle.kob_scene_text.specs.Scenes.{is_request};
 ghost use Rattle.std.specs.List.{position};
 
 use crate::consumer_forms::consumer_form;
 use crate::fault::SceneFaultKind;
-use crate::forms::{Part, expect_form, law_form, pair_form, setting_form, step_form};
+use crate::forms::{Part, Slot, expect_form, setting_form, step_form};
 use crate::line::{Head, head_of};
 use crate::name::Worker;
 use crate::scene::Sending;
@@ -32,21 +31,12 @@ pub fn fault_place(
     ensures { IfOk result (λ place.
         place ≡ fault_place (map (λ line. line.now) before.now) kind words.now) }
 {
-    match words {
-        [] => Ok(None),
-        [first, rest @ ..] => {
-            let worker = worker_in(alloc, before, first.decoded())?;
-            place_by(
-                alloc,
-                before,
-                head_of(worker, first, rest),
-                kind,
-                first,
-                rest,
-                words,
-            )
-        }
-    }
+    let [first, rest @ ..] = words else {
+        return Ok(None);
+    };
+    let worker = worker_in(alloc, before, first.decoded())?;
+    let head = head_of(worker, first, rest);
+    place_by(alloc, before, head, kind, first, rest, words)
 }
 
 fn place_by(
@@ -63,7 +53,10 @@ fn place_by(
         ≡ place_by (map (λ line. line.now) before.now) head kind first.now rest.now) }
 {
     if is_request(head) {
-        return request_place(alloc, words, kind);
+        let SceneFaultKind::Script(kind) = kind else {
+            return Ok(None);
+        };
+        return kob_script::fault_place(alloc, words, kind);
     }
     let faults = word_faults(alloc, before, head, first, rest)?;
     Ok(first_place(&faults, kind))
@@ -90,26 +83,6 @@ fn first_place(faults: &[Option<SceneFaultKind>], kind: SceneFaultKind) -> Optio
     ensures { result ≡ position (is_of kind) faults.now }
 {
     faults.iter().position(|fault| is_of(kind, *fault))
-}
-
-fn request_place(
-    alloc: Global,
-    words: &[Word<'_>],
-    kind: SceneFaultKind,
-) -> Result<Option<usize>, AllocError>
-    ensures { IfOk result (λ place. place ≡ request_place kind words.now) }
-{
-    match kind {
-        SceneFaultKind::Script(kind) => kob_script::fault_place(alloc, words, kind),
-        SceneFaultKind::UnknownWorker
-        | SceneFaultKind::BadWorkerName
-        | SceneFaultKind::NameTaken
-        | SceneFaultKind::BadPartitions
-        | SceneFaultKind::BadMax
-        | SceneFaultKind::BadRoute
-        | SceneFaultKind::BadId
-        | SceneFaultKind::NoLaw => Ok(None),
-    }
 }
 
 fn is_of(kind: SceneFaultKind, fault: Option<SceneFaultKind>) -> bool
@@ -143,8 +116,18 @@ fn word_faults(
         Head::Service => faults_by(alloc, before, service_form(rest), rest),
         Head::Consumer => faults_by(alloc, before, consumer_form(rest), rest),
         Head::Journal => faults_by(alloc, before, &[], rest),
-        Head::Law => faults_by(alloc, before, law_form(), rest),
-        Head::Check => faults_by(alloc, before, pair_form(), rest),
+        Head::Law => faults_by(
+            alloc,
+            before,
+            &[Part::One(Slot::LawService), Part::One(Slot::LawConsumer)],
+            rest,
+        ),
+        Head::Check => faults_by(
+            alloc,
+            before,
+            &[Part::One(Slot::ServiceName), Part::One(Slot::ConsumerName)],
+            rest,
+        ),
         Head::Expect => faults_by(alloc, before, expect_form(rest), rest),
         Head::Of(worker) => {
             let sending = sending_in(alloc, before, first.decoded())?;
@@ -170,7 +153,8 @@ fn faults_by(
     Ok(faults)
 }
 
-/// The faults of a worker's name, which has none, and of the words of its step.
+/// The faults of a worker's name, which has none, and of the words of its step. The name of a step
+/// that the worker does not have is itself the fault.
 fn worker_faults(
     alloc: Global,
     sending: Sending,
@@ -179,30 +163,16 @@ fn worker_faults(
 ) -> Result<Vec<Option<SceneFaultKind>>, AllocError>
     ensures { IfOk result (λ faults. faults.items ≡ None ∷ worker_faults sending worker words.now) }
 {
-    match words {
-        [] => step_faults(alloc, None, words),
-        [name, words @ ..] => step_faults(alloc, step_form(sending, worker, name.decoded()), words),
-    }
-}
-
-fn step_faults(
-    alloc: Global,
-    parts: Option<&[Part]>,
-    words: &[Word<'_>],
-) -> Result<Vec<Option<SceneFaultKind>>, AllocError>
-    ensures { IfOk result (λ faults. faults.items
-        ≡ None ∷ step_faults (option_map (λ parts. parts.now) parts.entry) words.now) }
-{
-    match parts {
-        Some(parts) => {
-            let mut faults = Vec::from_array(alloc, [None, None])?;
-            push_faults(alloc, &mut faults, &[], parts, words)?;
-            Ok(faults)
-        }
-        None => {
-            let mut faults = Vec::from_array(alloc, [None])?;
-            push_bad_line(&mut faults)?;
-            Ok(faults)
-        }
-    }
+    let mut faults = Vec::from_array(alloc, [None])?;
+    let [name, words @ ..] = words else {
+        push_bad_line(&mut faults)?;
+        return Ok(faults);
+    };
+    let Some(parts) = step_form(sending, worker, name.decoded()) else {
+        push_bad_line(&mut faults)?;
+        return Ok(faults);
+    };
+    faults.push(None)?;
+    push_faults(alloc, &mut faults, &[], parts, words)?;
+    Ok(faults)
 }

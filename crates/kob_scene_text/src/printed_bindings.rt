@@ -2,11 +2,9 @@
 
 ghost use Rattle.std.specs.Prelude.{◌≡◌, ◌++◌, OnOk, flat_map};
 ghost use Rattle.kob_words.specs.Words.{spaced};
-ghost use Rattle.kob_scene_text.specs.PrintedRequest.{asked_grant, asked_target, asked_text};
-ghost use Rattle.kob_scene_text.specs.PrintedRequest.{draft_text, filter_text, grant_text};
-ghost use Rattle.kob_scene_text.specs.PrintedRequest.{operation_text};
-ghost use Rattle.kob_scene_text.specs.PrintedRequest.{or_dash, pattern_text, permission_text};
-ghost use Rattle.kob_scene_text.specs.PrintedRequest.{resource_text, target_text, worded};
+ghost use Rattle.kob_scene_text.specs.PrintedRequest.{asked_text, draft_text, filter_text};
+ghost use Rattle.kob_scene_text.specs.PrintedRequest.{operation_text, or_dash, pattern_text};
+ghost use Rattle.kob_scene_text.specs.PrintedRequest.{permission_text, resource_text, worded};
 
 use kob_names::{
     BindingFilter, Draft, FilterPattern, Host, Operation, Permission, Principal, ResourceKind, Text,
@@ -37,24 +35,10 @@ pub(crate) fn push_drafts(out: &mut Vec<u8>, drafts: &[Draft]) -> Result<(), All
 fn push_draft(out: &mut Vec<u8>, draft: &Draft) -> Result<(), AllocError>
     ensures { OnOk result (out.new.items ≡ out.old.items ++ draft_text draft.now) }
 {
-    push_grant(out, draft)?;
-    push_target(out, draft)
-}
-
-#[tactic(auto, using(kob_words::proofs::Appending::appending))]
-fn push_grant(out: &mut Vec<u8>, draft: &Draft) -> Result<(), AllocError>
-    ensures { OnOk result (out.new.items ≡ out.old.items ++ grant_text draft.now) }
-{
     push_word(out, permission_name(draft.permission))?;
     push_spaced(out, draft.principal.as_str().as_bytes())?;
     push_spaced(out, draft.host.as_str().as_bytes())?;
-    push_word(out, operation_name(draft.operation))
-}
-
-#[tactic(auto, using(kob_words::proofs::Appending::appending))]
-fn push_target(out: &mut Vec<u8>, draft: &Draft) -> Result<(), AllocError>
-    ensures { OnOk result (out.new.items ≡ out.old.items ++ target_text draft.now) }
-{
+    push_word(out, operation_name(draft.operation))?;
     push_word(out, resource_name(draft.resource))?;
     push_word(out, pattern_name(draft.pattern.kind))?;
     push_spaced(out, draft.pattern.name.as_str().as_bytes())
@@ -64,23 +48,9 @@ fn push_target(out: &mut Vec<u8>, draft: &Draft) -> Result<(), AllocError>
 pub(crate) fn push_filter(out: &mut Vec<u8>, filter: &BindingFilter) -> Result<(), AllocError>
     ensures { OnOk result (out.new.items ≡ out.old.items ++ filter_text filter.now) }
 {
-    push_asked_target(out, filter)?;
-    push_asked_grant(out, filter)
-}
-
-#[tactic(auto, using(kob_words::proofs::Appending::appending))]
-fn push_asked_target(out: &mut Vec<u8>, filter: &BindingFilter) -> Result<(), AllocError>
-    ensures { OnOk result (out.new.items ≡ out.old.items ++ asked_target filter.now) }
-{
     push_resource(out, filter.resource)?;
     push_text(out, &filter.name)?;
-    out.extend_from_slice(pattern_text(filter.pattern).as_bytes())
-}
-
-#[tactic(auto, using(kob_words::proofs::Appending::appending))]
-fn push_asked_grant(out: &mut Vec<u8>, filter: &BindingFilter) -> Result<(), AllocError>
-    ensures { OnOk result (out.new.items ≡ out.old.items ++ asked_grant filter.now) }
-{
+    out.extend_from_slice(pattern_text(filter.pattern).as_bytes())?;
     push_principal(out, &filter.principal)?;
     push_host(out, &filter.host)?;
     push_operation(out, filter.operation)?;

@@ -1,16 +1,15 @@
 //! How the rows of an outbox and of an inbox are printed.
 
-ghost use Rattle.std.specs.Prelude.{◌≡◌, ◌++◌, OnOk, codes, option_map, string_bytes};
+ghost use Rattle.std.specs.Prelude.{◌≡◌, ◌++◌, OnOk, option_map, string_bytes};
 ghost use Rattle.kob_script.specs.Printed.{key_text};
-ghost use Rattle.kob_scene_text.specs.PrintedRows.{event_text, inbox_item, inbox_text};
-ghost use Rattle.kob_scene_text.specs.PrintedRows.{intake_text, outbox_item, outbox_text};
-ghost use Rattle.kob_words.specs.Words.{counted, spaced};
-ghost use Rattle.kob_scene_text.specs.PrintedRows.{state_text, waiting_text};
+ghost use Rattle.kob_scene_text.specs.PrintedRows.{inbox_item, inbox_text, outbox_item};
+ghost use Rattle.kob_scene_text.specs.PrintedRows.{outbox_text, state_text};
+ghost use Rattle.kob_words.specs.Words.{spaced};
 ghost use Rattle.kob_outbox.specs.Contents.{id_text};
 
 use kob_inbox::InboxRow;
 use kob_names::Bytes;
-use kob_outbox::{OutboxEvent, Row};
+use kob_outbox::Row;
 use kob_words::{push_bytes, push_counted, push_number, push_spaced};
 use std::alloc::AllocError;
 use uuid::Uuid;
@@ -32,29 +31,10 @@ fn push_outbox_row(out: &mut Vec<u8>, row: &Row) -> Result<(), AllocError>
     out.extend_from_slice(b"row")?;
     push_counted(out, row.seq)?;
     push_id(out, row.event.id)?;
-    push_event(out, &row.event)?;
-    out.extend_from_slice(b"\n")
-}
-
-#[tactic(auto, using(kob_words::proofs::Appending::appending))]
-fn push_event(out: &mut Vec<u8>, event: &OutboxEvent) -> Result<(), AllocError>
-    ensures { OnOk result (out.new.items ≡ out.old.items ++ event_text event.now) }
-{
-    push_spaced(out, event.aggregate_type.as_bytes())?;
-    push_spaced(out, event.aggregate_id.as_bytes())?;
-    push_spaced(out, event.event_type.as_bytes())?;
-    push_spaced(out, event.payload.as_bytes())
-}
-
-#[tactic(auto, using(kob_words::proofs::Appending::appending))]
-fn push_waiting(out: &mut Vec<u8>, number: u64, mark: u64, count: u64) -> Result<(), AllocError>
-    ensures { OnOk result (out.new.items ≡ out.old.items ++ waiting_text number mark count) }
-{
-    push_number(out, number)?;
-    out.extend_from_slice(b" ok mark")?;
-    push_counted(out, mark)?;
-    out.extend_from_slice(b" waiting")?;
-    push_counted(out, count)?;
+    push_spaced(out, row.event.aggregate_type.as_bytes())?;
+    push_spaced(out, row.event.aggregate_id.as_bytes())?;
+    push_spaced(out, row.event.event_type.as_bytes())?;
+    push_spaced(out, row.event.payload.as_bytes())?;
     out.extend_from_slice(b"\n")
 }
 
@@ -69,7 +49,12 @@ pub fn print_outbox(
 ) -> Result<(), AllocError>
     ensures { OnOk result (out.new.items ≡ out.old.items ++ outbox_text number mark rows.now) }
 {
-    push_waiting(out, number, mark, rows.len() as u64)?;
+    push_number(out, number)?;
+    out.extend_from_slice(b" ok mark")?;
+    push_counted(out, mark)?;
+    out.extend_from_slice(b" waiting")?;
+    push_counted(out, rows.len() as u64)?;
+    out.extend_from_slice(b"\n")?;
     for row in rows {
         push_outbox_row(out, row)?;
     }
@@ -93,24 +78,16 @@ pub(crate) fn push_key(out: &mut Vec<u8>, key: &Option<Bytes>) -> Result<(), All
 fn push_inbox_row(out: &mut Vec<u8>, row: &InboxRow) -> Result<(), AllocError>
     ensures { OnOk result (out.new.items ≡ out.old.items ++ inbox_item row.now) }
 {
-    push_intake(out, row)?;
-    out.extend_from_slice(b" ")?;
-    push_key(out, &row.key)?;
-    push_bytes(out, row.value.as_slice())?;
-    out.extend_from_slice(b"\n")
-}
-
-/// The place of a row, its event's id, and where its record stood.
-#[tactic(auto, using(kob_words::proofs::Appending::appending))]
-fn push_intake(out: &mut Vec<u8>, row: &InboxRow) -> Result<(), AllocError>
-    ensures { OnOk result (out.new.items ≡ out.old.items ++ intake_text row.now) }
-{
     out.extend_from_slice(b"row")?;
     push_counted(out, row.place)?;
     push_id(out, row.id)?;
     push_spaced(out, row.topic.as_str().as_bytes())?;
     push_counted(out, row.partition)?;
-    push_counted(out, row.offset)
+    push_counted(out, row.offset)?;
+    out.extend_from_slice(b" ")?;
+    push_key(out, &row.key)?;
+    push_bytes(out, row.value.as_slice())?;
+    out.extend_from_slice(b"\n")
 }
 
 /// Prints `N ok inbox COUNT`, and a line for each row. The error is out of memory; `out` has then

@@ -2,7 +2,7 @@
 
 ghost use Rattle.std.specs.Prelude.{◌≡◌, ◌++◌, OnOk, codes};
 ghost use Rattle.std.specs.Fmt.{decimal};
-ghost use Rattle.kob_scene_text.specs.PrintedRows.{bad_field_text, consumer_tick_text, numbered};
+ghost use Rattle.kob_scene_text.specs.PrintedRows.{consumer_tick_text, numbered};
 ghost use Rattle.kob_scene_text.specs.PrintedRows.{crashed_text, recorded_text};
 ghost use Rattle.kob_scene_text.specs.PrintedRows.{service_tick_text, stop_text};
 
@@ -116,25 +116,10 @@ fn push_consumer_tick(out: &mut Vec<u8>, tick: kob_inbox::Tick) -> Result<(), Al
     }
 }
 
-/// What is printed for a text that its column does not accept: the column's name in the tables, and
-/// `key` for the id of a business row.
-fn bad_field_text(column: Column) -> &'static str
-    ensures { result.now ≡ bad_field_text column }
-{
-    match column {
-        Column::Kind => " refused BadField kind",
-        Column::Id => " refused BadField key",
-        Column::State => " refused BadField state",
-        Column::AggregateType => " refused BadField aggregatetype",
-        Column::AggregateId => " refused BadField aggregateid",
-        Column::Type => " refused BadField type",
-        Column::Payload => " refused BadField payload",
-    }
-}
-
 /// Prints what became of a record: `N ok recorded SEQ`, `N refused BadField COLUMN`,
-/// `N refused DuplicateId`, `N stopped memory` or `N stopped store`. The error is out of memory;
-/// `out` has then grown by a part of it.
+/// `N refused DuplicateId`, `N stopped memory` or `N stopped store`. `COLUMN` is the name of the
+/// column in the tables that does not accept its text, and `key` for the id of a business row. The
+/// error is out of memory; `out` has then grown by a part of it.
 pub fn print_recorded(
     out: &mut Vec<u8>,
     number: u64,
@@ -145,8 +130,26 @@ pub fn print_recorded(
 {
     match recorded {
         Ok(seq) => print_counted(out, number, b" ok recorded ", seq),
-        Err(RecordFault::BadField(column)) => {
-            print_word(out, number, bad_field_text(column).as_bytes())
+        Err(RecordFault::BadField(Column::Kind)) => {
+            print_word(out, number, b" refused BadField kind")
+        }
+        Err(RecordFault::BadField(Column::Id)) => {
+            print_word(out, number, b" refused BadField key")
+        }
+        Err(RecordFault::BadField(Column::State)) => {
+            print_word(out, number, b" refused BadField state")
+        }
+        Err(RecordFault::BadField(Column::AggregateType)) => {
+            print_word(out, number, b" refused BadField aggregatetype")
+        }
+        Err(RecordFault::BadField(Column::AggregateId)) => {
+            print_word(out, number, b" refused BadField aggregateid")
+        }
+        Err(RecordFault::BadField(Column::Type)) => {
+            print_word(out, number, b" refused BadField type")
+        }
+        Err(RecordFault::BadField(Column::Payload)) => {
+            print_word(out, number, b" refused BadField payload")
         }
         Err(RecordFault::DuplicateId) => print_word(out, number, b" refused DuplicateId"),
         Err(RecordFault::Memory(_)) => print_word(out, number, b" stopped memory"),

@@ -3,9 +3,9 @@
 ghost use Rattle.std.specs.Prelude.{◌≡◌, ◌≤◌, IfOk};
 ghost use Rattle.kob_script.specs.Words.{Gives as ScriptGives, GivesSeen as ScriptGivesSeen};
 ghost use Rattle.kob_scene_text.specs.Reading.{Gives};
-ghost use Rattle.kob_scene_text.specs.Workers.{by_first, by_named, declared_route, partitions_of};
-ghost use Rattle.kob_scene_text.specs.Workers.{route_of, sending_first, sending_of, sending_pair};
-ghost use Rattle.kob_scene_text.specs.Workers.{service_of, service_with, settings_of, text_first};
+ghost use Rattle.kob_scene_text.specs.Workers.{by_first, by_named, partitions_of, route_of};
+ghost use Rattle.kob_scene_text.specs.Workers.{sending_first, sending_of, service_of, settings_of};
+ghost use Rattle.kob_scene_text.specs.Workers.{text_first};
 
 use crate::fault::{SceneFaultKind, StepError};
 use crate::name::{Who, who_of};
@@ -15,16 +15,11 @@ use kob_router::{Route, RouteBy, RouteFault, RouteSettings};
 use kob_script::{FaultKind, LineError, Word, number_of, text_of};
 use std::alloc::Global;
 
-/// What a declaration says after the worker's name.
+/// What a declaration says after the worker's name: who it is, a route as it is set, and as it is
+/// read, to a number of partitions, and how rows are sent.
 #[derive(Drop)]
 pub(crate) struct DeclaredService {
     pub(crate) who: Who,
-    pub(crate) route: DeclaredRoute,
-}
-
-/// A route as it is set, and as it is read, to a number of partitions, and how rows are sent.
-#[derive(Drop)]
-pub(crate) struct DeclaredRoute {
     pub(crate) settings: RouteSettings,
     pub(crate) routed: Routed,
     pub(crate) sending: Sending,
@@ -37,44 +32,21 @@ pub(crate) fn service_of(alloc: Global, words: &[Word<'_>]) -> Result<DeclaredSe
 {
     match words {
         [principal, host, keyword, partitions, rest @ ..]
-            if keyword.decoded() == b"partitions".as_slice() => service_with(
-            alloc, principal, host, partitions, rest,
-        ),
+            if keyword.decoded() == b"partitions".as_slice() => {
+            let who = who_of(alloc, principal, host)?;
+            let partitions = partitions_of(partitions)?;
+            let (sending, rest) = sending_first(rest);
+            let settings = settings_of(alloc, rest)?;
+            let route = route_of(alloc, &settings)?;
+            Ok(DeclaredService {
+                who,
+                settings,
+                routed: Routed::new(route, partitions),
+                sending,
+            })
+        }
         _ => Err(StepError::Fault(SceneFaultKind::Script(FaultKind::BadLine))),
     }
-}
-
-fn service_with(
-    alloc: Global,
-    principal: &Word<'_>,
-    host: &Word<'_>,
-    partitions: &Word<'_>,
-    words: &[Word<'_>],
-) -> Result<DeclaredService, StepError>
-    ensures { Gives result (service_with principal.now host.now partitions.now words.now) }
-{
-    let who = who_of(alloc, principal, host)?;
-    let route = declared_route(alloc, partitions, words)?;
-    Ok(DeclaredService { who, route })
-}
-
-/// The number of partitions, and how rows are sent and routed by the words after it.
-fn declared_route(
-    alloc: Global,
-    partitions: &Word<'_>,
-    words: &[Word<'_>],
-) -> Result<DeclaredRoute, StepError>
-    ensures { Gives result (declared_route partitions.now words.now) }
-{
-    let partitions = partitions_of(partitions)?;
-    let (sending, words) = sending_first(words);
-    let settings = settings_of(alloc, words)?;
-    let route = route_of(alloc, &settings)?;
-    Ok(DeclaredRoute {
-        settings,
-        routed: Routed::new(route, partitions),
-        sending,
-    })
 }
 
 /// How rows are sent, and the words after that.
@@ -84,17 +56,6 @@ pub(crate) fn sending_first<'w, 'l>(words: &'w [Word<'l>]) -> (Sending, &'w [Wor
 {
     match words {
         [one, rest @ ..] if one.decoded() == b"separate".as_slice() => (Sending::Separate, rest),
-        [_, ..] => sending_pair(words),
-        [] => (Sending::Proved, words),
-    }
-}
-
-/// A variant of two words.
-fn sending_pair<'w, 'l>(words: &'w [Word<'l>]) -> (Sending, &'w [Word<'l>])
-    ensures sending { result.0 ≡ (sending_pair words.entry.now).0 }
-    ensures rest { result.1.now ≡ (sending_pair words.entry.now).1 }
-{
-    match words {
         [one, other, rest @ ..] => match sending_of(one, other) {
             Some(sending) => (sending, rest),
             None => (Sending::Proved, words),

@@ -1,7 +1,7 @@
 //! The names of steps, those of services and those of consumers.
 
 ghost use Rattle.std.specs.Prelude.{◌≡◌, bytes_eq, find, option_copied};
-ghost use Rattle.kob_scene_text.specs.StepNames.{begins_step, step_named, step_text};
+ghost use Rattle.kob_scene_text.specs.StepNames.{step_named, step_text};
 
 /// A step by its name.
 #[derive(Clone, Copy, Debug, PartialEq, Eq)]
@@ -59,11 +59,4 @@ fn step_among<'s>(steps: &'s [StepName], word: &[u8]) -> Option<&'s StepName>
         ≡ find (λ step. bytes_eq word.now (step_text step)) steps.entry.now }
 {
     steps.iter().find(|step| word == step.text().as_bytes())
-}
-
-/// Whether a word begins a step.
-pub(crate) fn begins_step(word: &[u8]) -> bool
-    ensures { result ≡ begins_step word.now }
-{
-    step_named(word).is_some()
 }

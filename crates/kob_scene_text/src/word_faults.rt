@@ -6,7 +6,7 @@ ghost use Rattle.kob_script.specs.Words.{Gives as ScriptGives};
 ghost use Rattle.kob_script.specs.declared.fault.FaultKind as script_kinds;
 ghost use Rattle.kob_scene_text.specs.Places.{fault_unless, faults_in, known_fault, law_fault};
 ghost use Rattle.kob_scene_text.specs.Places.{name_fault};
-ghost use Rattle.kob_scene_text.specs.Places.{placement_fault, replacement_fault, script_fault};
+ghost use Rattle.kob_scene_text.specs.Places.{script_fault};
 ghost use Rattle.kob_scene_text.specs.Places.{slot_fault};
 ghost use Rattle.kob_scene_text.specs.Reading.{Gives};
 ghost use Rattle.kob_scene_text.specs.declared.fault.SceneFaultKind as kinds;
@@ -145,12 +145,6 @@ fn fault_unless(fits: bool, kind: SceneFaultKind) -> Option<SceneFaultKind>
     ensures { result ≡ fault_unless fits kind }
 {
     if fits { None } else { Some(kind) }
-}
-
-fn script_fault(fault: Option<FaultKind>) -> Option<SceneFaultKind>
-    ensures { result ≡ script_fault fault }
-{
-    fault.map(SceneFaultKind::Script)
 }
 
 /// The fault of what was read as scripts read it, if it has one. What was read is dropped.

@@ -2,10 +2,8 @@
 
 ghost use Rattle.std.specs.Prelude.{◌≡◌, IfOk, map, option_map};
 ghost use Rattle.kob_script.specs.Script.{line_words};
-ghost use Rattle.kob_scene_text.specs.Places.{are_of, are_of_variant, is_declared, is_variant};
-ghost use Rattle.kob_scene_text.specs.Places.{are_of_variant_consumer, are_of_variant_service};
-ghost use Rattle.kob_scene_text.specs.Places.{begins_variant, names_variant, sending_in};
-ghost use Rattle.kob_scene_text.specs.Places.{sending_of_words, worker_in};
+ghost use Rattle.kob_scene_text.specs.Places.{are_of, are_of_variant, begins_variant, is_declared};
+ghost use Rattle.kob_scene_text.specs.Places.{is_variant, names_variant, sending_in, worker_in};
 
 use crate::name::Worker;
 use crate::scene::Sending;
@@ -40,7 +38,8 @@ pub(crate) fn is_declared(
         is ≡ is_declared keyword.now (map (λ line. line.now) before.now) name.now) }
 {
     for line in before {
-        if is_of(alloc, keyword, line, name)? {
+        let words = words_in(alloc, line)?;
+        if are_of(keyword, name, &words) {
             return Ok(true);
         }
     }
@@ -53,33 +52,20 @@ pub(crate) fn is_variant(alloc: Global, before: &[&[u8]], name: &[u8]) -> Result
         is ≡ is_variant (map (λ line. line.now) before.now) name.now) }
 {
     for line in before {
-        if is_of_variant(alloc, line, name)? {
+        let words = words_in(alloc, line)?;
+        if are_of_variant(name, &words) {
             return Ok(true);
         }
     }
     Ok(false)
 }
 
-fn is_of_variant(alloc: Global, line: &[u8], name: &[u8]) -> Result<bool, AllocError>
-    ensures { IfOk result (λ is. is ≡ are_of_variant name.now (line_words line.now)) }
-{
-    match words_of(alloc, line) {
-        Ok(words) => Ok(are_of_variant(name, &words)),
-        Err(LineError::Fault(_)) => Ok(false),
-        Err(LineError::Memory(refused)) => Err(refused),
-    }
-}
-
+/// Whether words declare a worker of this name that is a variant.
 fn are_of_variant(name: &[u8], words: &[Word<'_>]) -> bool
     ensures { result ≡ are_of_variant name.now words.now }
 {
-    are_of_variant_service(name, words) || are_of_variant_consumer(name, words)
-}
-
-fn are_of_variant_service(name: &[u8], words: &[Word<'_>]) -> bool
-    ensures { result ≡ are_of_variant_service name.now words.now }
-{
     are_of(b"service", name, words) && names_variant(words.get(6..).unwrap_or(&[]))
+        || are_of(b"consumer", name, words) && begins_variant(words.get(8))
 }
 
 /// Whether words begin with the name of a variant of a service.
@@ -92,6 +78,7 @@ fn names_variant(words: &[Word<'_>]) -> bool
 }
 
 /// How the service of a name sends, by the first of these lines that declares one.
+#[tactic(auto, unfolding(crate::specs::Places::sending_of_words))]
 pub(crate) fn sending_in(
     alloc: Global,
     before: &[&[u8]],
@@ -101,41 +88,13 @@ pub(crate) fn sending_in(
         sending ≡ sending_in (map (λ line. line.now) before.now) name.now) }
 {
     for line in before {
-        if let Some(sending) = sending_of_line(alloc, line, name)? {
+        let words = words_in(alloc, line)?;
+        if are_of(b"service", name, &words) {
+            let (sending, _) = sending_first(words.get(6..).unwrap_or(&[]));
             return Ok(sending);
         }
     }
     Ok(Sending::Proved)
-}
-
-#[tactic(auto, unfolding(crate::specs::Places::sending_of_words))]
-fn sending_of_line(alloc: Global, line: &[u8], name: &[u8]) -> Result<Option<Sending>, AllocError>
-    ensures { IfOk result (λ sending. sending ≡ sending_of_words name.now (line_words line.now)) }
-{
-    match words_of(alloc, line) {
-        Ok(words) => Ok(sending_of_words(name, &words)),
-        Err(LineError::Fault(_)) => Ok(None),
-        Err(LineError::Memory(refused)) => Err(refused),
-    }
-}
-
-/// How a service of this name sends, if words declare one.
-#[tactic(auto, unfolding(crate::specs::Places::sending_of_words))]
-fn sending_of_words(name: &[u8], words: &[Word<'_>]) -> Option<Sending>
-    ensures { result ≡ sending_of_words name.now words.now }
-{
-    if are_of(b"service", name, words) {
-        let (sending, _) = sending_first(words.get(6..).unwrap_or(&[]));
-        Some(sending)
-    } else {
-        None
-    }
-}
-
-fn are_of_variant_consumer(name: &[u8], words: &[Word<'_>]) -> bool
-    ensures { result ≡ are_of_variant_consumer name.now words.now }
-{
-    are_of(b"consumer", name, words) && begins_variant(words.get(8))
 }
 
 /// Whether a word behind the number of records is one of a variant of a consumer.
@@ -152,16 +111,18 @@ fn begins_variant(word: Option<&Word<'_>>) -> bool
     }
 }
 
-fn is_of(alloc: Global, keyword: &[u8], line: &[u8], name: &[u8]) -> Result<bool, AllocError>
-    ensures { IfOk result (λ is. is ≡ are_of keyword.now name.now (line_words line.now)) }
+/// The words of a line, none if it has an escape that is not whole.
+fn words_in(alloc: Global, line: &[u8]) -> Result<Vec<Word<'_>>, AllocError>
+    ensures { IfOk result (λ words. words.items ≡ line_words line.now) }
 {
     match words_of(alloc, line) {
-        Ok(words) => Ok(are_of(keyword, name, &words)),
-        Err(LineError::Fault(_)) => Ok(false),
+        Ok(words) => Ok(words),
+        Err(LineError::Fault(_)) => Ok(Vec::new(alloc)),
         Err(LineError::Memory(refused)) => Err(refused),
     }
 }
 
+/// Whether words declare a worker of this name by a keyword.
 fn are_of(keyword: &[u8], name: &[u8], words: &[Word<'_>]) -> bool
     ensures { result ≡ are_of keyword.now name.now words.now }
 {

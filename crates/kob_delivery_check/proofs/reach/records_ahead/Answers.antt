@@ -6,5 +6,5 @@ use Rattle.kob_delivery_check.proofs.reach.records_ahead.Goals as goal
 pub loop-assigned-preserved : goal.loop-assigned-preserved
 loop-assigned-preserved c =
     item_more records_within c.args.reaches.now c.loop-assigned.assigned c.index-reaches-assigned.result [] c.loop-assigned.ahead.items
-    c.push_reach.new.ahead.items c.loop-assigned-test.true c.index-reaches-assigned.is c.loop-assigned.invariant
+    c.push_from.new.ahead.items c.loop-assigned-test.true c.index-reaches-assigned.is c.loop-assigned.invariant
     (search rules)
