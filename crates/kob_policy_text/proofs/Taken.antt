@@ -1,6 +1,6 @@
 -- A pattern takes a name in what is in force exactly if one of a policy does, and a principal is named exactly if a
 -- binding of it does.
-use Rattle.kob_policy_text.proofs.Words.{Bool, List, [], ap, false, fold, list_any, refl, sym, true, ℕ, ◌++◌, ◌∙◌, ◌∷◌, ◌≡◌}
+use Rattle.kob_policy_text.proofs.Words.{Bool, List, [], ap, false, fold, list_any, refl, sym, true, ℕ, ◌∙◌, ◌∷◌, ◌≡◌}
 use Rattle.std.proofs.Common.{None, Option, Some, inl, inr, is_some, subst, ◌||◌}
 use Rattle.std.proofs.lemmas.Bool.{cases_Bool}
 use Rattle.std.proofs.lemmas.List.Folds.{list_any-append}

@@ -6,14 +6,6 @@ use Rattle.std.specs.Char.Utf16.{has_unpaired_surrogate, utf16_lossy_chars}
 use Rattle.std.specs.Str.{encode_utf8_all}
 use Rattle.kob_script.specs.declared.fault.Fault.{Fault}
 use Rattle.kob_script.specs.declared.fault.FaultKind.TheVariants.{BadText}
-use Rattle.kob_policy_text.specs.declared.encoding.Encoding.{Encoding}
-use Rattle.kob_policy_text.specs.declared.encoding.Encoding.TheVariants.{Utf8, LowFirst, HighFirst}
-
--- the encoding that a byte order mark names
-abbrev pub encoding_of : List ℕ → Encoding
-encoding_of text =
-    if starts_with nat_eq text (255 ∷ 254 ∷ []) then LowFirst
-    else (if starts_with nat_eq text (254 ∷ 255 ∷ []) then HighFirst else Utf8)
 
 -- a unit of two bytes in their order
 abbrev pub unit_of : Bool → ℕ → ℕ → ℕ
@@ -58,11 +50,9 @@ abbrev pub unmarked : List ℕ → List ℕ
 unmarked text =
     if starts_with nat_eq text (239 ∷ 187 ∷ 191 ∷ []) then drop 3 text else text
 
-abbrev pub text_by : Encoding → List ℕ → Result (List ℕ) Fault
-text_by Utf8 text = Ok (unmarked text)
-text_by LowFirst text = utf16_text true (drop 2 text)
-text_by HighFirst text = utf16_text false (drop 2 text)
-
--- the text of a file in UTF-8, without a mark
+-- the text of a file in UTF-8, without a mark, which names the encoding
 abbrev pub plain_text : List ℕ → Result (List ℕ) Fault
-plain_text text = text_by (encoding_of text) text
+plain_text text =
+    if starts_with nat_eq text (255 ∷ 254 ∷ []) then utf16_text true (drop 2 text)
+    else (if starts_with nat_eq text (254 ∷ 255 ∷ []) then utf16_text false (drop 2 text)
+    else Ok (unmarked text))

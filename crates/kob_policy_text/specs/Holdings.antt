@@ -38,13 +38,9 @@ abbrev pub is_repeated : Option (List ℕ) → Holding → Bool
 is_repeated (Some host) one = false
 is_repeated None one = names_all (codes "*") one.host
 
-abbrev pub is_nothing : List Operation → Bool
-is_nothing [] = true
-is_nothing (first ∷ others) = false
-
 abbrev pub holding_text : Option (List ℕ) → Holding → List ℕ
 holding_text host one =
-    if is_nothing one.operations then []
+    if length one.operations == 0 then []
     else (if is_repeated host one then [] else holding_line host one)
 
 abbrev pub open_text : Bool → List ℕ

@@ -1,11 +1,10 @@
 //! The answers to `may`, and whether they are as expected.
 
 ghost use Rattle.std.specs.Prelude.{◌≡◌, ◌++◌, OnOk};
-ghost use Rattle.kob_policy_text.specs.Access.{access_text, act_text, any_fails, right_answer};
+ghost use Rattle.kob_policy_text.specs.Access.{access_text, act_text, any_fails};
 ghost use Rattle.kob_policy_text.specs.Access.{expect_text, fails, is_allowed, is_other_answer};
 ghost use Rattle.kob_policy_text.specs.Access.{outcome_of_expected};
 
-use crate::asked::Asked;
 use crate::hints::{push_unnamed, push_untaken};
 use crate::judge::Judge;
 use crate::printed::push_may;
@@ -14,14 +13,6 @@ use crate::rights::{
     are_met, check_of, idempotent_rights, on, push_rights, rights_of, transactional_rights,
 };
 use std::alloc::AllocError;
-
-fn push_right_answer(out: &mut Vec<u8>, judge: &Judge, asked: &Asked<'_>) -> Result<(), AllocError>
-    ensures { OnOk result (out.new.items ≡ out.old.items ++ right_answer judge.now asked.now) }
-{
-    let verdict = judge.verdict(asked);
-    push_may(out, judge, verdict)?;
-    push_untaken(out, judge, verdict, asked)
-}
 
 fn push_act<'a>(
     out: &mut Vec<u8>,
@@ -32,7 +23,12 @@ fn push_act<'a>(
     ensures { OnOk result (out.new.items ≡ out.old.items ++ act_text judge.now asker.now act.now) }
 {
     match act {
-        Act::Right(right) => push_right_answer(out, judge, &on(asker, &check_of(right))),
+        Act::Right(right) => {
+            let asked = on(asker, &check_of(right));
+            let verdict = judge.verdict(&asked);
+            push_may(out, judge, verdict)?;
+            push_untaken(out, judge, verdict, &asked)
+        }
         Act::Request(request) => push_rights(out, judge, asker, &request.rights()),
         Act::Idempotent(topic) => {
             let release = judge.policy().release();

@@ -2,7 +2,7 @@
 
 ghost use Rattle.std.specs.Prelude.{◌≡◌, ◌++◌, OnOk};
 ghost use Rattle.kob_policy_text.specs.Answers.{omissions_text};
-ghost use Rattle.kob_policy_text.specs.Review.{answer_line, answers_text, question_text};
+ghost use Rattle.kob_policy_text.specs.Review.{answer_line, answers_text};
 ghost use Rattle.kob_policy_text.specs.Review.{review_text};
 
 use crate::access::{push_access, push_expected};
@@ -21,31 +21,6 @@ use kob_names::Text;
 use kob_words::push_number;
 use std::alloc::{AllocError, Global};
 
-fn push_question<'a>(
-    alloc: Global,
-    out: &mut Vec<u8>,
-    judge: &'a Judge,
-    topics: &[Text],
-    question: &'a Question,
-) -> Result<(), AllocError>
-    ensures { OnOk result (out.new.items ≡ out.old.items
-        ++ question_text judge.now topics.now question.now) }
-{
-    match question {
-        Question::May(access) => push_access(out, judge, access),
-        Question::Expect(expected, access) => push_expected(out, judge, *expected, access),
-        Question::Who(right, host) => push_who(alloc, out, judge, right, host),
-        Question::WhoConsumes(topic, group) => push_consumers(alloc, out, judge, topic, group),
-        Question::WhoBelow(right) => push_reaches(alloc, out, judge, right),
-        Question::Rights(principal, host) => push_holdings(alloc, out, judge, principal, host),
-        Question::Sees(asker) => push_sees(alloc, out, judge, topics, asker),
-        Question::Summary => push_summary(alloc, out, judge),
-        Question::Unused => push_unused(alloc, out, judge),
-        Question::Shadowed => push_shadowed(alloc, out, judge),
-        Question::Removable => push_removable(alloc, out, judge),
-    }
-}
-
 fn push_answer_line<'a>(
     alloc: Global,
     out: &mut Vec<u8>,
@@ -61,7 +36,19 @@ fn push_answer_line<'a>(
     out.extend_from_slice(b" ")?;
     out.extend_from_slice(query.text.as_slice())?;
     out.extend_from_slice(b"\n")?;
-    push_question(alloc, out, judge, topics, &query.question)
+    match &query.question {
+        Question::May(access) => push_access(out, judge, access),
+        Question::Expect(expected, access) => push_expected(out, judge, *expected, access),
+        Question::Who(right, host) => push_who(alloc, out, judge, right, host),
+        Question::WhoConsumes(topic, group) => push_consumers(alloc, out, judge, topic, group),
+        Question::WhoBelow(right) => push_reaches(alloc, out, judge, right),
+        Question::Rights(principal, host) => push_holdings(alloc, out, judge, principal, host),
+        Question::Sees(asker) => push_sees(alloc, out, judge, topics, asker),
+        Question::Summary => push_summary(alloc, out, judge),
+        Question::Unused => push_unused(alloc, out, judge),
+        Question::Shadowed => push_shadowed(alloc, out, judge),
+        Question::Removable => push_removable(alloc, out, judge),
+    }
 }
 
 /// Prints each question and its answer, numbered from 1. The error is out of memory; `out` has then

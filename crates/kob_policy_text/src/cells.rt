@@ -1,9 +1,9 @@
 //! The cells of a row that commas separate.
 
-ghost use Rattle.std.specs.Prelude.{◌≡◌, OnOk, IfOk};
+ghost use Rattle.std.specs.Prelude.{◌≡◌, OnOk};
 ghost use Rattle.kob_policy_text.specs.Cells as seen;
-ghost use Rattle.kob_policy_text.specs.Cells.{all_cells, at_spot, bare_byte, behind_byte};
-ghost use Rattle.kob_policy_text.specs.Cells.{cells_in, first_byte, no_cells, quoted_byte};
+ghost use Rattle.kob_policy_text.specs.Cells.{at_spot};
+ghost use Rattle.kob_policy_text.specs.Cells.{cells_in, no_cells};
 ghost use Rattle.kob_policy_text.specs.Cells.{with_byte, with_cell_byte, with_end};
 ghost use Rattle.kob_script.specs.Words.{GivesSeen};
 
@@ -78,68 +78,32 @@ impl Cells {
         Ok(())
     }
 
-    fn add_first(&mut self, alloc: Global, byte: u8) -> Result<(), AllocError>
-        ensures { OnOk result (self.new ≡ first_byte self.old byte) }
-    {
-        match byte {
-            b',' => self.end(alloc),
-            b'"' => self.go(Spot::Quoted),
-            _ => self.add(Spot::Bare, byte),
-        }
-    }
-
-    fn add_bare(&mut self, alloc: Global, byte: u8) -> Result<(), AllocError>
-        ensures { OnOk result (self.new ≡ bare_byte self.old byte) }
-    {
-        match byte {
-            b',' => self.end(alloc),
-            b'"' => self.go(Spot::Misquoted),
-            _ => self.add(Spot::Bare, byte),
-        }
-    }
-
-    fn add_quoted(&mut self, byte: u8) -> Result<(), AllocError>
-        ensures { OnOk result (self.new ≡ quoted_byte self.old byte) }
-    {
-        match byte {
-            b'"' => self.go(Spot::Behind),
-            _ => self.add(Spot::Quoted, byte),
-        }
-    }
-
-    fn add_behind(&mut self, alloc: Global, byte: u8) -> Result<(), AllocError>
-        ensures { OnOk result (self.new ≡ behind_byte self.old byte) }
-    {
-        match byte {
-            b',' => self.end(alloc),
-            b'"' => self.add(Spot::Quoted, byte),
-            _ => self.go(Spot::Misquoted),
-        }
-    }
-
     #[tactic(auto, unfolding(crate::specs::Cells::with_cell_byte))]
     fn read(&mut self, alloc: Global, byte: u8) -> Result<(), AllocError>
         ensures { OnOk result (self.new ≡ with_cell_byte self.old byte) }
     {
         match self.spot {
-            Spot::Begin => self.add_first(alloc, byte),
-            Spot::Bare => self.add_bare(alloc, byte),
-            Spot::Quoted => self.add_quoted(byte),
-            Spot::Behind => self.add_behind(alloc, byte),
+            Spot::Begin => match byte {
+                b',' => self.end(alloc),
+                b'"' => self.go(Spot::Quoted),
+                _ => self.add(Spot::Bare, byte),
+            },
+            Spot::Bare => match byte {
+                b',' => self.end(alloc),
+                b'"' => self.go(Spot::Misquoted),
+                _ => self.add(Spot::Bare, byte),
+            },
+            Spot::Quoted => match byte {
+                b'"' => self.go(Spot::Behind),
+                _ => self.add(Spot::Quoted, byte),
+            },
+            Spot::Behind => match byte {
+                b',' => self.end(alloc),
+                b'"' => self.add(Spot::Quoted, byte),
+                _ => self.go(Spot::Misquoted),
+            },
             Spot::Misquoted => Ok(()),
         }
-    }
-
-    fn into_all(self, alloc: Global) -> Result<Vec<Bytes>, AllocError>
-        ensures { IfOk result (λ cells. cells.items ≡ all_cells self) }
-    {
-        let Cells {
-            mut ended,
-            cell,
-            spot: _,
-        } = self;
-        ended.push(Bytes::copied(alloc, &cell)?)?;
-        Ok(ended)
     }
 }
 
@@ -154,7 +118,10 @@ pub fn cells_in(alloc: Global, line: &[u8]) -> Result<Vec<Bytes>, LineError>
         cells.read(alloc, *byte)?;
     }
     match cells.spot {
-        Spot::Begin | Spot::Bare | Spot::Behind => Ok(cells.into_all(alloc)?),
+        Spot::Begin | Spot::Bare | Spot::Behind => {
+            cells.end(alloc)?;
+            Ok(cells.ended)
+        }
         Spot::Quoted | Spot::Misquoted => Err(LineError::Fault(FaultKind::BadLine)),
     }
 }

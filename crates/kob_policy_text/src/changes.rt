@@ -2,7 +2,7 @@
 
 ghost use Rattle.std.specs.Prelude.{◌≡◌, ◌++◌, OnOk, flat_map};
 ghost use Rattle.kob_policy_text.specs.Review.{asker_text, change_line, changes_text, everyone_text};
-ghost use Rattle.kob_policy_text.specs.Review.{outcome_text, super_line, supers_text, target_text};
+ghost use Rattle.kob_policy_text.specs.Review.{outcome_text, super_line, target_text};
 
 use crate::judge::Judge;
 use crate::parts::{Part, push_parts, push_party};

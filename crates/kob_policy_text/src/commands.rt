@@ -4,7 +4,7 @@ ghost use Rattle.std.specs.Prelude.{◌≡◌, ◌==◌, ◌++◌, IfOk, OnOk, f
 ghost use Rattle.kob_authorizer.specs.Decide.{Contents};
 ghost use Rattle.kob_policy_text.specs.Policy.{contents_of};
 ghost use Rattle.kob_policy_text.specs.Steps.{HaveSameSettings, KeepAnswers, exactly, is_among};
-ghost use Rattle.kob_policy_text.specs.Steps.{is_only, pattern_of, step_of, step_on, steps};
+ghost use Rattle.kob_policy_text.specs.Steps.{pattern_of, step_on, steps};
 
 use crate::judge::Judge;
 use kob_authorizer::Authorizer;
@@ -69,31 +69,6 @@ pub fn equals_of(
     Ok(found)
 }
 
-fn is_only(
-    alloc: Global,
-    permission: Permission,
-    others: &Authorizer,
-    entry: &(u64, Binding),
-) -> Result<bool, AllocError>
-    ensures { IfOk result
-        (λ is. is ≡ is_only permission others.now.contents.entries entry.now) }
-{
-    if entry.1.parts().permission != permission {
-        return Ok(false);
-    }
-    Ok(equals_of(alloc, others, &entry.1)?.is_empty())
-}
-
-fn step_of(adds: bool, binding: Binding) -> Step
-    ensures { result ≡ step_of adds binding }
-{
-    if adds {
-        Step::Add(binding)
-    } else {
-        Step::Remove(binding)
-    }
-}
-
 #[tactic(auto, unfolding(crate::specs::Steps::step_on))]
 fn push_step(
     alloc: Global,
@@ -106,8 +81,16 @@ fn push_step(
     ensures { OnOk result (found.new.items ≡ found.old.items
         ++ step_on adds permission others.now.contents.entries entry.now) }
 {
-    if is_only(alloc, permission, others, entry)? {
-        found.push(step_of(adds, entry.1.copy(alloc)?))?;
+    if entry.1.parts().permission != permission {
+        return Ok(());
+    }
+    if equals_of(alloc, others, &entry.1)?.is_empty() {
+        let binding = entry.1.copy(alloc)?;
+        if adds {
+            found.push(Step::Add(binding))?;
+        } else {
+            found.push(Step::Remove(binding))?;
+        }
     }
     Ok(())
 }

@@ -2,7 +2,6 @@
 
 ghost use Rattle.std.specs.Prelude.{◌≡◌, IfOk, codes};
 ghost use Rattle.kob_policy_text.specs.Policy.{binding_of, closing_of, draft_under, has_bad_heading};
-ghost use Rattle.kob_policy_text.specs.Policy.{has_bad_name};
 ghost use Rattle.kob_script.specs.Words.{Gives};
 
 use crate::item::{Grant, Target};
@@ -69,21 +68,17 @@ fn nowhere(alloc: Global) -> Result<Host, AllocError>
     }
 }
 
-fn has_bad_name(target: &Target) -> bool
-    ensures { result ≡ has_bad_name target.now }
-{
-    let name = target.pattern.name.as_str();
-    name.is_empty()
-        || target.resource == ResourceKind::Cluster && name != "kafka-cluster"
-        || name.len() > 255
-}
-
 pub fn has_bad_heading(target: &Option<Target>) -> bool
     ensures { result ≡ has_bad_heading target.now }
 {
     match target {
         None => false,
-        Some(target) => has_bad_name(target),
+        Some(target) => {
+            let name = target.pattern.name.as_str();
+            name.is_empty()
+                || target.resource == ResourceKind::Cluster && name != "kafka-cluster"
+                || name.len() > 255
+        }
     }
 }
 

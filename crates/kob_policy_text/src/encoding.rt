@@ -1,8 +1,8 @@
 //! The encodings of a file: UTF-8, and UTF-16 behind a byte order mark.
 
 ghost use Rattle.std.specs.Prelude.{◌≡◌, IfOk, OnOk};
-ghost use Rattle.kob_policy_text.specs.Encoding.{encoding_of, no_units, read_units, unit_of};
-ghost use Rattle.kob_policy_text.specs.Encoding.{plain_text, units_text, unmarked, utf16_text};
+ghost use Rattle.kob_policy_text.specs.Encoding.{no_units, read_units, unit_of};
+ghost use Rattle.kob_policy_text.specs.Encoding.{plain_text, utf16_text};
 ghost use Rattle.kob_policy_text.specs.Encoding.{with_unit_byte};
 ghost use Rattle.kob_policy_text.specs.Encoding as seen;
 ghost use Rattle.kob_policy_text.specs.Outcomes.{GivesAt};
@@ -12,14 +12,6 @@ ghost use Rattle.kob_script.specs.declared.fault.ScriptError.TheVariants as scri
 use kob_script::{Fault, FaultKind, ScriptError};
 use std::alloc::{AllocError, Global};
 use std::marker::Model;
-
-/// How the characters of a file are written; of UTF-16, which byte of a unit is the first.
-#[derive(Clone, Copy)]
-pub enum Encoding {
-    Utf8,
-    LowFirst,
-    HighFirst,
-}
 
 /// Units of UTF-16, and a byte that has no second one.
 #[derive(Drop)]
@@ -92,9 +84,11 @@ fn not_text() -> ScriptError
     })
 }
 
-fn units_text(alloc: Global, units: &Units) -> Result<Vec<u8>, ScriptError>
-    ensures { GivesAt (λ text. text.items) result (units_text units.now) }
+#[tactic(auto, unfolding(crate::specs::Encoding::utf16_text))]
+fn utf16_text(alloc: Global, low_first: bool, bytes: &[u8]) -> Result<Vec<u8>, ScriptError>
+    ensures { GivesAt (λ text. text.items) result (utf16_text low_first bytes.now) }
 {
+    let units = units_in(alloc, low_first, bytes)?;
     if units.first.is_some() {
         return Err(not_text());
     }
@@ -104,46 +98,19 @@ fn units_text(alloc: Global, units: &Units) -> Result<Vec<u8>, ScriptError>
     }
 }
 
-#[tactic(auto, unfolding(crate::specs::Encoding::utf16_text))]
-fn utf16_text(alloc: Global, low_first: bool, bytes: &[u8]) -> Result<Vec<u8>, ScriptError>
-    ensures { GivesAt (λ text. text.items) result (utf16_text low_first bytes.now) }
-{
-    let units = units_in(alloc, low_first, bytes)?;
-    units_text(alloc, &units)
-}
-
-fn encoding_of(text: &[u8]) -> Encoding
-    ensures { result ≡ encoding_of text.now }
-{
-    if text.starts_with(&[0xff, 0xfe]) {
-        Encoding::LowFirst
-    } else if text.starts_with(&[0xfe, 0xff]) {
-        Encoding::HighFirst
-    } else {
-        Encoding::Utf8
-    }
-}
-
-/// The text without the byte order mark of UTF-8.
-fn unmarked(text: &[u8]) -> &[u8]
-    ensures { result.now ≡ unmarked text.entry.now }
-{
-    if text.starts_with(&[0xef, 0xbb, 0xbf]) {
-        &text[3..]
-    } else {
-        text
-    }
-}
-
 /// The text of a file in UTF-8, without its byte order mark: a copy if the mark is one of UTF-16.
 /// The fault is `BadText` on line 1, for UTF-16 with a byte too many or a surrogate alone. UTF-8 is
 /// not checked here.
 pub fn plain_text(alloc: Global, text: &[u8]) -> Result<Vec<u8>, ScriptError>
     ensures { GivesAt (λ text. text.items) result (plain_text text.now) }
 {
-    match encoding_of(text) {
-        Encoding::Utf8 => Ok(Vec::from_slice(alloc, unmarked(text))?),
-        Encoding::LowFirst => utf16_text(alloc, true, text.get(2..).unwrap_or(&[])),
-        Encoding::HighFirst => utf16_text(alloc, false, text.get(2..).unwrap_or(&[])),
+    if text.starts_with(&[0xff, 0xfe]) {
+        utf16_text(alloc, true, text.get(2..).unwrap_or(&[]))
+    } else if text.starts_with(&[0xfe, 0xff]) {
+        utf16_text(alloc, false, text.get(2..).unwrap_or(&[]))
+    } else if text.starts_with(&[0xef, 0xbb, 0xbf]) {
+        Ok(Vec::from_slice(alloc, &text[3..])?)
+    } else {
+        Ok(Vec::from_slice(alloc, text)?)
     }
 }

@@ -1,7 +1,7 @@
 //! The lines of a text with their numbers, and commands that go on over several lines.
 
 ghost use Rattle.std.specs.Prelude.{◌≡◌, ◌++◌, IfOk};
-ghost use Rattle.kob_policy_text.specs.Joined.{is_backslash, is_continued, joined, joined_lines};
+ghost use Rattle.kob_policy_text.specs.Joined.{is_continued, joined, joined_lines};
 ghost use Rattle.kob_policy_text.specs.Joined.{quoting_after, without_last};
 ghost use Rattle.kob_script.specs.Script.{lines_in};
 ghost use Rattle.std.specs.Option.{option_to_list};
@@ -28,15 +28,6 @@ impl Model for Numbered {
     ghost view = { λ numbered. record { line = numbered.line; text = numbered.text.items } };
 }
 
-fn is_backslash(quoting: Quoting) -> bool
-    ensures { result ≡ is_backslash quoting }
-{
-    match quoting {
-        Quoting::Escaped | Quoting::DoubleEscaped => true,
-        Quoting::Plain | Quoting::Single | Quoting::Double | Quoting::Refused => false,
-    }
-}
-
 /// Whether a command goes on behind the line.
 #[tactic(auto, unfolding(crate::specs::Joined::is_continued))]
 fn is_continued(alloc: Global, line: &Numbered) -> Result<bool, AllocError>
@@ -46,7 +37,10 @@ fn is_continued(alloc: Global, line: &Numbered) -> Result<bool, AllocError>
     if tool_arguments(trimmed(text)).is_none() {
         return Ok(false);
     }
-    Ok(is_backslash(quoting_after(alloc, text)?))
+    Ok(matches!(
+        quoting_after(alloc, text)?,
+        Quoting::Escaped | Quoting::DoubleEscaped
+    ))
 }
 
 /// What goes on, with the next line.

@@ -48,7 +48,8 @@ impl Judge {
         ensures fault { IfErr result (λ fault. fault ≢ CreateFault.Memory alloc_error
             → open_fault policy ≡ Some fault) }
     {
-        let (users, authorizer, serials) = parts_of(alloc, &policy)?;
+        let users = principals_named(alloc, policy.bindings())?;
+        let (authorizer, serials) = in_force(alloc, &policy)?;
         Ok(Judge {
             policy,
             authorizer,
@@ -126,19 +127,6 @@ impl Judge {
     {
         self.serials.as_slice()
     }
-}
-
-/// The principals that bindings name, the authorizer, and the serials of the bindings.
-fn parts_of(alloc: Global, policy: &Policy) -> Result<(Texts, Authorizer, Serials), CreateFault>
-    ensures named { IfOk result (λ made. made.0 ≡ principals_named policy.now.bindings) }
-    ensures made { IfOk result (λ made. (made.1.contents ≡ contents_of policy.now)
-        × (made.2 ≡ serials_of policy.now)) }
-    ensures fault { IfErr result (λ fault. fault ≢ CreateFault.Memory alloc_error
-        → open_fault policy.now ≡ Some fault) }
-{
-    let users = principals_named(alloc, policy.bindings())?;
-    let (authorizer, serials) = in_force(alloc, policy)?;
-    Ok((users, authorizer, serials))
 }
 
 /// The authorizer with the bindings of a policy, and their serials.

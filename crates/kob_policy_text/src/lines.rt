@@ -2,15 +2,15 @@
 
 ghost use Rattle.std.specs.Prelude.{◌≡◌, IfOk, Ok};
 ghost use Rattle.kob_acl_cli.specs.Lines.{texts};
-ghost use Rattle.kob_policy_text.specs.Lines.{SaysAt, SaysByWords, SaysIn, SaysTrimmed, acl_texts};
-ghost use Rattle.kob_policy_text.specs.Lines.{are_foreign, held_words, is_creation};
-ghost use Rattle.kob_policy_text.specs.Lines.{is_for_other_kind, is_foreign, is_heading};
+ghost use Rattle.kob_policy_text.specs.Lines.{SaysAt, SaysTrimmed, acl_texts};
+ghost use Rattle.kob_policy_text.specs.Lines.{held_words, is_creation};
+ghost use Rattle.kob_policy_text.specs.Lines.{is_for_other_kind, is_heading};
 ghost use Rattle.kob_policy_text.specs.Lines.{is_heading_line, is_listed, is_release, is_skipped};
-ghost use Rattle.kob_policy_text.specs.Lines.{listed_item, listed_items, names_other_kind, only_event};
-ghost use Rattle.kob_policy_text.specs.Lines.{release_line, rules_in, rules_of, setting_items};
-ghost use Rattle.kob_policy_text.specs.Lines.{texts_behind, words_items};
+ghost use Rattle.kob_policy_text.specs.Lines.{listed_items, only_event};
+ghost use Rattle.kob_policy_text.specs.Lines.{rules_of, setting_items};
+ghost use Rattle.kob_policy_text.specs.Lines.{texts_behind, words_items, rules_in};
 ghost use Rattle.kob_policy_text.specs.Outcomes.{MayGive};
-ghost use Rattle.kob_script.specs.Words.{Gives, GivesSeen, words_of};
+ghost use Rattle.kob_script.specs.Words.{GivesSeen, words_of};
 ghost use Rattle.kob_script.specs.Script.{asks_clap};
 
 use crate::item::Item;
@@ -59,21 +59,6 @@ fn is_listed(line: &[u8]) -> bool
         || holds_mark(line, b" permission for operations: ")
 }
 
-/// The one thing that a line of a list says, or a row of a table, if it says anything.
-fn listed_item(alloc: Global, line: &[u8]) -> Result<Option<Item>, LineError>
-    ensures { Gives result (listed_item line.now) }
-{
-    if is_heading(line) {
-        Ok(Some(heading_item(alloc, line)?))
-    } else if line.starts_with(b"(principal=") {
-        Ok(Some(newer_grant(alloc, line)?))
-    } else if is_tabular(line) {
-        tabular_item(alloc, line)
-    } else {
-        Ok(Some(older_grant(alloc, line)?))
-    }
-}
-
 /// What a line that is read as a whole says.
 #[tactic(auto, unfolding(crate::specs::Lines::listed_items))]
 fn listed_items(alloc: Global, line: &[u8]) -> Result<Vec<Item>, LineError>
@@ -83,11 +68,17 @@ fn listed_items(alloc: Global, line: &[u8]) -> Result<Vec<Item>, LineError>
         Ok(Vec::new(alloc))
     } else if is_property(line) {
         property_items(alloc, line)
-    } else {
-        match listed_item(alloc, line)? {
+    } else if is_heading(line) {
+        one(alloc, heading_item(alloc, line)?)
+    } else if line.starts_with(b"(principal=") {
+        one(alloc, newer_grant(alloc, line)?)
+    } else if is_tabular(line) {
+        match tabular_item(alloc, line)? {
             Some(item) => one(alloc, item),
             None => Ok(Vec::new(alloc)),
         }
+    } else {
+        one(alloc, older_grant(alloc, line)?)
     }
 }
 
@@ -95,19 +86,6 @@ fn is_release(first: &Word<'_>) -> bool
     ensures { result ≡ is_release first.now }
 {
     first.decoded() == b"kafka".as_slice()
-}
-
-/// `kafka VERSION`
-fn release_line(alloc: Global, arguments: &[Word<'_>]) -> Result<Vec<Item>, LineError>
-    ensures { GivesSeen (λ items. items.items) result (release_line arguments.now) }
-{
-    match arguments {
-        [version] => one(
-            alloc,
-            Item::Brokers(known(release_named(version.decoded()))?),
-        ),
-        [] | [_, _, ..] => Err(LineError::Fault(FaultKind::BadLine)),
-    }
 }
 
 /// `super PRINCIPAL`, `everyone on` or `everyone off`
@@ -133,19 +111,13 @@ fn is_for_other_kind(words: &[Word<'_>]) -> bool
     ensures { result ≡ is_for_other_kind words.now }
 {
     match words {
-        [_, _, command, _, principal, ..] => {
-            command.decoded() == b"create-acl".as_slice() && names_other_kind(principal)
+        [_, _, command, _, principal, ..] if command.decoded() == b"create-acl".as_slice() => {
+            match lent_text_of(principal) {
+                Ok(text) => is_other_kind(text),
+                Err(_) => false,
+            }
         }
         _ => false,
-    }
-}
-
-fn names_other_kind(word: &Word<'_>) -> bool
-    ensures { result ≡ names_other_kind word.now }
-{
-    match lent_text_of(word) {
-        Ok(text) => is_other_kind(text),
-        Err(_) => false,
     }
 }
 
@@ -200,7 +172,11 @@ fn words_items(alloc: Global, words: Vec<Word<'_>>) -> Result<Vec<Item>, LineErr
         return setting_items(alloc, first, arguments);
     }
     if is_release(first) {
-        return release_line(alloc, arguments);
+        let [version] = arguments else {
+            return Err(LineError::Fault(FaultKind::BadLine));
+        };
+        let release = known(release_named(version.decoded()))?;
+        return one(alloc, Item::Brokers(release));
     }
     let held = held_words(alloc, words)?;
     rules_of(alloc, events_of(alloc, &held, &None)?)
@@ -243,18 +219,6 @@ fn asks_by_acl(words: &[Word<'_>]) -> bool
     }
 }
 
-/// What a line of a script says.
-fn script_items(alloc: Global, line: &[u8]) -> Result<Vec<Item>, LineError>
-    ensures { MayGive (λ items. items.items) result (SaysByWords (words_of line.now)) }
-{
-    let words = words_of(alloc, line)?;
-    if asks_by_acl(&words) {
-        let texts = acl_texts(alloc, &words)?;
-        return added(alloc, &texts);
-    }
-    words_items(alloc, words)
-}
-
 #[tactic(auto, unfolding(crate::specs::Lines::SaysTrimmed))]
 fn trimmed_items(alloc: Global, line: &[u8]) -> Result<Vec<Item>, LineError>
     ensures { MayGive (λ items. items.items) result (SaysTrimmed line.now) }
@@ -262,10 +226,15 @@ fn trimmed_items(alloc: Global, line: &[u8]) -> Result<Vec<Item>, LineError>
     if is_listed(line) {
         return listed_items(alloc, line);
     }
-    match tool_arguments(line) {
-        Some(arguments) => tool_items(alloc, arguments),
-        None => script_items(alloc, line),
+    if let Some(arguments) = tool_arguments(line) {
+        return tool_items(alloc, arguments);
     }
+    let words = words_of(alloc, line)?;
+    if asks_by_acl(&words) {
+        let texts = acl_texts(alloc, &words)?;
+        return added(alloc, &texts);
+    }
+    words_items(alloc, words)
 }
 
 /// Whether the words create bindings.
@@ -280,50 +249,26 @@ fn is_creation(words: &[Word<'_>]) -> bool
     }
 }
 
-fn are_foreign(words: &[Word<'_>]) -> bool
-    ensures { result ≡ are_foreign (Ok words.now) }
-{
-    match words {
-        [] => false,
-        [first, ..] => !(is_setting(first) || is_release(first) || is_creation(words)),
-    }
-}
-
-/// Whether the line is of no form.
-#[tactic(auto, unfolding(crate::specs::Lines::is_foreign))]
-fn is_foreign(alloc: Global, line: &[u8]) -> Result<bool, AllocError>
-    ensures { IfOk result (λ foreign. foreign ≡ is_foreign line.now) }
-{
-    if is_listed(line) || tool_arguments(line).is_some() {
-        return Ok(false);
-    }
-    match words_of(alloc, line) {
-        Ok(words) => Ok(are_foreign(&words)),
-        Err(LineError::Memory(refused)) => Err(refused),
-        Err(LineError::Fault(_)) => Ok(true),
-    }
-}
-
-#[tactic(auto, unfolding(crate::specs::Lines::is_skipped))]
+/// Whether a line above every heading says nothing of rules: another setting, or in a file with a
+/// heading a line of no form.
+#[tactic(auto, unfolding(crate::specs::Lines::is_skipped, crate::specs::Lines::is_foreign))]
 fn is_skipped(alloc: Global, has_list: bool, line: &[u8]) -> Result<bool, AllocError>
     ensures { IfOk result (λ skipped. skipped ≡ is_skipped has_list line.now) }
 {
     if is_other_property(line) {
         return Ok(true);
     }
-    if !has_list {
+    if !has_list || is_listed(line) || tool_arguments(line).is_some() {
         return Ok(false);
     }
-    is_foreign(alloc, line)
-}
-
-fn items_in(alloc: Global, skipped: bool, line: &[u8]) -> Result<Vec<Item>, LineError>
-    ensures { MayGive (λ items. items.items) result (SaysIn skipped line.now) }
-{
-    if skipped {
-        return one(alloc, Item::Skipped);
+    match words_of(alloc, line) {
+        Ok(words) => match words.as_slice() {
+            [] => Ok(false),
+            [first, ..] => Ok(!(is_setting(first) || is_release(first) || is_creation(&words))),
+        },
+        Err(LineError::Memory(refused)) => Err(refused),
+        Err(LineError::Fault(_)) => Ok(true),
     }
-    trimmed_items(alloc, line)
 }
 
 /// What a line says, above every heading of its file or not. The options of `kafka-acls` and of
@@ -337,6 +282,8 @@ pub fn items_of(
     ensures { MayGive (λ items. items.items) result (SaysAt above has_list line.now) }
 {
     let line = trimmed(line);
-    let skipped = above && is_skipped(alloc, has_list, line)?;
-    items_in(alloc, skipped, line)
+    if above && is_skipped(alloc, has_list, line)? {
+        return one(alloc, Item::Skipped);
+    }
+    trimmed_items(alloc, line)
 }

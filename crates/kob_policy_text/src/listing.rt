@@ -1,14 +1,14 @@
 //! The lines that `kafka-acls --list` prints.
 
 ghost use Rattle.std.specs.Prelude.{◌≡◌, codes, ok_or};
-ghost use Rattle.kob_policy_text.specs.Listing.{grant_item, grant_of, headed, heading_item};
+ghost use Rattle.kob_policy_text.specs.Listing.{grant_item, grant_of, heading_item};
 ghost use Rattle.kob_policy_text.specs.Listing.{heading_text, holder_of};
-ghost use Rattle.kob_policy_text.specs.Listing.{is_other_operation, is_other_resource, known_operation};
+ghost use Rattle.kob_policy_text.specs.Listing.{is_other_operation, known_operation};
 ghost use Rattle.kob_policy_text.specs.Listing.{known_resource};
 ghost use Rattle.kob_policy_text.specs.Listing.{listed_operation, listed_resource, one_principal};
 ghost use Rattle.kob_policy_text.specs.Listing.{unclosed};
-ghost use Rattle.kob_policy_text.specs.Listing.{newer_grant, newer_resource, newer_target, newer_words};
-ghost use Rattle.kob_policy_text.specs.Listing.{older_grant, older_resource, older_target, older_words};
+ghost use Rattle.kob_policy_text.specs.Listing.{newer_grant, newer_target, newer_words};
+ghost use Rattle.kob_policy_text.specs.Listing.{older_grant, older_target, older_words};
 ghost use Rattle.kob_policy_text.specs.Listing.{target_item, target_of, first_parts};
 ghost use Rattle.kob_script.specs.Words.{Gives, GivesSeen};
 ghost use Rattle.kob_script.specs.declared.fault.FaultKind.TheVariants.{BadWord};
@@ -16,7 +16,7 @@ ghost use Rattle.kob_script.specs.declared.fault.FaultKind.TheVariants.{BadWord}
 use crate::item::{Grant, Item, Target};
 use crate::pieces::{around_first, around_last, first_parts, holds_mark, last_parts};
 use crate::users::{OTHER_OPERATION, copied_text, host_in, user_in};
-use kob_names::{Operation, Pattern, PatternKind, Permission, Principal, ResourceKind, Text};
+use kob_names::{Operation, Pattern, Permission, Principal, ResourceKind};
 use kob_script::{FaultKind, LineError, principal_of};
 use kob_words::{operation_named, pattern_named, permission_named, resource_named};
 use std::alloc::Global;
@@ -76,14 +76,6 @@ pub fn is_other_operation(word: &[u8]) -> bool
         || word.eq_ignore_ascii_case(b"TwoPhaseCommit")
 }
 
-fn is_other_resource(word: &[u8]) -> bool
-    ensures { result ≡ is_other_resource word.now }
-{
-    word.eq_ignore_ascii_case(b"DELEGATION_TOKEN")
-        || word.eq_ignore_ascii_case(b"DelegationToken")
-        || word.eq_ignore_ascii_case(b"USER")
-}
-
 /// The operation, or none for one that is left out.
 pub fn listed_operation(word: &[u8]) -> Option<Option<Operation>>
     ensures { result ≡ listed_operation word.now }
@@ -112,7 +104,10 @@ pub fn listed_resource(word: &[u8]) -> Option<Option<ResourceKind>>
 {
     if word.eq_ignore_ascii_case(b"TRANSACTIONAL_ID") {
         Some(Some(ResourceKind::TransactionalId))
-    } else if is_other_resource(word) {
+    } else if word.eq_ignore_ascii_case(b"DELEGATION_TOKEN")
+        || word.eq_ignore_ascii_case(b"DelegationToken")
+        || word.eq_ignore_ascii_case(b"USER")
+    {
         Some(None)
     } else {
         match resource_named(word) {
@@ -248,21 +243,6 @@ pub fn older_grant(alloc: Global, line: &[u8]) -> Result<Item, LineError>
     grant_item(alloc, &older_words(line)?)
 }
 
-fn headed(kind: Option<ResourceKind>, pattern: PatternKind, name: Text) -> Option<Target>
-    ensures { result ≡ headed kind pattern name }
-{
-    match kind {
-        None => None,
-        Some(resource) => Some(Target {
-            resource,
-            pattern: Pattern {
-                kind: pattern,
-                name,
-            },
-        }),
-    }
-}
-
 #[tactic(auto, unfolding(crate::specs::Listing::target_of))]
 pub fn target_of(alloc: Global, words: &TargetWords<'_>) -> Result<Option<Target>, LineError>
     ensures { Gives result (target_of words.now) }
@@ -270,7 +250,16 @@ pub fn target_of(alloc: Global, words: &TargetWords<'_>) -> Result<Option<Target
     let kind = known(listed_resource(words.resource))?;
     let pattern = known(pattern_named(unclosed(words.pattern)))?;
     let name = copied_text(alloc, words.name)?;
-    Ok(headed(kind, pattern, name))
+    match kind {
+        None => Ok(None),
+        Some(resource) => Ok(Some(Target {
+            resource,
+            pattern: Pattern {
+                kind: pattern,
+                name,
+            },
+        })),
+    }
 }
 
 fn target_item(alloc: Global, words: &TargetWords<'_>) -> Result<Item, LineError>
@@ -291,12 +280,6 @@ fn newer_target(text: &[u8]) -> Result<TargetWords<'_>, LineError>
         pattern,
         name,
     })
-}
-
-fn newer_resource(alloc: Global, text: &[u8]) -> Result<Item, LineError>
-    ensures { Gives result (newer_resource text.now) }
-{
-    target_item(alloc, &newer_target(text)?)
 }
 
 fn older_target<'a>(resource: &'a [u8], rest: &'a [u8]) -> TargetWords<'a>
@@ -320,14 +303,6 @@ fn older_target<'a>(resource: &'a [u8], rest: &'a [u8]) -> TargetWords<'a>
     }
 }
 
-#[tactic(auto, unfolding(crate::specs::Listing::older_resource))]
-fn older_resource(alloc: Global, text: &[u8]) -> Result<Item, LineError>
-    ensures { Gives result (older_resource text.now) }
-{
-    let (kind, rest) = around_first(text, b":")?;
-    target_item(alloc, &older_target(kind, rest))
-}
-
 /// The part of a heading between its quotes.
 #[tactic(auto, unfolding(crate::specs::Listing::heading_text))]
 fn heading_text(line: &[u8]) -> Result<&[u8], LineError>
@@ -342,13 +317,14 @@ fn heading_text(line: &[u8]) -> Result<&[u8], LineError>
 }
 
 /// ``Current ACLs for resource `RESOURCE`:``
+#[tactic(auto, unfolding(crate::specs::Listing::older_resource))]
 pub fn heading_item(alloc: Global, line: &[u8]) -> Result<Item, LineError>
     ensures { Gives result (heading_item line.now) }
 {
     let text = heading_text(line)?;
     if text.starts_with(b"ResourcePattern(") {
-        newer_resource(alloc, text)
-    } else {
-        older_resource(alloc, text)
+        return target_item(alloc, &newer_target(text)?);
     }
+    let (kind, rest) = around_first(text, b":")?;
+    target_item(alloc, &older_target(kind, rest))
 }

@@ -6,9 +6,9 @@ ghost use Rattle.std.specs.List.{list_any};
 ghost use Rattle.kob_authorizer.specs.Decide as authorizer;
 ghost use Rattle.kob_policy_text.specs.LogAnswers.{accesses_text, asked_in, decides, differs};
 ghost use Rattle.kob_policy_text.specs.LogAnswers.{idle_in, idle_line, is_decider};
-ghost use Rattle.kob_policy_text.specs.LogAnswers.{is_otherwise, judged_text, log_text, otherwise_line};
-ghost use Rattle.kob_policy_text.specs.LogAnswers.{otherwise_text, place_text, skipped_lines, unjudged_text, verdict_on, was_text};
-ghost use Rattle.kob_policy_text.specs.LogLines.{log_of};
+ghost use Rattle.kob_policy_text.specs.LogAnswers.{is_otherwise, log_text, otherwise_line};
+ghost use Rattle.kob_policy_text.specs.LogAnswers.{otherwise_text, place_text, skipped_lines, verdict_on, was_text};
+ghost use Rattle.kob_policy_text.specs.LogAnswers.{judged_text, unjudged_text};
 ghost use Rattle.kob_policy_text.specs.Numbered.{numbered};
 ghost use Rattle.kob_policy_text.specs.Policy.{serials_of};
 

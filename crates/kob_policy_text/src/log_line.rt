@@ -2,16 +2,16 @@
 
 ghost use Rattle.std.specs.Prelude.{◌≡◌, codes, option_map};
 ghost use Rattle.kob_policy_text.specs.Listing.{first_parts};
-ghost use Rattle.kob_policy_text.specs.LogLines.{access_of, access_words, allowed_by, asker_in};
-ghost use Rattle.kob_policy_text.specs.LogLines.{name_in, one_name, recorded_by, recorded_of};
-ghost use Rattle.kob_policy_text.specs.LogLines.{resource_alone, right_by, right_in, up_to};
-ghost use Rattle.kob_script.specs.Words.{Gives, GivesSeen};
+ghost use Rattle.kob_policy_text.specs.LogLines.{access_of, access_words, allowed_by};
+ghost use Rattle.kob_policy_text.specs.LogLines.{name_in, one_name};
+ghost use Rattle.kob_policy_text.specs.LogLines.{resource_alone, right_in, up_to};
+ghost use Rattle.kob_script.specs.Words.{Gives};
 
 use crate::listing::{known, listed_operation, listed_resource};
 use crate::pieces::{around_first, around_last, first_parts, last_parts};
 use crate::question::{Asker, Right};
 use crate::users::{OTHER_PRINCIPAL, copied_text, host_in, user_in};
-use kob_names::{Operation, ResourceKind, Text};
+use kob_names::Text;
 use kob_script::{FaultKind, LineError};
 use std::alloc::Global;
 use std::marker::Model;
@@ -121,23 +121,7 @@ fn name_in(alloc: Global, name: Option<&[u8]>) -> Result<Option<Text>, LineError
     }
 }
 
-fn right_by(
-    operation: Option<Operation>,
-    resource: Option<ResourceKind>,
-    name: Option<Text>,
-) -> Option<Right>
-    ensures { result ≡ right_by operation resource name }
-{
-    match (operation, resource, name) {
-        (Some(operation), Some(resource), Some(name)) => Some(Right {
-            operation,
-            resource,
-            name,
-        }),
-        _ => None,
-    }
-}
-
+/// The right, if rules can grant it.
 #[tactic(auto, unfolding(crate::specs::LogLines::right_in))]
 fn right_in(alloc: Global, operation: &[u8], resource: &[u8]) -> Result<Option<Right>, LineError>
     ensures { Gives result (right_in operation.now resource.now) }
@@ -146,46 +130,33 @@ fn right_in(alloc: Global, operation: &[u8], resource: &[u8]) -> Result<Option<R
     let operation = known(listed_operation(operation))?;
     let kind = known(listed_resource(kind))?;
     let name = name_in(alloc, one_name(rest))?;
-    Ok(right_by(operation, kind, name))
-}
-
-#[tactic(auto, unfolding(crate::specs::LogLines::asker_in))]
-fn asker_in(alloc: Global, principal: &[u8], host: &[u8]) -> Result<Asker, LineError>
-    ensures { Gives result (asker_in principal.now host.now) }
-{
-    let principal = user_in(alloc, principal)?;
-    let host = host_in(alloc, host)?;
-    Ok(Asker { principal, host })
-}
-
-fn recorded_by(allowed: bool, asker: Asker, right: Option<Right>) -> Option<Recorded>
-    ensures { result ≡ recorded_by allowed asker right }
-{
-    match right {
-        Some(right) if asker.principal.as_str() != OTHER_PRINCIPAL => Some(Recorded {
-            asker,
-            right,
-            allowed,
-        }),
-        _ => None,
+    match (operation, kind, name) {
+        (Some(operation), Some(resource), Some(name)) => Ok(Some(Right {
+            operation,
+            resource,
+            name,
+        })),
+        _ => Ok(None),
     }
-}
-
-#[tactic(auto, unfolding(crate::specs::LogLines::recorded_of))]
-fn recorded_of(alloc: Global, words: &AccessWords<'_>) -> Result<Option<Recorded>, LineError>
-    ensures { Gives result (recorded_of words.now) }
-{
-    let allowed = allowed_by(words.outcome)?;
-    let asker = asker_in(alloc, words.principal, words.host)?;
-    let right = right_in(alloc, words.operation, words.resource)?;
-    Ok(recorded_by(allowed, asker, right))
 }
 
 /// The access that a line records, or none if rules cannot bear on it. The fault is that the line
 /// records no access.
+#[tactic(auto, unfolding(crate::specs::LogLines::asker_in, crate::specs::LogLines::recorded_of))]
 pub fn access_of(alloc: Global, line: &[u8]) -> Result<Option<Recorded>, LineError>
     ensures { Gives result (access_of line.now) }
 {
     let words = access_words(line)?;
-    recorded_of(alloc, &words)
+    let allowed = allowed_by(words.outcome)?;
+    let principal = user_in(alloc, words.principal)?;
+    let host = host_in(alloc, words.host)?;
+    match right_in(alloc, words.operation, words.resource)? {
+        None => Ok(None),
+        Some(_) if principal.as_str() == OTHER_PRINCIPAL => Ok(None),
+        Some(right) => Ok(Some(Recorded {
+            asker: Asker { principal, host },
+            right,
+            allowed,
+        })),
+    }
 }

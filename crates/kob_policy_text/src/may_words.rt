@@ -1,19 +1,88 @@
 //! What the words after `may` ask.
 
 ghost use Rattle.std.specs.Prelude.{◌≡◌};
-ghost use Rattle.kob_policy_text.specs.Questions.{access_by, may_by, may_consume, may_produce};
-ghost use Rattle.kob_policy_text.specs.Questions.{may_repeat, may_request, may_right, may_six};
-ghost use Rattle.kob_policy_text.specs.Questions.{may_transact, may_words, produces};
+ghost use Rattle.kob_policy_text.specs.Questions.{may_consume, may_produce};
+ghost use Rattle.kob_policy_text.specs.Questions.{may_request};
+ghost use Rattle.kob_policy_text.specs.Questions.{may_words};
+ghost use Rattle.kob_policy_text.specs.Questions.{may_by, may_repeat, may_right, may_six, may_transact};
 ghost use Rattle.kob_script.specs.Words.{Gives};
 
 use crate::lines::only_event;
 use crate::listing::known_operation;
 use crate::question::{Access, Act, Asker};
 use crate::question_words::{asker_of, is_word, right_of, two_texts};
-use kob_names::{Batch, Items, PlainValue, Text};
-use kob_rights::{Event, OffsetCommit, Produce, Request};
+use kob_names::{Batch, Items, PlainValue};
+use kob_rights::{OffsetCommit, Produce, Request};
 use kob_script::{FaultKind, LineError, Word, events_of, text_of};
 use std::alloc::Global;
+
+#[tactic(auto, unfolding(crate::specs::Questions::may_produce))]
+fn may_produce(
+    alloc: Global,
+    principal: &Word<'_>,
+    host: &Word<'_>,
+    topic: &Word<'_>,
+) -> Result<Access, LineError>
+    ensures { Gives result (may_produce principal.now host.now topic.now) }
+{
+    let asker = asker_of(alloc, principal, host)?;
+    let topic = text_of(alloc, topic)?;
+    let records = Items::from_vec(Vec::new(alloc));
+    Ok(Access {
+        asker,
+        act: Act::Request(Request::Produce(Produce {
+            topic,
+            partition: 0,
+            batch: Batch {
+                idem: None,
+                records,
+            },
+        })),
+    })
+}
+
+#[tactic(auto, unfolding(crate::specs::Questions::may_consume))]
+fn may_consume(
+    alloc: Global,
+    principal: &Word<'_>,
+    host: &Word<'_>,
+    topic: &Word<'_>,
+    group: &Word<'_>,
+) -> Result<Access, LineError>
+    ensures { Gives result (may_consume principal.now host.now topic.now group.now) }
+{
+    let asker = asker_of(alloc, principal, host)?;
+    let (topic, group) = two_texts(alloc, topic, group)?;
+    Ok(Access {
+        asker,
+        act: Act::Request(Request::OffsetCommit(OffsetCommit {
+            group,
+            topic,
+            partition: 0,
+            offset: 0,
+        })),
+    })
+}
+
+/// A request as a script has it, unless it is said to come from `*`; `acl` is not one.
+#[tactic(auto, unfolding(crate::specs::Questions::may_request))]
+fn may_request(alloc: Global, words: &[Word<'_>]) -> Result<Access, LineError>
+    ensures { Gives result (may_request words.now) }
+{
+    let Some(event) = only_event(events_of(alloc, words, &None)?) else {
+        return Err(LineError::Fault(FaultKind::BadLine));
+    };
+    if event.host.as_str() == "*" {
+        return Err(LineError::Fault(FaultKind::BadHost));
+    }
+    Ok(Access {
+        asker: Asker {
+            principal: event.principal.copy(alloc)?,
+            host: event.host.copy(alloc)?,
+        },
+        act: Act::Request(event.into_request()),
+    })
+}
 
 #[tactic(auto, unfolding(crate::specs::Questions::may_right))]
 fn may_right(
@@ -31,36 +100,6 @@ fn may_right(
     Ok(Access {
         asker,
         act: Act::Right(right),
-    })
-}
-
-fn produces(alloc: Global, topic: Text) -> Act
-    ensures { result ≡ produces topic }
-{
-    Act::Request(Request::Produce(Produce {
-        topic,
-        partition: 0,
-        batch: Batch {
-            idem: None,
-            records: Items::from_vec(Vec::new(alloc)),
-        },
-    }))
-}
-
-#[tactic(auto, unfolding(crate::specs::Questions::may_produce))]
-fn may_produce(
-    alloc: Global,
-    principal: &Word<'_>,
-    host: &Word<'_>,
-    topic: &Word<'_>,
-) -> Result<Access, LineError>
-    ensures { Gives result (may_produce principal.now host.now topic.now) }
-{
-    let asker = asker_of(alloc, principal, host)?;
-    let name = text_of(alloc, topic)?;
-    Ok(Access {
-        asker,
-        act: produces(alloc, name),
     })
 }
 
@@ -97,57 +136,6 @@ fn may_transact(
         asker,
         act: Act::Transactional(name, transaction),
     })
-}
-
-#[tactic(auto, unfolding(crate::specs::Questions::may_consume))]
-fn may_consume(
-    alloc: Global,
-    principal: &Word<'_>,
-    host: &Word<'_>,
-    topic: &Word<'_>,
-    group: &Word<'_>,
-) -> Result<Access, LineError>
-    ensures { Gives result (may_consume principal.now host.now topic.now group.now) }
-{
-    let asker = asker_of(alloc, principal, host)?;
-    let (topic, group) = two_texts(alloc, topic, group)?;
-    Ok(Access {
-        asker,
-        act: Act::Request(Request::OffsetCommit(OffsetCommit {
-            group,
-            topic,
-            partition: 0,
-            offset: 0,
-        })),
-    })
-}
-
-/// What a request asks, unless it is said to come from `*`.
-fn access_by(alloc: Global, event: Event) -> Result<Access, LineError>
-    ensures { Gives result (access_by event) }
-{
-    if event.host.as_str() == "*" {
-        return Err(LineError::Fault(FaultKind::BadHost));
-    }
-    Ok(Access {
-        asker: Asker {
-            principal: event.principal.copy(alloc)?,
-            host: event.host.copy(alloc)?,
-        },
-        act: Act::Request(event.into_request()),
-    })
-}
-
-/// A request as a script has it; `acl` is not one.
-#[tactic(auto, unfolding(crate::specs::Questions::may_request))]
-fn may_request(alloc: Global, words: &[Word<'_>]) -> Result<Access, LineError>
-    ensures { Gives result (may_request words.now) }
-{
-    let asked = events_of(alloc, words, &None)?;
-    match only_event(asked) {
-        Some(event) => access_by(alloc, event),
-        None => Err(LineError::Fault(FaultKind::BadLine)),
-    }
 }
 
 #[tactic(auto, unfolding(crate::specs::Questions::may_by))]

@@ -2,9 +2,8 @@
 
 ghost use Rattle.std.specs.Prelude.{◌≡◌, ◌++◌, IfOk, OnOk, flat_map, is_some};
 ghost use Rattle.std.specs.Prelude.{slice_get};
-ghost use Rattle.kob_policy_text.specs.Moved.{alone_text, headed, is_equal, moved_line};
+ghost use Rattle.kob_policy_text.specs.Moved.{alone_text, is_equal, moved_line};
 ghost use Rattle.kob_policy_text.specs.Moved.{moved_text};
-ghost use Rattle.kob_policy_text.specs.Policy.{contents_of};
 ghost use Rattle.kob_policy_text.specs.Steps.{is_among};
 
 use crate::commands::equals_of;
@@ -32,21 +31,6 @@ fn place_of(others: &[(u64, Binding)], found: &[(u64, Binding)]) -> usize {
         .unwrap_or(0)
 }
 
-/// Where an equal binding is among the others.
-fn found_at(
-    alloc: Global,
-    others: &Authorizer,
-    binding: &Binding,
-) -> Result<Option<usize>, AllocError>
-    ensures { IfOk result (λ at. is_some at ≡ is_among others.now.contents.entries binding.now) }
-{
-    let found = equals_of(alloc, others, binding)?;
-    if found.is_empty() {
-        return Ok(None);
-    }
-    Ok(Some(place_of(others.entries(), found.as_slice())))
-}
-
 /// Where an equal binding is among the others. It is looked for first at a place: lists that are
 /// compared have most bindings in one order.
 #[tactic(auto, using(crate::proofs::Standing::stands_among))]
@@ -61,7 +45,11 @@ fn place_among(
     if stands_at(others.entries(), first, binding) {
         return Ok(Some(first));
     }
-    found_at(alloc, others, binding)
+    let found = equals_of(alloc, others, binding)?;
+    if found.is_empty() {
+        return Ok(None);
+    }
+    Ok(Some(place_of(others.entries(), found.as_slice())))
 }
 
 /// The line of a binding, unless the others have an equal one. Returns where the next one may be.
@@ -103,20 +91,7 @@ fn push_lines(
     Ok(())
 }
 
-/// Lines below a word, if there are any.
-fn push_headed(out: &mut Vec<u8>, what: &[u8], lines: &[u8]) -> Result<(), AllocError>
-    ensures { OnOk result (out.new.items ≡ out.old.items ++ headed what.now lines.now) }
-{
-    match lines {
-        [] => Ok(()),
-        [_, ..] => {
-            out.extend_from_slice(what)?;
-            out.extend_from_slice(lines)
-        }
-    }
-}
-
-/// The bindings of one policy that the others lack.
+/// The bindings of one policy that the others lack, below a word if there are any.
 fn push_alone(
     alloc: Global,
     out: &mut Vec<u8>,
@@ -130,7 +105,13 @@ fn push_alone(
     let mut lines = Vec::new(alloc);
     let entries = judge.authorizer().entries();
     push_lines(alloc, &mut lines, judge, others.authorizer(), entries)?;
-    push_headed(out, what, lines.as_slice())
+    match lines.as_slice() {
+        [] => Ok(()),
+        [_, ..] => {
+            out.extend_from_slice(what)?;
+            out.extend_from_slice(lines.as_slice())
+        }
+    }
 }
 
 /// Prints the bindings that only the first policy has, below `removed`, and those that only the

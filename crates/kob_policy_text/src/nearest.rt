@@ -1,7 +1,7 @@
 //! The nearest of the names of patterns to a name that no pattern takes.
 
-ghost use Rattle.std.specs.Prelude.{◌≡◌, IfOk, OnOk, fold};
-ghost use Rattle.kob_policy_text.specs.Nearest.{distance, is_compared, nearest_of, none_near};
+ghost use Rattle.std.specs.Prelude.{◌≡◌, IfOk, OnOk};
+ghost use Rattle.kob_policy_text.specs.Nearest.{is_compared, nearest_of, none_near};
 ghost use Rattle.kob_policy_text.specs.Nearest.{with_nearer};
 
 use kob_names::{PlainValue, Text};
@@ -22,13 +22,6 @@ fn is_compared(name: &str) -> bool
     name.len() <= 64
 }
 
-#[tactic(auto, unfolding(crate::specs::Nearest::distance))]
-fn distance(alloc: Global, name: &str, other: &str) -> Result<usize, AllocError>
-    ensures { IfOk result (λ changes. changes ≡ distance name.now other.now) }
-{
-    osa_distance(alloc, name, other)
-}
-
 impl Nearest {
     /// None yet.
     fn new(name: &str) -> Nearest
@@ -41,26 +34,17 @@ impl Nearest {
     }
 
     /// Takes another name into account.
+    #[tactic(auto, unfolding(crate::specs::Nearest::distance))]
     fn add(&mut self, alloc: Global, name: &str, other: &Text) -> Result<(), AllocError>
         ensures { OnOk result (self.new ≡ with_nearer name.now self.old other.now) }
     {
         if !is_compared(other.as_str()) {
             return Ok(());
         }
-        let changes = distance(alloc, name, other.as_str())?;
+        let changes = osa_distance(alloc, name, other.as_str())?;
         if changes < self.least {
             self.found = Some(other.copy(alloc)?);
             self.least = changes;
-        }
-        Ok(())
-    }
-
-    #[tactic(auto, using(std::proofs::lemmas::List::Sums::fold_more))]
-    fn add_all(&mut self, alloc: Global, name: &str, others: &[Text]) -> Result<(), AllocError>
-        ensures { OnOk result (self.new ≡ fold (with_nearer name.now) self.old others.now) }
-    {
-        for other in others {
-            self.add(alloc, name, other)?;
         }
         Ok(())
     }
@@ -69,6 +53,7 @@ impl Nearest {
 /// The name among others that the fewest changes make of a name: one, or no more than a third of its
 /// bytes. The first of several. A change is a character more, less or another, or two side by side
 /// the other way round. Names of more than 64 bytes are not compared.
+#[tactic(auto, using(std::proofs::lemmas::List::Sums::fold_more))]
 pub fn nearest_of(alloc: Global, name: &str, others: &[Text]) -> Result<Option<Text>, AllocError>
     ensures { IfOk result (λ found. found ≡ nearest_of name.now others.now) }
 {
@@ -76,6 +61,8 @@ pub fn nearest_of(alloc: Global, name: &str, others: &[Text]) -> Result<Option<T
         return Ok(None);
     }
     let mut nearest = Nearest::new(name);
-    nearest.add_all(alloc, name, others)?;
+    for other in others {
+        nearest.add(alloc, name, other)?;
+    }
     Ok(nearest.found)
 }

@@ -1,12 +1,10 @@
 //! The objects of an array of JSON.
 
-ghost use Rattle.std.specs.Prelude.{◌≡◌, IfErr, IfOk, OnOk};
+ghost use Rattle.std.specs.Prelude.{◌≡◌, OnOk};
 ghost use Rattle.kob_policy_text.specs.Objects as seen;
-ghost use Rattle.kob_policy_text.specs.Objects.{at_stage, before_array, before_object};
-ghost use Rattle.kob_policy_text.specs.Objects.{behind_object};
-ghost use Rattle.kob_policy_text.specs.Objects.{begun_on, closed_byte, inside_byte, is_array};
-ghost use Rattle.kob_policy_text.specs.Objects.{is_blank, no_objects, objects_by, objects_in};
-ghost use Rattle.kob_policy_text.specs.Objects.{quoted_byte};
+ghost use Rattle.kob_policy_text.specs.Objects.{at_stage};
+ghost use Rattle.kob_policy_text.specs.Objects.{begun_on, is_array};
+ghost use Rattle.kob_policy_text.specs.Objects.{no_objects, objects_by, objects_in};
 ghost use Rattle.kob_policy_text.specs.Objects.{read_bytes, read_line, with_byte, with_end};
 ghost use Rattle.kob_policy_text.specs.Objects.{with_object_byte, wrong_on};
 ghost use Rattle.kob_policy_text.specs.Outcomes.{GivesAt};
@@ -54,12 +52,6 @@ impl Model for Objects {
       line = objects.line;
       stage = objects.stage;
     } };
-}
-
-fn is_blank(byte: u8) -> bool
-    ensures { result ≡ is_blank byte }
-{
-    matches!(byte, b' ' | b'\t' | b'\n' | b'\r')
 }
 
 impl Objects {
@@ -118,104 +110,27 @@ impl Objects {
         Ok(())
     }
 
-    fn before_array(&mut self, line: u64, byte: u8)
-        ensures { self.new ≡ before_array self.old line byte }
-    {
-        if is_blank(byte) {
-            return;
-        }
-        match byte {
-            b'[' => self.go(Stage::First),
-            _ => self.refuse(line),
-        }
-    }
-
-    fn before_object(&mut self, may_close: bool, line: u64, byte: u8) -> Result<(), AllocError>
-        ensures { OnOk result (self.new ≡ before_object may_close self.old line byte) }
-    {
-        if is_blank(byte) {
-            return Ok(());
-        }
-        if byte == b'{' {
-            return self.begin(line);
-        }
-        if byte == b']' && may_close {
-            self.go(Stage::Closed);
-        } else {
-            self.refuse(line);
-        }
-        Ok(())
-    }
-
-    fn behind_object(&mut self, line: u64, byte: u8)
-        ensures { self.new ≡ behind_object self.old line byte }
-    {
-        if is_blank(byte) {
-            return;
-        }
-        match byte {
-            b',' => self.go(Stage::Next),
-            b']' => self.go(Stage::Closed),
-            _ => self.refuse(line),
-        }
-    }
-
-    fn read_inside(&mut self, alloc: Global, line: u64, byte: u8) -> Result<(), AllocError>
-        ensures { OnOk result (self.new ≡ inside_byte self.old line byte) }
-    {
-        match byte {
-            b'}' => self.end(alloc),
-            b'"' => self.add(Stage::Quoted, byte),
-            b'{' | b'[' => {
-                self.refuse(line);
-                Ok(())
-            }
-            _ => self.add(Stage::Inside, byte),
-        }
-    }
-
-    fn read_quoted(&mut self, byte: u8) -> Result<(), AllocError>
-        ensures { OnOk result (self.new ≡ quoted_byte self.old byte) }
-    {
-        match byte {
-            b'"' => self.add(Stage::Inside, byte),
-            b'\\' => self.add(Stage::Escaped, byte),
-            _ => self.add(Stage::Quoted, byte),
-        }
-    }
-
-    fn read_closed(&mut self, line: u64, byte: u8)
-        ensures { self.new ≡ closed_byte self.old line byte }
-    {
-        if !is_blank(byte) {
-            self.refuse(line);
-        }
-    }
-
+    /// Takes a byte of the text. Blanks outside objects are skipped.
     #[tactic(auto, unfolding(crate::specs::Objects::with_object_byte))]
     fn read(&mut self, alloc: Global, line: u64, byte: u8) -> Result<(), AllocError>
         ensures { OnOk result (self.new ≡ with_object_byte self.old line byte) }
     {
-        match self.stage {
-            Stage::Before => {
-                self.before_array(line, byte);
-                Ok(())
-            }
-            Stage::First => self.before_object(true, line, byte),
-            Stage::Next => self.before_object(false, line, byte),
-            Stage::Between => {
-                self.behind_object(line, byte);
-                Ok(())
-            }
-            Stage::Inside => self.read_inside(alloc, line, byte),
-            Stage::Quoted => self.read_quoted(byte),
-            Stage::Escaped => self.add(Stage::Quoted, byte),
-            Stage::Closed => {
-                self.read_closed(line, byte);
-                Ok(())
-            }
-            Stage::Wrong => Ok(()),
+        match (self.stage, byte) {
+            (Stage::Inside, b'}') => self.end(alloc)?,
+            (Stage::Inside, b'"') => self.add(Stage::Quoted, byte)?,
+            (Stage::Inside, b'{' | b'[') => self.refuse(line),
+            (Stage::Inside, _) => self.add(Stage::Inside, byte)?,
+            (Stage::Quoted, b'"') => self.add(Stage::Inside, byte)?,
+            (Stage::Quoted, b'\\') => self.add(Stage::Escaped, byte)?,
+            (Stage::Quoted | Stage::Escaped, _) => self.add(Stage::Quoted, byte)?,
+            (Stage::Wrong, _) | (_, b' ' | b'\t' | b'\n' | b'\r') => {}
+            (Stage::Before, b'[') => self.go(Stage::First),
+            (Stage::First | Stage::Next, b'{') => self.begin(line)?,
+            (Stage::First | Stage::Between, b']') => self.go(Stage::Closed),
+            (Stage::Between, b',') => self.go(Stage::Next),
+            _ => self.refuse(line),
         }
+        Ok(())
     }
 
     #[tactic(auto, using(crate::proofs::Numbering::bytes_read, crate::proofs::Numbering::bytes_end))]
@@ -232,23 +147,10 @@ impl Objects {
     fn finish(self) -> Result<Vec<Numbered>, ScriptError>
         ensures { GivesAt (λ lines. lines.items) result (objects_by self.stage self) }
     {
-        let Objects {
-            ended,
-            begun: _,
-            line,
-            stage,
-        } = self;
-        match stage {
-            Stage::Closed => Ok(ended),
-            Stage::Before
-            | Stage::First
-            | Stage::Next
-            | Stage::Between
-            | Stage::Inside
-            | Stage::Quoted
-            | Stage::Escaped
-            | Stage::Wrong => {
-                let kind = FaultKind::BadLine;
+        match self.stage {
+            Stage::Closed => Ok(self.ended),
+            _ => {
+                let (line, kind) = (self.line, FaultKind::BadLine);
                 Err(ScriptError::Fault(Fault { line, kind }))
             }
         }

@@ -1,12 +1,12 @@
 //! What the options of `kafka-acls` say.
 
-ghost use Rattle.std.specs.Prelude.{◌≡◌, ◌++◌, ◌∷◌, [], IfOk, OnOk, Some, codes, map, option_map};
+ghost use Rattle.std.specs.Prelude.{◌≡◌, ◌++◌, ◌∷◌, [], IfOk, OnOk, Some, map, option_map};
 ghost use Rattle.std.specs.Option.{option_to_list};
 ghost use Rattle.kob_acl_cli.specs.Lines.{texts};
-ghost use Rattle.kob_policy_text.specs.Options.{Adds, added_by, added_from, added_of, behind, held_args};
-ghost use Rattle.kob_policy_text.specs.Options.{held_at, held_option, held_options, is_ignored};
+ghost use Rattle.kob_policy_text.specs.Options.{Adds, added_by, added_from};
+ghost use Rattle.kob_policy_text.specs.Options.{held_at, held_options, is_ignored};
 ghost use Rattle.kob_policy_text.specs.Options.{is_ignored_whole, is_other, is_other_whole};
-ghost use Rattle.kob_policy_text.specs.Options.{added_in_parts, has_producer_ids, ids_alone};
+ghost use Rattle.kob_policy_text.specs.Options.{added_in_parts, ids_alone};
 ghost use Rattle.kob_policy_text.specs.Options.{next_place, only_command, rule_items, then_added};
 ghost use Rattle.kob_policy_text.specs.Options.{without_ids, drafts_from, with_other_operations};
 ghost use Rattle.kob_policy_text.specs.Options.{added_on_both};
@@ -69,41 +69,17 @@ fn is_other_whole(word: &str) -> bool
         || word.as_bytes().starts_with(b"--user-principal=")
 }
 
-/// The option that is passed on for a word.
-fn held_option(word: &str) -> Option<&str>
-    ensures { option_to_list (option_map (λ text. text.now) result) ≡ held_option word.entry.now }
-{
-    if is_ignored(word) || is_ignored_whole(word) {
-        None
-    } else if is_other(word) {
-        Some("--topic")
-    } else if is_other_whole(word) {
-        Some("--topic=(another kind of resource)")
-    } else {
-        Some(word)
-    }
-}
-
-fn behind(word: &str) -> Place
-    ensures { result ≡ behind word.now }
-{
-    if is_ignored(word) {
-        Place::BehindIgnored
-    } else if is_other(word) {
-        Place::BehindOther
-    } else {
-        Place::Anywhere
-    }
-}
-
 /// The word that is passed on at a place.
 fn held_at(place: Place, word: &str) -> Option<&str>
     ensures { option_to_list (option_map (λ text. text.now) result) ≡ held_at place word.entry.now }
 {
     match place {
-        Place::Anywhere => held_option(word),
         Place::BehindIgnored => None,
         Place::BehindOther => Some(OTHER_RESOURCE),
+        Place::Anywhere if is_ignored(word) || is_ignored_whole(word) => None,
+        Place::Anywhere if is_other(word) => Some("--topic"),
+        Place::Anywhere if is_other_whole(word) => Some("--topic=(another kind of resource)"),
+        Place::Anywhere => Some(word),
     }
 }
 
@@ -112,8 +88,9 @@ fn next_place(place: Place, word: &str) -> Place
     ensures { result ≡ next_place place word.now }
 {
     match place {
-        Place::Anywhere => behind(word),
-        Place::BehindIgnored | Place::BehindOther => Place::Anywhere,
+        Place::Anywhere if is_ignored(word) => Place::BehindIgnored,
+        Place::Anywhere if is_other(word) => Place::BehindOther,
+        _ => Place::Anywhere,
     }
 }
 
@@ -162,14 +139,6 @@ fn held_names(alloc: Global, names: &Items<Text>) -> Result<Items<Text>, AllocEr
     Ok(Items::from_vec(held))
 }
 
-fn hold_principals(alloc: Global, args: &mut CliArgs) -> Result<(), AllocError>
-    ensures { OnOk result (args.new ≡ held_args args.old) }
-{
-    args.allow_principals = held_names(alloc, &args.allow_principals)?;
-    args.deny_principals = held_names(alloc, &args.deny_principals)?;
-    Ok(())
-}
-
 pub fn rule_items(alloc: Global, drafts: Vec<Draft>) -> Result<Vec<Item>, AllocError>
     ensures { IfOk result (λ items. items.items ≡ rule_items drafts.items) }
 {
@@ -178,16 +147,6 @@ pub fn rule_items(alloc: Global, drafts: Vec<Draft>) -> Result<Vec<Item>, AllocE
         items.push(Item::Rule(draft))?;
     }
     Ok(items)
-}
-
-/// What the only command adds. Commands that remove or list are a fault.
-fn added_of(command: Option<AclCommand>) -> Result<Vec<Draft>, LineError>
-    ensures { GivesSeen (λ drafts. drafts.items) result (added_of command) }
-{
-    match command {
-        Some(AclCommand::Create(drafts)) => Ok(drafts.into_vec()),
-        _ => Err(LineError::Fault(FaultKind::BadLine)),
-    }
 }
 
 fn only_command(mut commands: Vec<AclCommand>) -> Option<AclCommand>
@@ -199,11 +158,14 @@ fn only_command(mut commands: Vec<AclCommand>) -> Option<AclCommand>
     commands.pop()
 }
 
+/// What the only command adds. Commands that remove or list are a fault.
 fn drafts_from(alloc: Global, args: &CliArgs) -> Result<Vec<Draft>, LineError>
     ensures { GivesSeen (λ drafts. drafts.items) result (drafts_from args.now) }
 {
-    let commands = acl_commands(alloc, Some(args))?;
-    added_of(only_command(commands))
+    match only_command(acl_commands(alloc, Some(args))?) {
+        Some(AclCommand::Create(drafts)) => Ok(drafts.into_vec()),
+        _ => Err(LineError::Fault(FaultKind::BadLine)),
+    }
 }
 
 fn added_from(alloc: Global, args: &CliArgs) -> Result<Vec<Item>, LineError>
@@ -236,27 +198,14 @@ fn added_on_both(alloc: Global, args: &mut CliArgs) -> Result<Vec<Item>, LineErr
     Ok(items)
 }
 
-fn has_producer_ids(args: &CliArgs) -> bool
-    ensures { result ≡ has_producer_ids args.now }
-{
-    args.producer && !args.transactional_ids.as_slice().is_empty()
-}
-
-/// `Write` and `Describe`.
-fn on_ids(alloc: Global) -> Result<Items<Text>, AllocError>
-    ensures { IfOk result (λ made. made ≡ codes "Write" ∷ codes "Describe" ∷ []) }
+/// Leaves the transactional ids alone, for `Write` and `Describe`.
+fn leave_ids(alloc: Global, args: &mut CliArgs) -> Result<(), AllocError>
+    ensures { OnOk result (args.new ≡ ids_alone args.old) }
 {
     let mut made = Vec::new(alloc);
     push_text(alloc, &mut made, "Write")?;
     push_text(alloc, &mut made, "Describe")?;
-    Ok(Items::from_vec(made))
-}
-
-/// Leaves the transactional ids alone.
-fn leave_ids(alloc: Global, args: &mut CliArgs) -> Result<(), AllocError>
-    ensures { OnOk result (args.new ≡ ids_alone args.old) }
-{
-    args.operations = on_ids(alloc)?;
+    args.operations = Items::from_vec(made);
     args.topics = Items::from_vec(Vec::new(alloc));
     args.groups = Items::from_vec(Vec::new(alloc));
     args.producer = false;
@@ -284,7 +233,7 @@ fn added_for_ids(alloc: Global, args: &mut CliArgs) -> Result<Vec<Item>, LineErr
 fn added_in_parts(alloc: Global, args: &mut CliArgs) -> Result<Vec<Item>, LineError>
     ensures { GivesSeen (λ items. items.items) result (added_in_parts args.old) }
 {
-    if has_producer_ids(args) {
+    if args.producer && !args.transactional_ids.as_slice().is_empty() {
         added_for_ids(alloc, args)
     } else if !has_other_operation(args) {
         added_from(alloc, args)
@@ -301,7 +250,8 @@ fn added_by(alloc: Global, answer: &mut Option<CliArgs>) -> Result<Vec<Item>, Li
     match answer {
         None => Err(LineError::Fault(FaultKind::Usage)),
         Some(args) => {
-            hold_principals(alloc, args)?;
+            args.allow_principals = held_names(alloc, &args.allow_principals)?;
+            args.deny_principals = held_names(alloc, &args.deny_principals)?;
             added_in_parts(alloc, args)
         }
     }

@@ -68,13 +68,6 @@ pub fn left_out_principal(alloc: Global) -> Result<Principal, LineError>
     principal_of(alloc, OTHER_OPERATION)
 }
 
-fn left_out_rule(alloc: Global, principal: &Principal, mut draft: Draft) -> Result<Item, AllocError>
-    ensures { IfOk result (λ item. item ≡ left_out_rule principal.now draft) }
-{
-    draft.principal = principal.copy(alloc)?;
-    Ok(Item::Rule(draft))
-}
-
 /// The bindings for the principal in place of their own.
 pub fn left_out_rules(
     alloc: Global,
@@ -85,8 +78,9 @@ pub fn left_out_rules(
         ≡ map (left_out_rule principal.now) drafts.items) }
 {
     let mut items = Vec::with_capacity(alloc, drafts.len())?;
-    for draft in drafts {
-        items.push(left_out_rule(alloc, principal, draft)?)?;
+    for mut draft in drafts {
+        draft.principal = principal.copy(alloc)?;
+        items.push(Item::Rule(draft))?;
     }
     Ok(items)
 }

@@ -1,7 +1,7 @@
 //! The parts of a line that is printed.
 
 ghost use Rattle.std.specs.Prelude.{◌≡◌, ◌++◌, OnOk, flat_map};
-ghost use Rattle.kob_policy_text.specs.Parties.{names_text, party_text};
+ghost use Rattle.kob_policy_text.specs.Parties.{party_text};
 ghost use Rattle.kob_policy_text.specs.Parts.{part_text};
 
 use crate::origin::Origin;
@@ -39,18 +39,6 @@ pub fn push_party(out: &mut Vec<u8>, all: &str, party: &Option<Text>) -> Result<
     }
 }
 
-fn push_names(out: &mut Vec<u8>, names: &Names) -> Result<(), AllocError>
-    ensures { OnOk result (out.new.items ≡ out.old.items ++ names_text names.now) }
-{
-    match names {
-        Names::Exactly(name) => push_name(out, name.as_str()),
-        Names::Below(start) => {
-            push_name(out, start.as_str())?;
-            out.extend_from_slice(b"* (others)")
-        }
-    }
-}
-
 fn push_part(out: &mut Vec<u8>, part: Part<'_>) -> Result<(), AllocError>
     ensures { OnOk result (out.new.items ≡ out.old.items ++ part_text part.entry) }
 {
@@ -59,7 +47,13 @@ fn push_part(out: &mut Vec<u8>, part: Part<'_>) -> Result<(), AllocError>
         Part::Name(name) => push_name(out, name),
         Part::Number(number) => push_number(out, number),
         Part::Party(all, party) => push_party(out, all, party),
-        Part::Names(names) => push_names(out, names),
+        Part::Names(names) => match names {
+            Names::Exactly(name) => push_name(out, name.as_str()),
+            Names::Below(start) => {
+                push_name(out, start.as_str())?;
+                out.extend_from_slice(b"* (others)")
+            }
+        },
         Part::Answer(verdict) => push_answer(out, verdict),
         Part::Origin(origin) => push_origin_behind(out, origin),
     }

@@ -2,9 +2,9 @@
 
 ghost use Rattle.std.specs.Prelude.{◌≡◌, IfOk, OnOk, is_none};
 ghost use Rattle.kob_policy_text.specs.Lines.{has_heading};
-ghost use Rattle.kob_policy_text.specs.Policy.{at_file, empty_policy, with_binding, with_closing};
-ghost use Rattle.kob_policy_text.specs.Policy.{with_draft, with_draft_left_out, with_grant};
-ghost use Rattle.kob_policy_text.specs.Policy.{with_heading, with_item, with_omission, with_row};
+ghost use Rattle.kob_policy_text.specs.Policy.{at_file, empty_policy};
+ghost use Rattle.kob_policy_text.specs.Policy.{with_draft, with_grant};
+ghost use Rattle.kob_policy_text.specs.Policy.{with_item, with_omission, with_row};
 ghost use Rattle.kob_script.specs.Words.{GivesSeen};
 
 use crate::drafts::{binding_of, closing_binding, draft_under, has_bad_heading};
@@ -176,55 +176,25 @@ impl Policy {
         Ok(())
     }
 
-    fn add_binding(
-        &mut self,
-        alloc: Global,
-        origin: &Origin,
-        binding: Binding,
-    ) -> Result<(), AllocError>
-        ensures { OnOk result (self.new ≡ with_binding self.old origin.now binding) }
-    {
-        self.bindings.push(binding)?;
-        self.origins.push(origin.copy(alloc)?)?;
-        Ok(())
-    }
-
-    /// Closes the pattern of what is left out, if its kind of resource is supported.
-    fn add_closing(&mut self, what: LeftOut, closing: Binding) -> Result<(), AllocError>
-        ensures { OnOk result (self.new ≡ with_closing self.old what closing) }
-    {
-        match what {
-            LeftOut::Resource => {}
-            LeftOut::Principal | LeftOut::Operation => self.closings.push(closing)?,
-        }
-        Ok(())
-    }
-
-    fn add_left_out(
-        &mut self,
-        alloc: Global,
-        origin: &Origin,
-        what: LeftOut,
-        draft: &Draft,
-    ) -> Result<(), LineError>
-        ensures { GivesSeen (λ _. self.new) result
-            (with_draft_left_out self.old origin.now what draft.now) }
-    {
-        let closing = closing_binding(alloc, draft)?;
-        self.add_omission(alloc, origin, what, draft.permission == Permission::Deny)?;
-        Ok(self.add_closing(what, closing)?)
-    }
-
+    /// What is left out closes its pattern, if its kind of resource is supported.
     fn add_draft(&mut self, alloc: Global, origin: &Origin, draft: &Draft) -> Result<(), LineError>
         ensures { GivesSeen (λ _. self.new) result (with_draft self.old origin.now draft.now) }
     {
         match left_out_of(draft) {
-            Some(what) => self.add_left_out(alloc, origin, what, draft),
+            Some(what) => {
+                let closing = closing_binding(alloc, draft)?;
+                self.add_omission(alloc, origin, what, draft.permission == Permission::Deny)?;
+                match what {
+                    LeftOut::Resource => {}
+                    LeftOut::Principal | LeftOut::Operation => self.closings.push(closing)?,
+                }
+            }
             None => {
-                let binding = binding_of(alloc, draft)?;
-                Ok(self.add_binding(alloc, origin, binding)?)
+                self.bindings.push(binding_of(alloc, draft)?)?;
+                self.origins.push(origin.copy(alloc)?)?;
             }
         }
+        Ok(())
     }
 
     fn add_grant(&mut self, alloc: Global, origin: &Origin, grant: Grant) -> Result<(), LineError>
@@ -266,16 +236,6 @@ impl Policy {
         }
     }
 
-    fn add_heading(&mut self, target: Option<Target>) -> Result<(), LineError>
-        ensures { GivesSeen (λ _. self.new) result (with_heading self.old target) }
-    {
-        if has_bad_heading(&target) {
-            return Err(LineError::Fault(FaultKind::BadName));
-        }
-        self.heading = Some(target);
-        Ok(())
-    }
-
     #[tactic(auto, unfolding(crate::specs::Policy::with_item))]
     pub(crate) fn add_item(
         &mut self,
@@ -299,7 +259,13 @@ impl Policy {
                 Ok(())
             }
             Item::Rule(draft) => { self.add_draft(alloc, origin, &draft) }
-            Item::Resource(target) => self.add_heading(target),
+            Item::Resource(target) => {
+                if has_bad_heading(&target) {
+                    return Err(LineError::Fault(FaultKind::BadName));
+                }
+                self.heading = Some(target);
+                Ok(())
+            }
             Item::Grant(grant) => self.add_grant(alloc, origin, grant),
             Item::Row(target, grant) => self.add_row(alloc, origin, &target, grant),
             Item::Skipped => {

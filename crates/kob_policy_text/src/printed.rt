@@ -1,9 +1,10 @@
 //! How answers are printed: origins, verdicts, bindings and rights.
 
 ghost use Rattle.std.specs.Prelude.{◌≡◌, ◌++◌, OnOk, Some};
-ghost use Rattle.kob_policy_text.specs.Answers.{answer_text, binding_line, denial_text, left_out_word};
-ghost use Rattle.kob_policy_text.specs.Answers.{line_at, line_by, line_of, may_text, omission_line};
-ghost use Rattle.kob_policy_text.specs.Answers.{origin_behind, origin_by, origin_text, right_text, yes_or_no};
+ghost use Rattle.kob_policy_text.specs.Answers.{answer_text, denial_text, left_out_word};
+ghost use Rattle.kob_policy_text.specs.Answers.{line_at, line_by, may_text, omission_line};
+ghost use Rattle.kob_policy_text.specs.Answers.{origin_behind, origin_by, right_text, yes_or_no};
+ghost use Rattle.kob_policy_text.specs.Answers.{binding_line};
 ghost use Rattle.std.specs.Option.{option_copied};
 
 use crate::asked::Asked;
@@ -15,14 +16,6 @@ use crate::quoted::push_binding;
 use kob_names::{Binding, Verdict};
 use kob_words::{operation_name, push_bytes, push_number, resource_name};
 use std::alloc::AllocError;
-
-fn push_origin(out: &mut Vec<u8>, origin: &Origin) -> Result<(), AllocError>
-    ensures { OnOk result (out.new.items ≡ out.old.items ++ origin_text origin.now) }
-{
-    push_bytes(out, origin.file.as_str().as_bytes())?;
-    out.extend_from_slice(b":")?;
-    push_number(out, origin.line)
-}
 
 /// `yes` or `no`.
 pub fn yes_or_no(yes: bool) -> &'static str
@@ -59,7 +52,9 @@ pub fn push_origin_behind(out: &mut Vec<u8>, origin: Option<&Origin>) -> Result<
         None => Ok(()),
         Some(origin) => {
             out.extend_from_slice(b" ")?;
-            push_origin(out, origin)
+            push_bytes(out, origin.file.as_str().as_bytes())?;
+            out.extend_from_slice(b":")?;
+            push_number(out, origin.line)
         }
     }
 }

@@ -1,10 +1,8 @@
 //! The settings of a broker.
 
-ghost use Rattle.std.specs.Prelude.{◌≡◌, ◌∷◌, [], IfOk, Ok, codes, map};
-ghost use Rattle.std.specs.List.{slice_split};
-ghost use Rattle.kob_names.specs.TextRules.{is_topic_byte};
-ghost use Rattle.kob_policy_text.specs.Lines.{between_semicolons, everyone_item, has_key, has_key_bytes};
-ghost use Rattle.kob_policy_text.specs.Lines.{is_key, is_other_property, is_property, property_by};
+ghost use Rattle.std.specs.Prelude.{◌≡◌, ◌∷◌, [], IfOk, Ok, map};
+ghost use Rattle.kob_policy_text.specs.Lines.{between_semicolons, everyone_item, has_key_bytes};
+ghost use Rattle.kob_policy_text.specs.Lines.{is_other_property, is_property};
 ghost use Rattle.kob_policy_text.specs.Lines.{property_items, super_item};
 ghost use Rattle.kob_policy_text.specs.Listing.{first_parts, trimmed};
 ghost use Rattle.kob_script.specs.Words.{Gives, GivesSeen, each};
@@ -67,9 +65,12 @@ fn everyone_item(value: &[u8]) -> Result<Item, LineError>
     }
 }
 
-fn property_by(alloc: Global, key: &[u8], value: &[u8]) -> Result<Vec<Item>, LineError>
-    ensures { GivesSeen (λ items. items.items) result (property_by key.now value.now) }
+#[tactic(auto, unfolding(crate::specs::Lines::property_items))]
+pub fn property_items(alloc: Global, line: &[u8]) -> Result<Vec<Item>, LineError>
+    ensures { GivesSeen (λ items. items.items) result (property_items line.now) }
 {
+    let (key, value) = around_first(line, b"=")?;
+    let (key, value) = (trimmed(key), trimmed(value));
     if key == b"super.users".as_slice() {
         let parts = between_semicolons(alloc, value)?;
         super_items(alloc, &parts)
@@ -78,14 +79,6 @@ fn property_by(alloc: Global, key: &[u8], value: &[u8]) -> Result<Vec<Item>, Lin
     } else {
         Err(LineError::Fault(FaultKind::BadLine))
     }
-}
-
-#[tactic(auto, unfolding(crate::specs::Lines::property_items))]
-pub fn property_items(alloc: Global, line: &[u8]) -> Result<Vec<Item>, LineError>
-    ensures { GivesSeen (λ items. items.items) result (property_items line.now) }
-{
-    let (key, value) = around_first(line, b"=")?;
-    property_by(alloc, trimmed(key), trimmed(value))
 }
 
 pub fn is_property(line: &[u8]) -> bool
@@ -97,33 +90,24 @@ pub fn is_property(line: &[u8]) -> bool
 fn has_key_bytes(key: &[u8]) -> bool
     ensures { result ≡ has_key_bytes key.now }
 {
-    key.iter().all(|byte| is_key_byte(*byte))
-}
-
-fn is_key(key: &[u8]) -> bool
-    ensures { result ≡ is_key key.now }
-{
-    !key.is_empty() && has_key_bytes(key)
-}
-
-fn is_key_byte(byte: u8) -> bool
-    ensures { result ≡ is_topic_byte byte }
-{
-    byte.is_ascii_alphanumeric() || byte == b'.' || byte == b'_' || byte == b'-'
-}
-
-fn has_key(line: &[u8]) -> bool
-    ensures { result ≡ has_key (first_parts line.now (codes "=")) }
-{
-    match first_parts(line, b"=") {
-        None => false,
-        Some((key, _)) => is_key(trimmed(key)),
-    }
+    key.iter().all(|byte| byte.is_ascii_alphanumeric()
+        || *byte == b'.'
+        || *byte == b'_'
+        || *byte == b'-')
 }
 
 /// Whether the line is a setting of a broker that says nothing of rules.
 pub fn is_other_property(line: &[u8]) -> bool
     ensures { result ≡ is_other_property line.now }
 {
-    !is_property(line) && has_key(line)
+    if is_property(line) {
+        return false;
+    }
+    match first_parts(line, b"=") {
+        None => false,
+        Some((key, _)) => {
+            let key = trimmed(key);
+            !key.is_empty() && has_key_bytes(key)
+        }
+    }
 }

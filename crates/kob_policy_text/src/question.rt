@@ -2,14 +2,13 @@
 
 ghost use Rattle.std.specs.Prelude.{◌≡◌, [], false, true};
 ghost use Rattle.kob_policy_text.specs.Policy.{IsRead};
-ghost use Rattle.kob_policy_text.specs.Questions.{has_quotes, is_quoting, topic_words};
-ghost use Rattle.kob_policy_text.specs.Questions.{unquoted_words, with_line, with_lines};
-ghost use Rattle.kob_policy_text.specs.Questions.{with_question, with_questions, with_topics};
-ghost use Rattle.kob_policy_text.specs.Questions.{with_words, words_in};
-ghost use Rattle.kob_policy_text.specs.Questions.{or_bad_line, with_read};
+ghost use Rattle.kob_policy_text.specs.Questions.{has_quotes, topic_words};
+ghost use Rattle.kob_policy_text.specs.Questions.{with_line, with_lines};
+ghost use Rattle.kob_policy_text.specs.Questions.{with_questions, with_topics};
+ghost use Rattle.kob_policy_text.specs.Questions.{with_words};
+ghost use Rattle.kob_policy_text.specs.Questions.{or_bad_line};
 ghost use Rattle.kob_policy_text.specs.Shell as shells;
 ghost use Rattle.kob_script.specs.Words.{GivesSeen, each, word_of};
-ghost use Rattle.std.specs.List.{list_any};
 
 use crate::pieces::trimmed;
 use crate::question_words::{is_word, question_by};
@@ -147,21 +146,6 @@ impl Questions {
         }
     }
 
-    fn add_question(
-        &mut self,
-        alloc: Global,
-        line: &[u8],
-        first: &Word<'_>,
-        words: &[Word<'_>],
-    ) -> Result<(), LineError>
-        ensures { GivesSeen (λ _. self.new) result
-            (with_question line.now self.old first.now words.now) }
-    {
-        let text = Bytes::copied(alloc, trimmed(line))?;
-        let question = question_by(alloc, first, words)?;
-        Ok(self.asked.push(Query { text, question })?)
-    }
-
     fn add_words(
         &mut self,
         alloc: Global,
@@ -178,56 +162,40 @@ impl Questions {
             [first, arguments @ ..] if is_word(first, b"topic") => {
                 self.add_topic(alloc, arguments)
             }
-            [first, arguments @ ..] => self.add_question(alloc, line, first, arguments),
+            [first, arguments @ ..] => {
+                let text = Bytes::copied(alloc, trimmed(line))?;
+                let question = question_by(alloc, first, arguments)?;
+                Ok(self.asked.push(Query { text, question })?)
+            }
         }
     }
 
-    /// The line is cut as a shell cuts it.
-    #[tactic(auto, unfolding(crate::specs::Questions::unquoted_words))]
-    fn add_unquoted(&mut self, alloc: Global, line: &[u8], are_names: bool) -> Result<(), LineError>
-        ensures { GivesSeen (λ _. self.new) result
-            (with_read are_names line.now self.old (unquoted_words line.now)) }
-    {
-        let texts = texts_of(alloc, line)?;
-        let words = each_word(alloc, texts.as_slice())?;
-        self.add_words(alloc, line, &words, are_names)
-    }
-
-    fn add_quoted(&mut self, alloc: Global, line: &[u8], are_names: bool) -> Result<(), LineError>
-        ensures { GivesSeen (λ _. self.new) result
-            (with_read are_names line.now self.old (words_in true line.now)) }
-    {
-        let words = words_of(alloc, line)?;
-        match words.as_slice() {
-            [] => Ok(()),
-            [_, ..] => self.add_unquoted(alloc, line, are_names),
-        }
-    }
-
-    #[tactic(auto, unfolding(crate::specs::Questions::with_line))]
+    /// A line with quotes is cut as a shell cuts it, if it has words.
+    #[tactic(auto, unfolding(crate::specs::Questions::with_line, crate::specs::Questions::unquoted_words))]
     fn add_line(&mut self, alloc: Global, line: &[u8], are_names: bool) -> Result<(), LineError>
         ensures { GivesSeen (λ _. self.new) result
             (with_line are_names self.old line.now) }
     {
-        if has_quotes(line) {
-            self.add_quoted(alloc, line, are_names)
-        } else {
-            let words = words_of(alloc, line)?;
-            self.add_words(alloc, line, &words, are_names)
+        let words = words_of(alloc, line)?;
+        if !has_quotes(line) {
+            return self.add_words(alloc, line, &words, are_names);
+        }
+        match words.as_slice() {
+            [] => Ok(()),
+            [_, ..] => {
+                let texts = texts_of(alloc, line)?;
+                let words = each_word(alloc, texts.as_slice())?;
+                self.add_words(alloc, line, &words, are_names)
+            }
         }
     }
-}
-
-fn is_quoting(byte: u8) -> bool
-    ensures { result ≡ is_quoting byte }
-{
-    byte == b'"' || byte == b'\'' || byte == b'\\'
 }
 
 fn has_quotes(line: &[u8]) -> bool
     ensures { result ≡ has_quotes line.now }
 {
-    line.iter().any(|byte| is_quoting(*byte))
+    line.iter()
+        .any(|byte| *byte == b'"' || *byte == b'\'' || *byte == b'\\')
 }
 
 fn each_word(alloc: Global, texts: &[Bytes]) -> Result<Vec<Word<'_>>, LineError>

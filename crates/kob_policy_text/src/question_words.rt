@@ -1,11 +1,11 @@
 //! What the words of a question ask.
 
 ghost use Rattle.std.specs.Prelude.{◌≡◌};
-ghost use Rattle.kob_policy_text.specs.Questions.{asker_of, expect_words, expected_by, expects};
-ghost use Rattle.kob_policy_text.specs.Questions.{full_name, host_in, is_word, lone_question};
+ghost use Rattle.kob_policy_text.specs.Questions.{asker_of, expect_words, expected_by};
+ghost use Rattle.kob_policy_text.specs.Questions.{full_name, host_in, is_word};
 ghost use Rattle.kob_policy_text.specs.Questions.{lone_words, question_by, right_of};
-ghost use Rattle.kob_policy_text.specs.Questions.{rights_anywhere, rights_from, rights_words};
-ghost use Rattle.kob_policy_text.specs.Questions.{sees_words, two_texts};
+ghost use Rattle.kob_policy_text.specs.Questions.{rights_words};
+ghost use Rattle.kob_policy_text.specs.Questions.{two_texts};
 ghost use Rattle.kob_script.specs.Words.{Gives};
 
 use crate::listing::{known, known_operation, known_resource};
@@ -99,77 +99,43 @@ fn expected_by(word: &Word<'_>) -> Result<bool, LineError>
 }
 
 #[tactic(auto, unfolding(crate::specs::Questions::expects))]
-fn expects(alloc: Global, answer: &Word<'_>, words: &[Word<'_>]) -> Result<Question, LineError>
-    ensures { Gives result (expects answer.now words.now) }
-{
-    let expected = expected_by(answer)?;
-    Ok(Question::Expect(expected, may_words(alloc, words)?))
-}
-
 fn expect_words(alloc: Global, words: &[Word<'_>]) -> Result<Question, LineError>
     ensures { Gives result (expect_words words.now) }
 {
     match words {
-        [answer, may, arguments @ ..] if is_word(may, b"may") => expects(alloc, answer, arguments),
+        [answer, may, arguments @ ..] if is_word(may, b"may") => {
+            let expected = expected_by(answer)?;
+            Ok(Question::Expect(expected, may_words(alloc, arguments)?))
+        }
         _ => Err(LineError::Fault(FaultKind::BadLine)),
     }
-}
-
-fn rights_anywhere(alloc: Global, principal: &Word<'_>) -> Result<Question, LineError>
-    ensures { Gives result (rights_anywhere principal.now) }
-{
-    let text = lent_text_of(principal)?;
-    Ok(Question::Rights(principal_of(alloc, text)?, None))
-}
-
-fn rights_from(alloc: Global, principal: &Word<'_>, host: &Word<'_>) -> Result<Question, LineError>
-    ensures { Gives result (rights_from principal.now host.now) }
-{
-    let Asker { principal, host } = asker_of(alloc, principal, host)?;
-    Ok(Question::Rights(principal, Some(host)))
 }
 
 fn rights_words(alloc: Global, words: &[Word<'_>]) -> Result<Question, LineError>
     ensures { Gives result (rights_words words.now) }
 {
     match words {
-        [principal] => rights_anywhere(alloc, principal),
-        [principal, host] => rights_from(alloc, principal, host),
-        _ => Err(LineError::Fault(FaultKind::BadLine)),
-    }
-}
-
-fn sees_words(alloc: Global, words: &[Word<'_>]) -> Result<Question, LineError>
-    ensures { Gives result (sees_words words.now) }
-{
-    match words {
-        [principal, host] => Ok(Question::Sees(asker_of(alloc, principal, host)?)),
+        [principal] => {
+            let text = lent_text_of(principal)?;
+            Ok(Question::Rights(principal_of(alloc, text)?, None))
+        }
+        [principal, host] => {
+            let Asker { principal, host } = asker_of(alloc, principal, host)?;
+            Ok(Question::Rights(principal, Some(host)))
+        }
         _ => Err(LineError::Fault(FaultKind::BadLine)),
     }
 }
 
 /// A question of one word.
-fn lone_question(word: &Word<'_>) -> Result<Question, LineError>
-    ensures { Gives result (lone_question word.now) }
-{
-    if is_word(word, b"summary") {
-        Ok(Question::Summary)
-    } else if is_word(word, b"unused") {
-        Ok(Question::Unused)
-    } else if is_word(word, b"shadowed") {
-        Ok(Question::Shadowed)
-    } else if is_word(word, b"removable") {
-        Ok(Question::Removable)
-    } else {
-        Err(LineError::Fault(FaultKind::BadLine))
-    }
-}
-
 fn lone_words(first: &Word<'_>, words: &[Word<'_>]) -> Result<Question, LineError>
     ensures { Gives result (lone_words first.now words.now) }
 {
     match words {
-        [] => lone_question(first),
+        [] if is_word(first, b"summary") => Ok(Question::Summary),
+        [] if is_word(first, b"unused") => Ok(Question::Unused),
+        [] if is_word(first, b"shadowed") => Ok(Question::Shadowed),
+        [] if is_word(first, b"removable") => Ok(Question::Removable),
         _ => Err(LineError::Fault(FaultKind::BadLine)),
     }
 }
@@ -192,7 +158,10 @@ pub fn question_by(
     } else if is_word(first, b"rights") {
         rights_words(alloc, words)
     } else if is_word(first, b"sees") {
-        sees_words(alloc, words)
+        match words {
+            [principal, host] => Ok(Question::Sees(asker_of(alloc, principal, host)?)),
+            _ => Err(LineError::Fault(FaultKind::BadLine)),
+        }
     } else {
         lone_words(first, words)
     }

@@ -23,35 +23,26 @@ fn is_shown(byte: u8) -> bool
     32 <= byte && byte <= 126 && byte != b'%'
 }
 
-fn is_bare(byte: u8) -> bool
-    ensures { result ≡ is_bare byte }
-{
-    is_shown(byte) && byte != b' ' && byte != b'\'' && !has_meaning(byte)
-}
-
 fn is_bare_name(name: &[u8]) -> bool
     ensures { result ≡ list_all is_bare name.now }
 {
-    name.iter().all(|byte| is_bare(*byte))
-}
-
-fn push_quoted_byte(out: &mut Vec<u8>, byte: u8) -> Result<(), AllocError>
-    ensures { OnOk result (out.new.items ≡ out.old.items ++ quoted_byte byte) }
-{
-    if has_meaning(byte) {
-        out.extend_from_slice(&[b'\\', byte])
-    } else if is_shown(byte) {
-        out.extend_from_slice(&[byte])
-    } else {
-        push_bytes(out, &[byte])
-    }
+    name.iter().all(|byte| is_shown(*byte)
+        && *byte != b' '
+        && *byte != b'\''
+        && !has_meaning(*byte))
 }
 
 fn push_quoted_bytes(out: &mut Vec<u8>, name: &[u8]) -> Result<(), AllocError>
     ensures { OnOk result (out.new.items ≡ out.old.items ++ flat_map quoted_byte name.now) }
 {
     for byte in name {
-        push_quoted_byte(out, *byte)?;
+        if has_meaning(*byte) {
+            out.extend_from_slice(&[b'\\', *byte])?;
+        } else if is_shown(*byte) {
+            out.extend_from_slice(&[*byte])?;
+        } else {
+            push_bytes(out, &[*byte])?;
+        }
     }
     Ok(())
 }

@@ -2,7 +2,7 @@
 
 ghost use Rattle.std.specs.Prelude.{◌≡◌, Ok};
 ghost use Rattle.kob_policy_text.specs.Outcomes.{GivesAt, MayGive};
-ghost use Rattle.kob_policy_text.specs.Policy.{FileMakes, IsRead, LineMakes, LinesMake, TextMakes};
+ghost use Rattle.kob_policy_text.specs.Policy.{FileMakes, IsRead, LineMakes, LinesMake};
 ghost use Rattle.kob_policy_text.specs.Policy.{fault_at, numbered_in, with_items};
 ghost use Rattle.kob_script.specs.Words.{GivesSeen};
 
@@ -34,19 +34,8 @@ pub fn read_file(
     ensures { IsRead result policy.new (FileMakes file.now text.now policy.old) }
 {
     let text = plain_text(alloc, text)?;
-    read_text(alloc, policy, file, &text)
-}
-
-fn read_text(
-    alloc: Global,
-    policy: &mut Policy,
-    file: &Text,
-    text: &[u8],
-) -> Result<(), ScriptError>
-    ensures { IsRead result policy.new (TextMakes file.now policy.old (Ok text.now)) }
-{
-    policy.begin_file(text);
-    let lines = numbered_in(alloc, text)?;
+    policy.begin_file(&text);
+    let lines = numbered_in(alloc, &text)?;
     read_lines(alloc, policy, file, &lines)
 }
 

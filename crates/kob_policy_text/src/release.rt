@@ -1,8 +1,8 @@
 //! Releases of Kafka.
 
 ghost use Rattle.std.specs.Prelude.{◌≡◌};
-ghost use Rattle.kob_policy_text.specs.Releases.{are_digits, around_dot, is_before_28, is_below_8};
-ghost use Rattle.kob_policy_text.specs.Releases.{release_by, release_named};
+ghost use Rattle.kob_policy_text.specs.Releases.{are_digits, around_dot, is_below_8};
+ghost use Rattle.kob_policy_text.specs.Releases.{release_named};
 
 use crate::pieces::first_parts;
 
@@ -40,26 +40,6 @@ fn is_below_8(minor: &[u8]) -> bool
     }
 }
 
-fn is_before_28(major: &[u8], minor: &[u8]) -> bool
-    ensures { result ≡ is_before_28 major.now minor.now }
-{
-    major == b"0".as_slice()
-        || major == b"1".as_slice()
-        || major == b"2".as_slice() && is_below_8(minor)
-}
-
-fn release_by(major: &[u8], minor: &[u8]) -> Option<Release>
-    ensures { result ≡ release_by major.now minor.now }
-{
-    if major.is_empty() || !are_digits(major) || !are_digits(minor) {
-        None
-    } else if is_before_28(major, minor) {
-        Some(Release::Before28)
-    } else {
-        Some(Release::Since28)
-    }
-}
-
 /// The release that a text such as `2.7` or `3.9.1` names.
 #[tactic(auto, unfolding(crate::specs::Releases::release_named))]
 pub fn release_named(text: &[u8]) -> Option<Release>
@@ -67,5 +47,14 @@ pub fn release_named(text: &[u8]) -> Option<Release>
 {
     let (major, rest) = around_dot(text);
     let (minor, _) = around_dot(rest);
-    release_by(major, minor)
+    if major.is_empty() || !are_digits(major) || !are_digits(minor) {
+        None
+    } else if major == b"0".as_slice()
+        || major == b"1".as_slice()
+        || major == b"2".as_slice() && is_below_8(minor)
+    {
+        Some(Release::Before28)
+    } else {
+        Some(Release::Since28)
+    }
 }

@@ -2,8 +2,8 @@
 
 ghost use Rattle.std.specs.Prelude.{◌≡◌, ◌++◌, OnOk};
 ghost use Rattle.kob_policy_text.specs.Access.{act_rights, are_met, check_of, check_text};
-ghost use Rattle.kob_policy_text.specs.Access.{clause_text, clauses_text, idempotent_rights, is_clause_met};
-ghost use Rattle.kob_policy_text.specs.Access.{on_transaction, question_on, rights_text, transactional_rights};
+ghost use Rattle.kob_policy_text.specs.Access.{clause_text, idempotent_rights, is_clause_met};
+ghost use Rattle.kob_policy_text.specs.Access.{question_on, rights_text, transactional_rights};
 ghost use Rattle.kob_rights.specs.Table.{check_view, clause_view, on_cluster, on_topic, rights_view};
 
 use crate::asked::Asked;
@@ -38,16 +38,6 @@ fn write_on(topic: &Text) -> Check<'_>
     }
 }
 
-fn write_in(transaction: &Text) -> Check<'_>
-    ensures { check_view result ≡ on_transaction transaction.entry.now }
-{
-    Check {
-        operation: Operation::Write,
-        resource: ResourceKind::TransactionalId,
-        name: transaction.as_str(),
-    }
-}
-
 /// An operation on a resource.
 pub fn check_of(right: &Right) -> Check<'_>
     ensures { check_view result ≡ check_of right.entry.now }
@@ -75,7 +65,12 @@ pub fn idempotent_rights(release: Release, topic: &Text) -> Rights<'_>
 pub fn transactional_rights<'a>(topic: &'a Text, id: &'a Text) -> Rights<'a>
     ensures { rights_view result ≡ transactional_rights topic.entry.now id.entry.now }
 {
-    Rights::Both(Clause::Only(write_in(id)), Clause::Only(write_on(topic)))
+    let write_in = Check {
+        operation: Operation::Write,
+        resource: ResourceKind::TransactionalId,
+        name: id.as_str(),
+    };
+    Rights::Both(Clause::Only(write_in), Clause::Only(write_on(topic)))
 }
 
 /// The rights that an act needs of brokers of a release.
@@ -153,26 +148,6 @@ fn push_clause<'a>(
     }
 }
 
-#[tactic(auto, using(kob_words::proofs::Appending::appending), unfolding(crate::specs::Access::clauses_text))]
-fn push_clauses<'a>(
-    out: &mut Vec<u8>,
-    judge: &'a Judge,
-    asker: &'a Asker,
-    rights: &Rights<'a>,
-) -> Result<(), AllocError>
-    ensures { OnOk result (out.new.items ≡ out.old.items
-        ++ clauses_text judge.now 1 asker.now (rights_view rights.now)) }
-{
-    match rights {
-        Rights::Free => Ok(()),
-        Rights::One(clause) => push_clause(out, judge, 1, asker, clause),
-        Rights::Both(one, other) => {
-            push_clause(out, judge, 1, asker, one)?;
-            push_clause(out, judge, 2, asker, other)
-        }
-    }
-}
-
 fn is_clause_met(judge: &Judge, asker: &Asker, clause: &Clause<'_>) -> bool
     ensures { result ≡ is_clause_met judge.now asker.now (clause_view clause.now) }
 {
@@ -196,6 +171,8 @@ pub fn are_met(judge: &Judge, asker: &Asker, rights: &Rights<'_>) -> bool
     }
 }
 
+/// Whether all are granted, and the answers to each clause, numbered from 1.
+#[tactic(auto, using(kob_words::proofs::Appending::appending), unfolding(crate::specs::Access::clauses_text))]
 pub fn push_rights<'a>(
     out: &mut Vec<u8>,
     judge: &'a Judge,
@@ -210,5 +187,12 @@ pub fn push_rights<'a>(
         out,
         &[Part::Words("  "), Part::Words(answer), Part::Words("\n")],
     )?;
-    push_clauses(out, judge, asker, rights)
+    match rights {
+        Rights::Free => Ok(()),
+        Rights::One(clause) => push_clause(out, judge, 1, asker, clause),
+        Rights::Both(one, other) => {
+            push_clause(out, judge, 1, asker, one)?;
+            push_clause(out, judge, 2, asker, other)
+        }
+    }
 }

@@ -1,15 +1,12 @@
 //! Bindings in seven parts: rows of a table, and objects of JSON.
 
-ghost use Rattle.std.specs.Prelude.{◌≡◌, codes, ok_or};
+ghost use Rattle.std.specs.Prelude.{◌≡◌, codes};
 ghost use Rattle.json.specs.Find.{get};
-ghost use Rattle.json.specs.Json.{document};
 ghost use Rattle.json.specs.Value.{value_view};
-ghost use Rattle.kob_policy_text.specs.Rows.{grant_in, host_by, is_columns, is_object};
-ghost use Rattle.kob_policy_text.specs.Rows.{is_permission_cell, is_row, is_tabular, member_in};
-ghost use Rattle.kob_policy_text.specs.Rows.{object_by, object_item, read_object, row_item, row_of};
-ghost use Rattle.kob_policy_text.specs.Rows.{seven_cells};
+ghost use Rattle.kob_policy_text.specs.Rows.{grant_in, host_by, is_columns};
+ghost use Rattle.kob_policy_text.specs.Rows.{is_row, is_tabular, member_in};
+ghost use Rattle.kob_policy_text.specs.Rows.{object_item, row_item, row_of};
 ghost use Rattle.kob_policy_text.specs.Rows.{tabular_item, target_in};
-ghost use Rattle.kob_script.specs.declared.fault.FaultKind.TheVariants.{BadLine};
 ghost use Rattle.kob_script.specs.Words.{Gives, GivesSeen};
 
 use crate::cells::cells_in;
@@ -18,7 +15,6 @@ use crate::listing::{GrantWords, TargetWords, grant_of, target_of};
 use crate::pieces::{first_parts, holds_mark};
 use crate::users::text_in;
 use json::{Error, Scratch, Value};
-use kob_names::Bytes;
 use kob_script::{FaultKind, LineError};
 use std::alloc::{AllocError, Global};
 
@@ -31,36 +27,28 @@ fn is_columns(line: &[u8]) -> bool
     )
 }
 
-fn is_permission_cell(cell: &[u8]) -> bool
-    ensures { result ≡ is_permission_cell cell.now }
-{
-    cell.eq_ignore_ascii_case(b"ALLOW")
-        || cell.eq_ignore_ascii_case(b"DENY")
-        || cell.eq_ignore_ascii_case(b"\"ALLOW\"")
-        || cell.eq_ignore_ascii_case(b"\"DENY\"")
-}
-
 /// Whether the line begins with a permission and a comma.
 fn is_row(line: &[u8]) -> bool
     ensures { result ≡ is_row line.now }
 {
     match first_parts(line, b",") {
         None => false,
-        Some((cell, _)) => is_permission_cell(cell),
+        Some((cell, _)) => {
+            cell.eq_ignore_ascii_case(b"ALLOW")
+                || cell.eq_ignore_ascii_case(b"DENY")
+                || cell.eq_ignore_ascii_case(b"\"ALLOW\"")
+                || cell.eq_ignore_ascii_case(b"\"DENY\"")
+        }
     }
-}
-
-fn is_object(line: &[u8]) -> bool
-    ensures { result ≡ is_object line.now }
-{
-    line.starts_with(b"{") && holds_mark(line, b"\"resource_type\"")
 }
 
 /// Whether the line is a row or an object.
 pub fn is_tabular(line: &[u8]) -> bool
     ensures { result ≡ is_tabular line.now }
 {
-    is_columns(line) || is_row(line) || is_object(line)
+    is_columns(line)
+        || is_row(line)
+        || line.starts_with(b"{") && holds_mark(line, b"\"resource_type\"")
 }
 
 /// What a row or an object says; `None` is the row above others.
@@ -84,9 +72,12 @@ fn row_of(alloc: Global, on: &TargetWords<'_>, words: &GrantWords<'_>) -> Result
     Ok(Item::Row(target, grant))
 }
 
-fn seven_cells(alloc: Global, cells: &[Bytes]) -> Result<Item, LineError>
-    ensures { Gives result (seven_cells cells.now) }
+/// `PERMISSION,PRINCIPAL,HOST,OPERATION,RESOURCE,PATTERN,NAME`
+#[tactic(auto, unfolding(crate::specs::Rows::row_item))]
+fn row_item(alloc: Global, line: &[u8]) -> Result<Item, LineError>
+    ensures { Gives result (row_item line.now) }
 {
+    let cells = cells_in(alloc, line)?;
     let [
         permission,
         principal,
@@ -95,7 +86,7 @@ fn seven_cells(alloc: Global, cells: &[Bytes]) -> Result<Item, LineError>
         resource,
         pattern,
         name,
-    ] = cells
+    ] = cells.as_slice()
     else {
         return Err(LineError::Fault(FaultKind::BadLine));
     };
@@ -111,15 +102,6 @@ fn seven_cells(alloc: Global, cells: &[Bytes]) -> Result<Item, LineError>
         permission: permission.as_slice(),
     };
     row_of(alloc, &on, &words)
-}
-
-/// `PERMISSION,PRINCIPAL,HOST,OPERATION,RESOURCE,PATTERN,NAME`
-#[tactic(auto, unfolding(crate::specs::Rows::row_item))]
-fn row_item(alloc: Global, line: &[u8]) -> Result<Item, LineError>
-    ensures { Gives result (row_item line.now) }
-{
-    let cells = cells_in(alloc, line)?;
-    seven_cells(alloc, &cells)
 }
 
 /// The text of a member. The fault is `BadWord`.
@@ -174,50 +156,21 @@ fn target_in<'a>(object: &Value<'a>) -> Result<TargetWords<'a>, LineError>
     })
 }
 
-#[tactic(auto, unfolding(crate::specs::Rows::object_by))]
-fn object_by(alloc: Global, object: &Value<'_>) -> Result<Item, LineError>
-    ensures { Gives result (object_by (value_view object.now)) }
-{
-    let words = grant_in(object)?;
-    let on = target_in(object)?;
-    row_of(alloc, &on, &words)
-}
-
-/// The value that a text is. The fault is `BadLine`.
-fn value_in<'a>(
-    alloc: Global,
-    text: &'a str,
-    scratch: &'a mut Scratch,
-) -> Result<Value<'a>, LineError>
-    ensures { GivesSeen (λ value. value_view value) result
-        (ok_or (document text.now) BadLine) }
-{
-    match Value::parse(alloc, text, scratch) {
-        Ok(value) => Ok(value),
-        Err(Error::OutOfMemory) => Err(LineError::Memory(AllocError)),
-        Err(Error::Invalid | Error::TooLong | Error::DuplicateKey) => {
-            Err(LineError::Fault(FaultKind::BadLine))
-        }
-    }
-}
-
-fn read_object<'a>(
-    alloc: Global,
-    text: &'a str,
-    scratch: &'a mut Scratch,
-) -> Result<Item, LineError>
-    ensures { Gives result (read_object text.entry.now) }
-{
-    let object = value_in(alloc, text, scratch)?;
-    object_by(alloc, &object)
-}
-
 /// An object of JSON whose members name the parts. Of members of one name the last counts.
-#[tactic(auto, unfolding(crate::specs::Rows::object_item))]
+#[tactic(auto, unfolding(crate::specs::Rows::object_by, crate::specs::Rows::object_item))]
 fn object_item(alloc: Global, line: &[u8]) -> Result<Item, LineError>
     ensures { Gives result (object_item line.now) }
 {
     let text = text_in(line)?;
     let mut scratch = Scratch::new(alloc);
-    read_object(alloc, text, &mut scratch)
+    let object = match Value::parse(alloc, text, &mut scratch) {
+        Ok(object) => object,
+        Err(Error::OutOfMemory) => return Err(LineError::Memory(AllocError)),
+        Err(Error::Invalid | Error::TooLong | Error::DuplicateKey) => {
+            return Err(LineError::Fault(FaultKind::BadLine));
+        }
+    };
+    let words = grant_in(&object)?;
+    let on = target_in(&object)?;
+    row_of(alloc, &on, &words)
 }

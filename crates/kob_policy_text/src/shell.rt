@@ -1,10 +1,10 @@
 //! The words that a shell passes to a command.
 
-ghost use Rattle.std.specs.Prelude.{◌≡◌, OnOk, IfOk, map};
+ghost use Rattle.std.specs.Prelude.{◌≡◌, OnOk, IfOk};
 ghost use Rattle.kob_policy_text.specs.Shell as seen;
-ghost use Rattle.kob_policy_text.specs.Shell.{ended_words, no_words, plain_byte, double_byte};
-ghost use Rattle.kob_policy_text.specs.Shell.{shell_words, single_byte, with_byte, with_end};
-ghost use Rattle.kob_policy_text.specs.Shell.{with_escaped, with_quoting, with_shell_byte};
+ghost use Rattle.kob_policy_text.specs.Shell.{no_words};
+ghost use Rattle.kob_policy_text.specs.Shell.{shell_words, with_byte, with_end};
+ghost use Rattle.kob_policy_text.specs.Shell.{with_quoting, with_shell_byte};
 ghost use Rattle.kob_policy_text.specs.Joined.{quoting_after};
 ghost use Rattle.kob_script.specs.Words.{GivesSeen};
 
@@ -79,93 +79,51 @@ impl Words {
         Ok(())
     }
 
-    fn quote(&mut self, quoting: Quoting)
-        ensures { self.new ≡ with_quoting self.old quoting }
+    fn quote(&mut self, quoting: Quoting) -> Result<(), AllocError>
+        ensures { OnOk result (self.new ≡ with_quoting self.old quoting) }
     {
         self.has_begun = true;
         self.quoting = quoting;
-    }
-
-    fn add_plain(&mut self, alloc: Global, byte: u8) -> Result<(), AllocError>
-        ensures { OnOk result (self.new ≡ plain_byte self.old byte) }
-    {
-        match byte {
-            b' ' | b'\t' => return self.end(alloc),
-            b'\'' => self.quote(Quoting::Single),
-            b'"' => self.quote(Quoting::Double),
-            b'\\' => self.quote(Quoting::Escaped),
-            b'$' | b'`' => self.quote(Quoting::Refused),
-            _ => return self.add(byte),
-        }
-        Ok(())
-    }
-
-    fn add_single(&mut self, byte: u8) -> Result<(), AllocError>
-        ensures { OnOk result (self.new ≡ single_byte self.old byte) }
-    {
-        if byte == b'\'' {
-            self.quote(Quoting::Plain);
-            return Ok(());
-        }
-        self.add(byte)
-    }
-
-    fn add_double(&mut self, byte: u8) -> Result<(), AllocError>
-        ensures { OnOk result (self.new ≡ double_byte self.old byte) }
-    {
-        match byte {
-            b'"' => self.quote(Quoting::Plain),
-            b'\\' => self.quote(Quoting::DoubleEscaped),
-            b'$' | b'`' => self.quote(Quoting::Refused),
-            _ => return self.add(byte),
-        }
         Ok(())
     }
 
     /// The backslash before a byte that needs no quoting between double quotes is a byte itself.
-    fn add_escaped(&mut self, byte: u8) -> Result<(), AllocError>
-        ensures { OnOk result (self.new ≡ with_escaped self.old byte) }
-    {
-        if !matches!(byte, b'"' | b'\\' | b'$' | b'`') {
-            self.add(b'\\')?;
-        }
-        self.add(byte)
-    }
-
     #[tactic(auto, unfolding(crate::specs::Shell::with_shell_byte))]
     fn read(&mut self, alloc: Global, byte: u8) -> Result<(), AllocError>
         ensures { OnOk result (self.new ≡ with_shell_byte self.old byte) }
     {
         match self.quoting {
-            Quoting::Plain => self.add_plain(alloc, byte),
+            Quoting::Plain => match byte {
+                b' ' | b'\t' => self.end(alloc),
+                b'\'' => self.quote(Quoting::Single),
+                b'"' => self.quote(Quoting::Double),
+                b'\\' => self.quote(Quoting::Escaped),
+                b'$' | b'`' => self.quote(Quoting::Refused),
+                _ => self.add(byte),
+            },
             Quoting::Escaped => {
-                self.quote(Quoting::Plain);
+                self.quote(Quoting::Plain)?;
                 self.add(byte)
             }
-            Quoting::Single => self.add_single(byte),
-            Quoting::Double => self.add_double(byte),
+            Quoting::Single => match byte {
+                b'\'' => self.quote(Quoting::Plain),
+                _ => self.add(byte),
+            },
+            Quoting::Double => match byte {
+                b'"' => self.quote(Quoting::Plain),
+                b'\\' => self.quote(Quoting::DoubleEscaped),
+                b'$' | b'`' => self.quote(Quoting::Refused),
+                _ => self.add(byte),
+            },
             Quoting::DoubleEscaped => {
-                self.quote(Quoting::Double);
-                self.add_escaped(byte)
+                self.quote(Quoting::Double)?;
+                if !matches!(byte, b'"' | b'\\' | b'$' | b'`') {
+                    self.add(b'\\')?;
+                }
+                self.add(byte)
             }
             Quoting::Refused => Ok(()),
         }
-    }
-
-    /// The words, the last of which ends here.
-    fn into_ended(self, alloc: Global) -> Result<Vec<Bytes>, AllocError>
-        ensures { IfOk result (λ words. words.items ≡ ended_words self) }
-    {
-        let Words {
-            mut ended,
-            has_begun,
-            word,
-            quoting: _,
-        } = self;
-        if has_begun {
-            ended.push(Bytes::copied(alloc, &word)?)?;
-        }
-        Ok(ended)
     }
 }
 
@@ -192,7 +150,10 @@ pub fn shell_words(alloc: Global, line: &[u8]) -> Result<Vec<Bytes>, LineError>
         words.read(alloc, *byte)?;
     }
     match words.quoting {
-        Quoting::Plain => Ok(words.into_ended(alloc)?),
+        Quoting::Plain => {
+            words.end(alloc)?;
+            Ok(words.ended)
+        }
         _ => Err(LineError::Fault(FaultKind::Usage)),
     }
 }

@@ -2,15 +2,16 @@
 
 ghost use Rattle.std.specs.Prelude.{◌≡◌, ◌++◌, IfOk, OnOk, codes, length};
 ghost use Rattle.kob_policy_text.specs.AtHand.{each_once};
-ghost use Rattle.kob_policy_text.specs.Summary.{count_line, idle_text, is_told, parties_text};
-ghost use Rattle.kob_policy_text.specs.Summary.{patterns_text, summary_text, unused_count};
+ghost use Rattle.kob_policy_text.specs.Summary.{count_line};
+ghost use Rattle.kob_policy_text.specs.Summary.{summary_text, unused_count};
+ghost use Rattle.kob_policy_text.specs.Summary.{idle_text, parties_text, patterns_text};
 
 use crate::at_hand::{each_once, hosts_named, names_named, principals_named};
 use crate::judge::Judge;
 use crate::parts::{Part, push_parts};
 use crate::texts::Texts;
 use kob_names::ResourceKind;
-use kob_policy_review::{Unneeded, shadowed, unused};
+use kob_policy_review::{shadowed, unused};
 use std::alloc::{AllocError, Global};
 
 /// A count behind what is counted, on a line of its own.
@@ -30,19 +31,31 @@ pub fn push_count(out: &mut Vec<u8>, what: &str, count: usize) -> Result<(), All
     )
 }
 
+fn push_texts(out: &mut Vec<u8>, what: &str, texts: Texts) -> Result<(), AllocError>
+    ensures { OnOk result
+        (out.new.items ≡ out.old.items ++ count_line what.now (length texts)) }
+{
+    push_count(out, what, texts.len())
+}
+
+/// How many bindings are unused, without those that stand for what is left out.
+pub fn unused_count(alloc: Global, judge: &Judge) -> Result<usize, AllocError>
+    ensures { IfOk result (λ count. count ≡ unused_count judge.now) }
+{
+    let idle = unused(alloc, judge.authorizer())?;
+    Ok(
+        idle.iter()
+            .filter(|one| judge.place_of(one.serial).is_some())
+            .count(),
+    )
+}
+
 fn push_supers(alloc: Global, out: &mut Vec<u8>, judge: &Judge) -> Result<(), AllocError>
     ensures { OnOk result (out.new.items ≡ out.old.items
         ++ count_line (codes "super-users") (length (each_once judge.now.supers))) }
 {
     let supers = each_once(alloc, judge.policy().supers())?;
     push_count(out, "super-users", supers.len())
-}
-
-fn push_texts(out: &mut Vec<u8>, what: &str, texts: Texts) -> Result<(), AllocError>
-    ensures { OnOk result
-        (out.new.items ≡ out.old.items ++ count_line what.now (length texts)) }
-{
-    push_count(out, what, texts.len())
 }
 
 #[tactic(auto, using(kob_words::proofs::Appending::appending), unfolding(crate::specs::Summary::parties_text))]
@@ -66,20 +79,6 @@ fn push_patterns(alloc: Global, out: &mut Vec<u8>, judge: &Judge) -> Result<(), 
     push_texts(out, "groups", groups)?;
     let ids = names_named(alloc, ResourceKind::TransactionalId, bindings)?;
     push_texts(out, "transactional-ids", ids)
-}
-
-fn is_told(judge: &Judge, one: &Unneeded) -> bool
-    ensures { result ≡ is_told judge.now one.now }
-{
-    judge.place_of(one.serial).is_some()
-}
-
-/// How many bindings are unused, without those that stand for what is left out.
-pub fn unused_count(alloc: Global, judge: &Judge) -> Result<usize, AllocError>
-    ensures { IfOk result (λ count. count ≡ unused_count judge.now) }
-{
-    let idle = unused(alloc, judge.authorizer())?;
-    Ok(idle.iter().filter(|one| is_told(judge, one)).count())
 }
 
 #[tactic(auto, using(kob_words::proofs::Appending::appending), unfolding(crate::specs::Summary::idle_text))]

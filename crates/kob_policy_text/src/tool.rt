@@ -61,16 +61,10 @@ fn texts_in(alloc: Global, words: &[Bytes]) -> Result<Vec<&str>, LineError>
     Ok(texts)
 }
 
-fn words_items(alloc: Global, words: &[Bytes]) -> Result<Vec<Item>, LineError>
-    ensures { MayGive (λ items. items.items) result (SaysOptions (each text_in words.now)) }
-{
-    let texts = texts_in(alloc, words)?;
-    added(alloc, &texts)
-}
-
 pub fn tool_items(alloc: Global, arguments: &[u8]) -> Result<Vec<Item>, LineError>
     ensures { MayGive (λ items. items.items) result (SaysOptions (tool_texts arguments.now)) }
 {
     let words = shell_words(alloc, arguments)?;
-    words_items(alloc, &words)
+    let texts = texts_in(alloc, &words)?;
+    added(alloc, &texts)
 }

@@ -3,9 +3,8 @@
 ghost use Rattle.std.specs.Prelude.{◌≡◌, ◌++◌, IfOk, OnOk, flat_map};
 ghost use Rattle.std.specs.List.{list_any};
 ghost use Rattle.kob_policy_text.specs.Answers.{from_text, is_seen, seen_text, seen_texts};
-ghost use Rattle.kob_policy_text.specs.Answers.{sees_text, topic_text, who_line};
+ghost use Rattle.kob_policy_text.specs.Answers.{sees_text, who_line};
 ghost use Rattle.kob_policy_text.specs.Parties.{super_grant};
-ghost use Rattle.kob_policy_text.specs.Remarks.{taking_text};
 ghost use Rattle.kob_policy_text.specs.Review.{consumers_text, grant_line, granted_text, grants_text};
 ghost use Rattle.kob_policy_text.specs.Review.{is_taken_away, is_told, is_yes_for, speaks_for};
 ghost use Rattle.kob_policy_text.specs.Review.{target_at, told_text, who_list, who_text};
@@ -229,21 +228,6 @@ fn push_who_list(
     push_no_taker(alloc, out, judge, right)
 }
 
-/// The answer from one host, and what is remarked below it.
-fn push_from_one(
-    alloc: Global,
-    out: &mut Vec<u8>,
-    judge: &Judge,
-    right: &Right,
-    host: &Host,
-) -> Result<(), AllocError>
-    ensures { OnOk result (out.new.items ≡ out.old.items
-        ++ (from_text judge.now right.now host.now ++ taking_text judge.now right.now)) }
-{
-    push_from(alloc, out, judge, right, host)?;
-    push_taking(alloc, out, judge, right)
-}
-
 /// Prints who may do this: from every host, or the answer from one host to each principal.
 pub fn push_who(
     alloc: Global,
@@ -256,7 +240,10 @@ pub fn push_who(
         (out.new.items ≡ out.old.items ++ who_text judge.now right.now host.now) }
 {
     match host {
-        Some(host) => push_from_one(alloc, out, judge, right, host),
+        Some(host) => {
+            push_from(alloc, out, judge, right, host)?;
+            push_taking(alloc, out, judge, right)
+        }
         None => push_who_list(alloc, out, judge, right),
     }
 }
@@ -313,12 +300,6 @@ pub fn is_seen(judge: &Judge, asker: &Asker, topic: &Text) -> bool
     })
 }
 
-fn push_topic(out: &mut Vec<u8>, topic: &Text) -> Result<(), AllocError>
-    ensures { OnOk result (out.new.items ≡ out.old.items ++ topic_text topic.now) }
-{
-    push_parts(out, &[Part::Words(" "), Part::Name(topic.as_str())])
-}
-
 fn push_topics(
     out: &mut Vec<u8>,
     judge: &Judge,
@@ -330,7 +311,7 @@ fn push_topics(
 {
     for topic in topics {
         if is_seen(judge, asker, topic) {
-            push_topic(out, topic)?;
+            push_parts(out, &[Part::Words(" "), Part::Name(topic.as_str())])?;
         }
     }
     Ok(())
