@@ -13,22 +13,6 @@ use kob_rights::{Clause, Rights};
 use std::alloc::{AllocError, Global};
 
 #[tactic(auto, using(kob_words::proofs::Appending::appending), unfolding(crate::specs::Answers::check_row))]
-fn push_check_cells(
-    alloc: Global,
-    row: &mut Vec<Cell>,
-    judge: &Judge,
-    number: u64,
-    asked: &Asked<'_>,
-) -> Result<(), AllocError>
-    ensures { OnOk result
-        (row.new.items ≡ row.old.items ++ check_row judge.now number asked.now) }
-{
-    push_number(row, number)?;
-    push_on(alloc, row, asked.operation, asked.resource, asked.name)?;
-    push_verdict(alloc, row, judge, judge.verdict(asked))?;
-    push_flag(row, judge.is_taken(asked))
-}
-
 fn push_check(
     alloc: Global,
     rows: &mut Vec<Items<Cell>>,
@@ -40,7 +24,10 @@ fn push_check(
         (rows.new.items ≡ rows.old.items ++ check_row judge.now number asked.now ∷ []) }
 {
     let mut row = Vec::new(alloc);
-    push_check_cells(alloc, &mut row, judge, number, asked)?;
+    push_number(&mut row, number)?;
+    push_on(alloc, &mut row, asked.operation, asked.resource, asked.name)?;
+    push_verdict(alloc, &mut row, judge, judge.verdict(asked))?;
+    push_flag(&mut row, judge.is_taken(asked))?;
     push_row(rows, row)
 }
 
@@ -65,28 +52,8 @@ fn push_clause(
     }
 }
 
-#[tactic(auto, using(kob_words::proofs::Appending::appending), unfolding(crate::specs::Answers::clauses_rows))]
-fn push_clauses(
-    alloc: Global,
-    rows: &mut Vec<Items<Cell>>,
-    judge: &Judge,
-    asker: &Asker,
-    rights: &Rights<'_>,
-) -> Result<(), AllocError>
-    ensures { OnOk result (rows.new.items ≡ rows.old.items
-        ++ clauses_rows judge.now 1 asker.now (rights_view rights.now)) }
-{
-    match rights {
-        Rights::Free => Ok(()),
-        Rights::One(clause) => push_clause(alloc, rows, judge, 1, asker, clause),
-        Rights::Both(one, other) => {
-            push_clause(alloc, rows, judge, 1, asker, one)?;
-            push_clause(alloc, rows, judge, 2, asker, other)
-        }
-    }
-}
-
 /// Each right that is needed, with its answer.
+#[tactic(auto, using(kob_words::proofs::Appending::appending), unfolding(crate::specs::Answers::clauses_rows))]
 pub fn push_access(
     alloc: Global,
     rows: &mut Vec<Items<Cell>>,
@@ -95,6 +62,13 @@ pub fn push_access(
 ) -> Result<(), AllocError>
     ensures { OnOk result (rows.new.items ≡ rows.old.items ++ access_rows judge.now access.now) }
 {
-    let rights = rights_of(judge.policy().release(), &access.act);
-    push_clauses(alloc, rows, judge, &access.asker, &rights)
+    let asker = &access.asker;
+    match rights_of(judge.policy().release(), &access.act) {
+        Rights::Free => Ok(()),
+        Rights::One(clause) => push_clause(alloc, rows, judge, 1, asker, &clause),
+        Rights::Both(one, other) => {
+            push_clause(alloc, rows, judge, 1, asker, &one)?;
+            push_clause(alloc, rows, judge, 2, asker, &other)
+        }
+    }
 }

@@ -6,35 +6,16 @@ ghost use Rattle.kob_policy_review.specs.Removal.{removable_in};
 ghost use Rattle.kob_policy_review.specs.Shadows.{shadowed_in};
 ghost use Rattle.kob_policy_rows.specs.Answers.{listed_rows, unneeded_rows, unused_rows};
 ghost use Rattle.kob_policy_rows.specs.Cells.{binding_cells, bound_at, bound_row, bound_rows};
-ghost use Rattle.kob_policy_rows.specs.Cells.{grant_cells, pattern_cells, why_cells};
+ghost use Rattle.kob_policy_rows.specs.Cells.{why_cells};
 ghost use Rattle.kob_policy_text.specs.Policy.{contents_of};
 
 use crate::cell::{Cell, push_nothing, push_number, push_row, push_words};
 use crate::verdict::push_origin;
-use kob_names::{Binding, Draft, Items};
+use kob_names::{Binding, Items};
 use kob_policy_review::{Reason, Unneeded, removable, shadowed, unused};
 use kob_policy_text::{Judge, Origin};
 use kob_words::{operation_name, pattern_name, permission_name, resource_name};
 use std::alloc::{AllocError, Global};
-
-#[tactic(auto, using(kob_words::proofs::Appending::appending))]
-fn push_grant(alloc: Global, row: &mut Vec<Cell>, parts: &Draft) -> Result<(), AllocError>
-    ensures { OnOk result (row.new.items ≡ row.old.items ++ grant_cells parts.now) }
-{
-    push_words(alloc, row, permission_name(parts.permission))?;
-    push_words(alloc, row, parts.principal.as_str())?;
-    push_words(alloc, row, parts.host.as_str())?;
-    push_words(alloc, row, operation_name(parts.operation))
-}
-
-#[tactic(auto, using(kob_words::proofs::Appending::appending))]
-fn push_pattern(alloc: Global, row: &mut Vec<Cell>, parts: &Draft) -> Result<(), AllocError>
-    ensures { OnOk result (row.new.items ≡ row.old.items ++ pattern_cells parts.now) }
-{
-    push_words(alloc, row, resource_name(parts.resource))?;
-    push_words(alloc, row, pattern_name(parts.pattern.kind))?;
-    push_words(alloc, row, parts.pattern.name.as_str())
-}
 
 #[tactic(auto, using(kob_words::proofs::Appending::appending), unfolding(crate::specs::Cells::binding_cells))]
 fn push_binding(
@@ -49,8 +30,13 @@ fn push_binding(
 {
     let parts = binding.parts();
     push_number(row, serial)?;
-    push_grant(alloc, row, parts)?;
-    push_pattern(alloc, row, parts)?;
+    push_words(alloc, row, permission_name(parts.permission))?;
+    push_words(alloc, row, parts.principal.as_str())?;
+    push_words(alloc, row, parts.host.as_str())?;
+    push_words(alloc, row, operation_name(parts.operation))?;
+    push_words(alloc, row, resource_name(parts.resource))?;
+    push_words(alloc, row, pattern_name(parts.pattern.kind))?;
+    push_words(alloc, row, parts.pattern.name.as_str())?;
     push_origin(alloc, row, origin)
 }
 

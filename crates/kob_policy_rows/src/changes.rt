@@ -1,38 +1,19 @@
 //! The rows of what changes, of what is left out and of faults.
 
 ghost use Rattle.std.specs.Prelude.{◌≡◌, ◌++◌, ◌∷◌, [], IfOk, OnOk, codes, flat_map, map};
-ghost use Rattle.kob_policy_rows.specs.Changes.{change_row, change_rows, class_cells};
+ghost use Rattle.kob_policy_rows.specs.Changes.{change_row, change_rows};
 ghost use Rattle.kob_policy_rows.specs.Changes.{everyone_row, everyone_rows, fault_row};
-ghost use Rattle.kob_policy_rows.specs.Changes.{omission_row, outcome_word, super_row, super_rows};
-ghost use Rattle.kob_policy_rows.specs.Changes.{supers_rows};
+ghost use Rattle.kob_policy_rows.specs.Changes.{omission_row, outcome_word, super_rows};
 
 use crate::cell::{Cell, push_flag, push_nothing, push_number, push_row, push_words};
 use crate::verdict::{party_name, push_target};
 use kob_names::{Items, Principal};
-use kob_policy_review::{Change, Class, Outcome, changes, is_super};
+use kob_policy_review::{Change, Outcome, changes, is_super};
 use kob_policy_text::{Judge, Omission, left_out_word};
 use kob_words::operation_name;
 use std::alloc::{AllocError, Global};
 
 #[tactic(auto, using(kob_words::proofs::Appending::appending), unfolding(crate::specs::Changes::super_row))]
-fn push_super_cells(
-    alloc: Global,
-    row: &mut Vec<Cell>,
-    what: &str,
-    user: &Principal,
-) -> Result<(), AllocError>
-    ensures { OnOk result (row.new.items ≡ row.old.items ++ super_row what.now user.now) }
-{
-    push_words(alloc, row, "super")?;
-    push_words(alloc, row, user.as_str())?;
-    push_nothing(row)?;
-    push_nothing(row)?;
-    push_nothing(row)?;
-    push_nothing(row)?;
-    push_nothing(row)?;
-    push_words(alloc, row, what)
-}
-
 fn push_super(
     alloc: Global,
     rows: &mut Vec<Items<Cell>>,
@@ -47,7 +28,14 @@ fn push_super(
         return Ok(());
     }
     let mut row = Vec::new(alloc);
-    push_super_cells(alloc, &mut row, what, user)?;
+    push_words(alloc, &mut row, "super")?;
+    push_words(alloc, &mut row, user.as_str())?;
+    push_nothing(&mut row)?;
+    push_nothing(&mut row)?;
+    push_nothing(&mut row)?;
+    push_nothing(&mut row)?;
+    push_nothing(&mut row)?;
+    push_words(alloc, &mut row, what)?;
     push_row(rows, row)
 }
 
@@ -70,19 +58,6 @@ fn push_supers(
 }
 
 #[tactic(auto, using(kob_words::proofs::Appending::appending), unfolding(crate::specs::Changes::everyone_row))]
-fn push_everyone_cells(alloc: Global, row: &mut Vec<Cell>, what: &str) -> Result<(), AllocError>
-    ensures { OnOk result (row.new.items ≡ row.old.items ++ everyone_row what.now) }
-{
-    push_words(alloc, row, "everyone")?;
-    push_nothing(row)?;
-    push_nothing(row)?;
-    push_nothing(row)?;
-    push_nothing(row)?;
-    push_nothing(row)?;
-    push_nothing(row)?;
-    push_words(alloc, row, what)
-}
-
 fn push_everyone_row(
     alloc: Global,
     rows: &mut Vec<Items<Cell>>,
@@ -91,7 +66,14 @@ fn push_everyone_row(
     ensures { OnOk result (rows.new.items ≡ rows.old.items ++ everyone_row what.now ∷ []) }
 {
     let mut row = Vec::new(alloc);
-    push_everyone_cells(alloc, &mut row, what)?;
+    push_words(alloc, &mut row, "everyone")?;
+    push_nothing(&mut row)?;
+    push_nothing(&mut row)?;
+    push_nothing(&mut row)?;
+    push_nothing(&mut row)?;
+    push_nothing(&mut row)?;
+    push_nothing(&mut row)?;
+    push_words(alloc, &mut row, what)?;
     push_row(rows, row)
 }
 
@@ -120,25 +102,7 @@ fn outcome_word(outcome: Outcome) -> &'static str
     }
 }
 
-#[tactic(auto, using(kob_words::proofs::Appending::appending))]
-fn push_class(alloc: Global, row: &mut Vec<Cell>, class: &Class) -> Result<(), AllocError>
-    ensures { OnOk result (row.new.items ≡ row.old.items ++ class_cells class.now) }
-{
-    push_words(alloc, row, party_name("User:*", &class.principal))?;
-    push_words(alloc, row, party_name("*", &class.host))?;
-    push_words(alloc, row, operation_name(class.operation))?;
-    push_target(alloc, row, &class.target)
-}
-
 #[tactic(auto, using(kob_words::proofs::Appending::appending), unfolding(crate::specs::Changes::change_row))]
-fn push_change_cells(alloc: Global, row: &mut Vec<Cell>, change: &Change) -> Result<(), AllocError>
-    ensures { OnOk result (row.new.items ≡ row.old.items ++ change_row change.now) }
-{
-    push_words(alloc, row, "answer")?;
-    push_class(alloc, row, &change.class)?;
-    push_words(alloc, row, outcome_word(change.outcome))
-}
-
 fn push_change(
     alloc: Global,
     rows: &mut Vec<Items<Cell>>,
@@ -147,7 +111,13 @@ fn push_change(
     ensures { OnOk result (rows.new.items ≡ rows.old.items ++ change_row change.now ∷ []) }
 {
     let mut row = Vec::new(alloc);
-    push_change_cells(alloc, &mut row, change)?;
+    let class = &change.class;
+    push_words(alloc, &mut row, "answer")?;
+    push_words(alloc, &mut row, party_name("User:*", &class.principal))?;
+    push_words(alloc, &mut row, party_name("*", &class.host))?;
+    push_words(alloc, &mut row, operation_name(class.operation))?;
+    push_target(alloc, &mut row, &class.target)?;
+    push_words(alloc, &mut row, outcome_word(change.outcome))?;
     push_row(rows, row)
 }
 
@@ -162,23 +132,6 @@ fn push_each(alloc: Global, rows: &mut Vec<Items<Cell>>, found: &[Change]) -> Re
 }
 
 #[tactic(auto, using(kob_words::proofs::Appending::appending))]
-fn push_settings(
-    alloc: Global,
-    rows: &mut Vec<Items<Cell>>,
-    before: &Judge,
-    after: &Judge,
-) -> Result<(), AllocError>
-    ensures { OnOk result (rows.new.items ≡ rows.old.items
-        ++ (supers_rows before.now after.now
-        ++ everyone_rows before.now.everyone after.now.everyone)) }
-{
-    let (old, new) = (before.policy(), after.policy());
-    push_supers(alloc, rows, "removed", new.supers(), old.supers())?;
-    push_supers(alloc, rows, "added", old.supers(), new.supers())?;
-    push_everyone(alloc, rows, old.everyone(), new.everyone())
-}
-
-#[tactic(auto, using(kob_words::proofs::Appending::appending))]
 fn push_changes(
     alloc: Global,
     rows: &mut Vec<Items<Cell>>,
@@ -187,8 +140,11 @@ fn push_changes(
 ) -> Result<(), AllocError>
     ensures { OnOk result (rows.new.items ≡ rows.old.items ++ change_rows before.now after.now) }
 {
+    let (old, new) = (before.policy(), after.policy());
+    push_supers(alloc, rows, "removed", new.supers(), old.supers())?;
+    push_supers(alloc, rows, "added", old.supers(), new.supers())?;
+    push_everyone(alloc, rows, old.everyone(), new.everyone())?;
     let found = changes(alloc, before.authorizer(), after.authorizer())?;
-    push_settings(alloc, rows, before, after)?;
     push_each(alloc, rows, &found)
 }
 
@@ -207,20 +163,6 @@ pub fn change_rows(
 }
 
 #[tactic(auto, using(kob_words::proofs::Appending::appending), unfolding(crate::specs::Changes::omission_row))]
-fn push_omission_cells(
-    alloc: Global,
-    row: &mut Vec<Cell>,
-    omission: &Omission,
-) -> Result<(), AllocError>
-    ensures { OnOk result (row.new.items ≡ row.old.items ++ omission_row omission.now) }
-{
-    push_words(alloc, row, "left-out")?;
-    push_words(alloc, row, omission.origin.file.as_str())?;
-    push_number(row, omission.origin.line)?;
-    push_words(alloc, row, left_out_word(omission.what))?;
-    push_flag(row, omission.denies)
-}
-
 fn push_omission(
     alloc: Global,
     rows: &mut Vec<Items<Cell>>,
@@ -229,51 +171,28 @@ fn push_omission(
     ensures { OnOk result (rows.new.items ≡ rows.old.items ++ omission_row omission.now ∷ []) }
 {
     let mut row = Vec::new(alloc);
-    push_omission_cells(alloc, &mut row, omission)?;
+    push_words(alloc, &mut row, "left-out")?;
+    push_words(alloc, &mut row, omission.origin.file.as_str())?;
+    push_number(&mut row, omission.origin.line)?;
+    push_words(alloc, &mut row, left_out_word(omission.what))?;
+    push_flag(&mut row, omission.denies)?;
     push_row(rows, row)
 }
 
-#[tactic(auto, using(kob_words::proofs::Appending::appending))]
-fn push_omissions(
-    alloc: Global,
-    rows: &mut Vec<Items<Cell>>,
-    omissions: &[Omission],
-) -> Result<(), AllocError>
-    ensures { OnOk result (rows.new.items ≡ rows.old.items ++ map omission_row omissions.now) }
-{
-    for omission in omissions {
-        push_omission(alloc, rows, omission)?;
-    }
-    Ok(())
-}
-
 /// What is left out.
+#[tactic(auto, using(kob_words::proofs::Appending::appending))]
 pub fn omission_rows(alloc: Global, omissions: &[Omission]) -> Result<Vec<Items<Cell>>, AllocError>
     ensures { IfOk result (λ rows. rows.items ≡ map omission_row omissions.now) }
 {
     let mut rows = Vec::new(alloc);
-    push_omissions(alloc, &mut rows, omissions)?;
+    for omission in omissions {
+        push_omission(alloc, &mut rows, omission)?;
+    }
     Ok(rows)
 }
 
-#[tactic(auto, using(kob_words::proofs::Appending::appending), unfolding(crate::specs::Changes::fault_row))]
-fn push_fault_cells(
-    alloc: Global,
-    row: &mut Vec<Cell>,
-    file: &str,
-    line: u64,
-    fault: &str,
-) -> Result<(), AllocError>
-    ensures { OnOk result
-        (row.new.items ≡ row.old.items ++ fault_row file.now line fault.now) }
-{
-    push_words(alloc, row, "fault")?;
-    push_words(alloc, row, file)?;
-    push_number(row, line)?;
-    push_words(alloc, row, fault)
-}
-
 /// What is wrong with a text, by the word for it.
+#[tactic(auto, using(kob_words::proofs::Appending::appending), unfolding(crate::specs::Changes::fault_row))]
 pub fn fault_row(
     alloc: Global,
     file: &str,
@@ -283,6 +202,9 @@ pub fn fault_row(
     ensures { IfOk result (λ row. row ≡ fault_row file.now line fault.now) }
 {
     let mut row = Vec::new(alloc);
-    push_fault_cells(alloc, &mut row, file, line, fault)?;
+    push_words(alloc, &mut row, "fault")?;
+    push_words(alloc, &mut row, file)?;
+    push_number(&mut row, line)?;
+    push_words(alloc, &mut row, fault)?;
     Ok(Items::from_vec(row))
 }

@@ -4,7 +4,6 @@
 ghost use Rattle.std.specs.Prelude.{◌≡◌, ◌++◌, ◌∷◌, [], OnOk, map};
 ghost use Rattle.kob_policy_rows.specs.Answers.{from_row, grant_row, granted_rows};
 ghost use Rattle.kob_policy_rows.specs.Answers.{right_cells, super_row, told_rows, who_row, who_rows};
-ghost use Rattle.kob_policy_text.specs.AtHand.{principals_at_hand};
 
 use crate::cell::{Cell, push_row, push_words};
 use crate::verdict::{party_name, push_on, push_verdict};
@@ -29,23 +28,6 @@ struct Party<'a> {
 }
 
 #[tactic(auto, using(kob_words::proofs::Appending::appending), unfolding(crate::specs::Answers::who_row))]
-fn push_cells(
-    alloc: Global,
-    row: &mut Vec<Cell>,
-    judge: &Judge,
-    right: &Right,
-    party: Party<'_>,
-    verdict: Verdict,
-) -> Result<(), AllocError>
-    ensures { OnOk result (row.new.items ≡ row.old.items
-        ++ who_row judge.now right.now party.entry.principal.now party.entry.host.now verdict) }
-{
-    push_right(alloc, row, right)?;
-    push_words(alloc, row, party.principal)?;
-    push_words(alloc, row, party.host)?;
-    push_verdict(alloc, row, judge, verdict)
-}
-
 fn push_decided(
     alloc: Global,
     rows: &mut Vec<Items<Cell>>,
@@ -59,25 +41,11 @@ fn push_decided(
         ∷ []) }
 {
     let mut row = Vec::new(alloc);
-    push_cells(alloc, &mut row, judge, right, party, verdict)?;
+    push_right(alloc, &mut row, right)?;
+    push_words(alloc, &mut row, party.principal)?;
+    push_words(alloc, &mut row, party.host)?;
+    push_verdict(alloc, &mut row, judge, verdict)?;
     push_row(rows, row)
-}
-
-fn push_super(
-    alloc: Global,
-    rows: &mut Vec<Items<Cell>>,
-    judge: &Judge,
-    right: &Right,
-    user: &Principal,
-) -> Result<(), AllocError>
-    ensures { OnOk result
-        (rows.new.items ≡ rows.old.items ++ super_row judge.now right.now user.now ∷ []) }
-{
-    let party = Party {
-        principal: user.as_str(),
-        host: "*",
-    };
-    push_decided(alloc, rows, judge, right, party, Verdict::Super)
 }
 
 #[tactic(auto, using(kob_words::proofs::Appending::appending))]
@@ -92,7 +60,11 @@ fn push_supers(
         ≡ rows.old.items ++ map (super_row judge.now right.now) supers.now) }
 {
     for user in supers {
-        push_super(alloc, rows, judge, right, user)?;
+        let party = Party {
+            principal: user.as_str(),
+            host: "*",
+        };
+        push_decided(alloc, rows, judge, right, party, Verdict::Super)?;
     }
     Ok(())
 }
@@ -194,20 +166,6 @@ fn push_each(
     Ok(())
 }
 
-fn push_from(
-    alloc: Global,
-    rows: &mut Vec<Items<Cell>>,
-    judge: &Judge,
-    right: &Right,
-    host: &Host,
-) -> Result<(), AllocError>
-    ensures { OnOk result (rows.new.items ≡ rows.old.items
-        ++ map (from_row judge.now right.now host.now) (principals_at_hand judge.now.bindings)) }
-{
-    let principals = principals_at_hand(alloc, judge.policy().bindings())?;
-    push_each(alloc, rows, judge, right, host, principals.as_slice())
-}
-
 /// Who may do this: from every host, or the answer from one host to each principal.
 pub fn push_who(
     alloc: Global,
@@ -219,8 +177,9 @@ pub fn push_who(
     ensures { OnOk result
         (rows.new.items ≡ rows.old.items ++ who_rows judge.now right.now host.now) }
 {
-    match host {
-        Some(host) => push_from(alloc, rows, judge, right, host),
-        None => push_granted(alloc, rows, judge, right),
-    }
+    let Some(host) = host else {
+        return push_granted(alloc, rows, judge, right);
+    };
+    let principals = principals_at_hand(alloc, judge.policy().bindings())?;
+    push_each(alloc, rows, judge, right, host, principals.as_slice())
 }

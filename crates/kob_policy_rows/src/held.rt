@@ -1,7 +1,7 @@
 //! The rows of `rights`: what a principal may do.
 
 ghost use Rattle.std.specs.Prelude.{◌≡◌, ◌++◌, ◌∷◌, [], OnOk, flat_map, map};
-ghost use Rattle.kob_policy_rows.specs.Answers.{all_row, held_row, held_rows, open_rows};
+ghost use Rattle.kob_policy_rows.specs.Answers.{all_row, held_row, held_rows};
 ghost use Rattle.kob_policy_rows.specs.Answers.{operations_told, rights_rows};
 
 use crate::cell::{Cell, push_nothing, push_row, push_words};
@@ -13,23 +13,6 @@ use kob_words::operation_name;
 use std::alloc::{AllocError, Global};
 
 #[tactic(auto, using(kob_words::proofs::Appending::appending), unfolding(crate::specs::Answers::held_row))]
-fn push_held_cells(
-    alloc: Global,
-    row: &mut Vec<Cell>,
-    principal: &Principal,
-    one: &Holding,
-    operation: Operation,
-) -> Result<(), AllocError>
-    ensures { OnOk result
-        (row.new.items ≡ row.old.items ++ held_row principal.now one.now operation) }
-{
-    push_words(alloc, row, principal.as_str())?;
-    push_words(alloc, row, party_name("*", &one.host))?;
-    push_words(alloc, row, operation_name(operation))?;
-    push_target(alloc, row, &one.target)?;
-    push_words(alloc, row, "binding")
-}
-
 fn push_held_row(
     alloc: Global,
     rows: &mut Vec<Items<Cell>>,
@@ -41,7 +24,11 @@ fn push_held_row(
         (rows.new.items ≡ rows.old.items ++ held_row principal.now one.now operation ∷ []) }
 {
     let mut row = Vec::new(alloc);
-    push_held_cells(alloc, &mut row, principal, one, operation)?;
+    push_words(alloc, &mut row, principal.as_str())?;
+    push_words(alloc, &mut row, party_name("*", &one.host))?;
+    push_words(alloc, &mut row, operation_name(operation))?;
+    push_target(alloc, &mut row, &one.target)?;
+    push_words(alloc, &mut row, "binding")?;
     push_row(rows, row)
 }
 
@@ -108,23 +95,6 @@ fn push_each(
 }
 
 #[tactic(auto, using(kob_words::proofs::Appending::appending), unfolding(crate::specs::Answers::all_row))]
-fn push_all_cells(
-    alloc: Global,
-    row: &mut Vec<Cell>,
-    principal: &Principal,
-    by: &str,
-) -> Result<(), AllocError>
-    ensures { OnOk result (row.new.items ≡ row.old.items ++ all_row principal.now by.now) }
-{
-    push_words(alloc, row, principal.as_str())?;
-    push_words(alloc, row, "*")?;
-    push_words(alloc, row, operation_name(Operation::All))?;
-    push_nothing(row)?;
-    push_nothing(row)?;
-    push_nothing(row)?;
-    push_words(alloc, row, by)
-}
-
 fn push_all(
     alloc: Global,
     rows: &mut Vec<Items<Cell>>,
@@ -135,24 +105,14 @@ fn push_all(
         (rows.new.items ≡ rows.old.items ++ all_row principal.now by.now ∷ []) }
 {
     let mut row = Vec::new(alloc);
-    push_all_cells(alloc, &mut row, principal, by)?;
+    push_words(alloc, &mut row, principal.as_str())?;
+    push_words(alloc, &mut row, "*")?;
+    push_words(alloc, &mut row, operation_name(Operation::All))?;
+    push_nothing(&mut row)?;
+    push_nothing(&mut row)?;
+    push_nothing(&mut row)?;
+    push_words(alloc, &mut row, by)?;
     push_row(rows, row)
-}
-
-fn push_open(
-    alloc: Global,
-    rows: &mut Vec<Items<Cell>>,
-    principal: &Principal,
-    everyone: bool,
-) -> Result<(), AllocError>
-    ensures { OnOk result
-        (rows.new.items ≡ rows.old.items ++ open_rows principal.now everyone) }
-{
-    if everyone {
-        push_all(alloc, rows, principal, "everyone")
-    } else {
-        Ok(())
-    }
 }
 
 /// What is granted to a principal, from one host or from each that counts.
@@ -172,5 +132,9 @@ pub fn push_rights(
     }
     let found = rights(alloc, judge.authorizer(), principal, host)?;
     push_each(alloc, rows, principal, host, found.as_slice())?;
-    push_open(alloc, rows, principal, judge.policy().everyone())
+    if judge.policy().everyone() {
+        push_all(alloc, rows, principal, "everyone")
+    } else {
+        Ok(())
+    }
 }

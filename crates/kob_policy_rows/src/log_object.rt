@@ -1,7 +1,6 @@
 //! The answer about a broker's log as JSON.
 
-ghost use Rattle.std.specs.Prelude.{◌≡◌, ◌++◌, IfOk, OnOk, codes};
-ghost use Rattle.json.specs.Print.{print};
+ghost use Rattle.std.specs.Prelude.{◌≡◌, ◌++◌, IfOk, OnOk};
 ghost use Rattle.kob_policy_rows.specs.Logs.{array_tokens, asked_tokens, count_tokens};
 ghost use Rattle.kob_policy_rows.specs.Logs.{counts_tokens, listed_tokens, log_line, log_tokens};
 ghost use Rattle.kob_policy_text.specs.LogAnswers.{differs};
@@ -112,22 +111,6 @@ fn push_log(
     writer.end_object()
 }
 
-fn push_log_line(
-    alloc: Global,
-    out: &mut Vec<u8>,
-    judge: &Judge,
-    number: u64,
-    file: &str,
-    log: &Log,
-) -> Result<(), AllocError>
-    ensures { OnOk result (out.new.items ≡ out.old.items
-        ++ (print (log_tokens judge.now number file.now log.now) ++ codes "\n")) }
-{
-    let mut writer = Writer::new(Vec::new(alloc));
-    push_log(alloc, &mut writer, judge, number, file, log)?;
-    push_line(out, writer)
-}
-
 /// Prints the answer about the text of a broker's log as an object on a line. Returns whether some
 /// access is decided otherwise than is recorded. The error is out of memory; `out` has then grown
 /// by a part of the line.
@@ -144,6 +127,8 @@ pub fn print_json_log(
     ensures differs { IfOk result (λ found. found ≡ differs judge.now text.now) }
 {
     let log = read_log(alloc, text)?;
-    push_log_line(alloc, out, judge, number, file, &log)?;
+    let mut writer = Writer::new(Vec::new(alloc));
+    push_log(alloc, &mut writer, judge, number, file, &log)?;
+    push_line(out, writer)?;
     Ok(any_otherwise(judge, &log.accesses))
 }

@@ -2,8 +2,7 @@
 
 ghost use Rattle.std.specs.Prelude.{◌≡◌, ◌++◌, OnOk, flat_map, nat_eq};
 ghost use Rattle.std.specs.HashSet.{contains};
-ghost use Rattle.kob_policy_rows.specs.Logs.{asker_cells, entry_row, idle_in, idle_row};
-ghost use Rattle.kob_policy_rows.specs.Logs.{otherwise_row, otherwise_rows, recorded_cells};
+ghost use Rattle.kob_policy_rows.specs.Logs.{idle_in, idle_row, otherwise_row, otherwise_rows};
 ghost use Rattle.kob_policy_text.specs.Numbered.{numbered};
 ghost use Rattle.kob_policy_text.specs.Policy.{serials_of};
 
@@ -12,41 +11,11 @@ use crate::cell::{Cell, push_flag, push_number, push_row, push_words};
 use crate::granted::push_right;
 use crate::verdict::push_verdict;
 use kob_names::Items;
-use kob_policy_text::{Asker, Entry, Judge, Recorded, deciders, is_otherwise, verdict_on};
+use kob_policy_text::{Entry, Judge, deciders, is_otherwise, verdict_on};
 use std::alloc::{AllocError, Global};
 use std::collections::HashSet;
 
-#[tactic(auto, using(kob_words::proofs::Appending::appending))]
-fn push_asker(alloc: Global, row: &mut Vec<Cell>, asker: &Asker) -> Result<(), AllocError>
-    ensures { OnOk result (row.new.items ≡ row.old.items ++ asker_cells asker.now) }
-{
-    push_words(alloc, row, asker.principal.as_str())?;
-    push_words(alloc, row, asker.host.as_str())
-}
-
-#[tactic(auto, using(kob_words::proofs::Appending::appending), unfolding(crate::specs::Logs::recorded_cells))]
-fn push_recorded(alloc: Global, row: &mut Vec<Cell>, recorded: &Recorded) -> Result<(), AllocError>
-    ensures { OnOk result (row.new.items ≡ row.old.items ++ recorded_cells recorded.now) }
-{
-    push_asker(alloc, row, &recorded.asker)?;
-    push_right(alloc, row, &recorded.right)?;
-    push_flag(row, recorded.allowed)
-}
-
-#[tactic(auto, using(kob_words::proofs::Appending::appending), unfolding(crate::specs::Logs::entry_row))]
-fn push_entry_cells(
-    alloc: Global,
-    row: &mut Vec<Cell>,
-    judge: &Judge,
-    entry: &Entry,
-) -> Result<(), AllocError>
-    ensures { OnOk result (row.new.items ≡ row.old.items ++ entry_row judge.now entry.now) }
-{
-    push_number(row, entry.line)?;
-    push_recorded(alloc, row, &entry.recorded)?;
-    push_verdict(alloc, row, judge, verdict_on(judge, entry))
-}
-
+#[tactic(auto, using(kob_words::proofs::Appending::appending), unfolding(crate::specs::Logs::entry_row, crate::specs::Logs::recorded_cells))]
 fn push_entry(
     alloc: Global,
     rows: &mut Vec<Items<Cell>>,
@@ -59,7 +28,13 @@ fn push_entry(
         return Ok(());
     }
     let mut row = Vec::new(alloc);
-    push_entry_cells(alloc, &mut row, judge, entry)?;
+    let recorded = &entry.recorded;
+    push_number(&mut row, entry.line)?;
+    push_words(alloc, &mut row, recorded.asker.principal.as_str())?;
+    push_words(alloc, &mut row, recorded.asker.host.as_str())?;
+    push_right(alloc, &mut row, &recorded.right)?;
+    push_flag(&mut row, recorded.allowed)?;
+    push_verdict(alloc, &mut row, judge, verdict_on(judge, entry))?;
     push_row(rows, row)
 }
 

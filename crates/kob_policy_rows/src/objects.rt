@@ -2,13 +2,12 @@
 
 ghost use Rattle.std.specs.Prelude.{◌≡◌, ◌++◌, ◌∷◌, [], OnOk, codes, flat_map, zip};
 ghost use Rattle.json.specs.Print.{print};
-ghost use Rattle.json.specs.Token.{boolean, key, string};
+ghost use Rattle.json.specs.Token.{string};
 ghost use Rattle.kob_policy_rows.specs.Json.{access_tokens, answer_line, answer_tokens, answers_json};
-ghost use Rattle.kob_policy_rows.specs.Json.{cell_token, file_tokens, files_line, files_tokens, lines_text};
-ghost use Rattle.kob_policy_rows.specs.Json.{kind_tokens, member_tokens, number_tokens};
-ghost use Rattle.kob_policy_rows.specs.Json.{query_tokens, question_tokens, row_line, row_tokens};
-ghost use Rattle.kob_policy_rows.specs.Json.{rows_tokens, shown_text, verdict_tokens};
-ghost use Rattle.kob_policy_rows.specs.Columns.{column_name};
+ghost use Rattle.kob_policy_rows.specs.Json.{cell_token, file_tokens, files_line, lines_text};
+ghost use Rattle.kob_policy_rows.specs.Json.{member_tokens, number_tokens, query_tokens};
+ghost use Rattle.kob_policy_rows.specs.Json.{question_tokens, row_tokens, rows_tokens, shown_text};
+ghost use Rattle.kob_policy_rows.specs.Json.{verdict_tokens};
 ghost use Rattle.kob_words.specs.Words.{bytes_text};
 
 use crate::cell::Cell;
@@ -71,20 +70,6 @@ fn push_row(writer: &mut Writer, columns: &[Column], row: &[Cell]) -> Result<(),
     writer.end_object()
 }
 
-/// A row on a line of its own.
-fn push_row_line(
-    alloc: Global,
-    out: &mut Vec<u8>,
-    columns: &[Column],
-    row: &[Cell],
-) -> Result<(), AllocError>
-    ensures { OnOk result (out.new.items ≡ out.old.items ++ row_line columns.now row.now) }
-{
-    let mut writer = Writer::new(Vec::new(alloc));
-    push_row(&mut writer, columns, row)?;
-    push_line(out, writer)
-}
-
 /// What was written, and a line feed.
 #[tactic(auto, using(kob_words::proofs::Appending::appending))]
 pub(crate) fn push_line(out: &mut Vec<u8>, writer: Writer) -> Result<(), AllocError>
@@ -108,7 +93,9 @@ pub fn print_json(
     ensures { OnOk result (out.new.items ≡ out.old.items ++ lines_text columns.now rows.now) }
 {
     for row in rows {
-        push_row_line(alloc, out, columns, row.as_slice())?;
+        let mut writer = Writer::new(Vec::new(alloc));
+        push_row(&mut writer, columns, row.as_slice())?;
+        push_line(out, writer)?;
     }
     Ok(())
 }
@@ -159,17 +146,7 @@ pub(crate) fn push_question(
     push_shown(alloc, writer, text)
 }
 
-#[tactic(auto, using(kob_words::proofs::Appending::appending), unfolding(crate::specs::Json::kind_tokens))]
-fn push_kind(writer: &mut Writer, question: &Question) -> Result<(), AllocError>
-    ensures tokens { OnOk result
-        (writer.new.tokens ≡ writer.old.tokens ++ kind_tokens question.now) }
-    ensures before { writer.new.before ≡ writer.old.before }
-{
-    writer.key("kind")?;
-    writer.string(kind_of(question))
-}
-
-#[tactic(auto, using(kob_words::proofs::Appending::appending), unfolding(crate::specs::Json::query_tokens))]
+#[tactic(auto, using(kob_words::proofs::Appending::appending), unfolding(crate::specs::Json::query_tokens, crate::specs::Json::kind_tokens))]
 fn push_query(
     alloc: Global,
     writer: &mut Writer,
@@ -182,7 +159,8 @@ fn push_query(
 {
     push_number(writer, number)?;
     push_question(alloc, writer, query.text.as_slice())?;
-    push_kind(writer, &query.question)
+    writer.key("kind")?;
+    writer.string(kind_of(&query.question))
 }
 
 #[tactic(auto, using(kob_words::proofs::Appending::appending))]
@@ -197,23 +175,6 @@ fn push_access(writer: &mut Writer, judge: &Judge, access: &Access) -> Result<()
     writer.boolean(judge.is_named(&access.asker.principal))
 }
 
-#[tactic(auto, using(kob_words::proofs::Appending::appending))]
-fn push_expected(
-    writer: &mut Writer,
-    judge: &Judge,
-    expected: bool,
-    access: &Access,
-) -> Result<(), AllocError>
-    ensures tokens { OnOk result (writer.new.tokens ≡ writer.old.tokens
-        ++ (key (column_name Column.Expected) ∷ boolean expected
-        ∷ access_tokens judge.now access.now)) }
-    ensures before { writer.new.before ≡ writer.old.before }
-{
-    writer.key(column_name(Column::Expected))?;
-    writer.boolean(expected)?;
-    push_access(writer, judge, access)
-}
-
 /// A yes or no, where the question has one.
 #[tactic(auto, using(kob_words::proofs::Appending::appending))]
 fn push_verdict(writer: &mut Writer, judge: &Judge, question: &Question) -> Result<(), AllocError>
@@ -223,7 +184,11 @@ fn push_verdict(writer: &mut Writer, judge: &Judge, question: &Question) -> Resu
 {
     match question {
         Question::May(access) => push_access(writer, judge, access),
-        Question::Expect(expected, access) => push_expected(writer, judge, *expected, access),
+        Question::Expect(expected, access) => {
+            writer.key(column_name(Column::Expected))?;
+            writer.boolean(*expected)?;
+            push_access(writer, judge, access)
+        }
         Question::Who(_, _)
         | Question::WhoConsumes(_, _)
         | Question::WhoBelow(_)
@@ -341,25 +306,17 @@ fn push_names(writer: &mut Writer, files: &[Text]) -> Result<(), AllocError>
     Ok(())
 }
 
-#[tactic(auto, using(kob_words::proofs::Appending::appending), unfolding(crate::specs::Json::files_tokens))]
-fn push_files(writer: &mut Writer, files: &[Text]) -> Result<(), AllocError>
-    ensures tokens { OnOk result
-        (writer.new.tokens ≡ writer.old.tokens ++ files_tokens files.now) }
-    ensures before { writer.new.before ≡ writer.old.before }
-{
-    writer.begin_object()?;
-    writer.key("files")?;
-    writer.begin_array()?;
-    push_names(writer, files)?;
-    writer.end_array()?;
-    writer.end_object()
-}
-
 /// Prints the names of the files of a list as an object on a line.
+#[tactic(auto, using(kob_words::proofs::Appending::appending), unfolding(crate::specs::Json::files_tokens))]
 pub fn print_json_files(alloc: Global, out: &mut Vec<u8>, files: &[Text]) -> Result<(), AllocError>
     ensures { OnOk result (out.new.items ≡ out.old.items ++ files_line files.now) }
 {
     let mut writer = Writer::new(Vec::new(alloc));
-    push_files(&mut writer, files)?;
+    writer.begin_object()?;
+    writer.key("files")?;
+    writer.begin_array()?;
+    push_names(&mut writer, files)?;
+    writer.end_array()?;
+    writer.end_object()?;
     push_line(out, writer)
 }

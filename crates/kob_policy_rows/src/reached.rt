@@ -1,7 +1,7 @@
 //! The rows of `who` on the names that begin with a prefix.
 
 ghost use Rattle.std.specs.Prelude.{◌≡◌, ◌++◌, ◌∷◌, [], OnOk, flat_map, map};
-ghost use Rattle.kob_policy_rows.specs.Answers.{below_rows, by_share, reach_row, reach_rows};
+ghost use Rattle.kob_policy_rows.specs.Answers.{below_rows, reach_row, reach_rows};
 ghost use Rattle.kob_policy_rows.specs.Answers.{super_reach};
 
 use crate::cell::{Cell, push_row, push_words};
@@ -13,23 +13,6 @@ use kob_policy_text::{Judge, Right, asks_as_others, each_once};
 use std::alloc::{AllocError, Global};
 
 #[tactic(auto, using(kob_words::proofs::Appending::appending))]
-fn push_cells(
-    alloc: Global,
-    row: &mut Vec<Cell>,
-    right: &Right,
-    principal: &str,
-    host: &str,
-    on: &str,
-) -> Result<(), AllocError>
-    ensures { OnOk result
-        (row.new.items ≡ row.old.items ++ reach_row right.now principal.now host.now on.now) }
-{
-    push_right(alloc, row, right)?;
-    push_words(alloc, row, principal)?;
-    push_words(alloc, row, host)?;
-    push_words(alloc, row, on)
-}
-
 fn push_one(
     alloc: Global,
     rows: &mut Vec<Items<Cell>>,
@@ -42,7 +25,10 @@ fn push_one(
         ≡ rows.old.items ++ reach_row right.now principal.now host.now on.now ∷ []) }
 {
     let mut row = Vec::new(alloc);
-    push_cells(alloc, &mut row, right, principal, host, on)?;
+    push_right(alloc, &mut row, right)?;
+    push_words(alloc, &mut row, principal)?;
+    push_words(alloc, &mut row, host)?;
+    push_words(alloc, &mut row, on)?;
     push_row(rows, row)
 }
 
@@ -62,24 +48,6 @@ fn push_supers(
     Ok(())
 }
 
-fn push_by_share(
-    alloc: Global,
-    rows: &mut Vec<Items<Cell>>,
-    right: &Right,
-    one: &Reach,
-) -> Result<(), AllocError>
-    ensures { OnOk result
-        (rows.new.items ≡ rows.old.items ++ by_share one.now.share right.now one.now) }
-{
-    let principal = party_name("User:*", &one.principal);
-    let host = party_name("*", &one.host);
-    match one.share {
-        Share::Nothing => Ok(()),
-        Share::Part => push_one(alloc, rows, right, principal, host, "some"),
-        Share::Everything => push_one(alloc, rows, right, principal, host, "all"),
-    }
-}
-
 fn push_reach(
     alloc: Global,
     rows: &mut Vec<Items<Cell>>,
@@ -91,7 +59,13 @@ fn push_reach(
     if asks_as_others(one) {
         return Ok(());
     }
-    push_by_share(alloc, rows, right, one)
+    let principal = party_name("User:*", &one.principal);
+    let host = party_name("*", &one.host);
+    match one.share {
+        Share::Nothing => Ok(()),
+        Share::Part => push_one(alloc, rows, right, principal, host, "some"),
+        Share::Everything => push_one(alloc, rows, right, principal, host, "all"),
+    }
 }
 
 #[tactic(auto, using(kob_words::proofs::Appending::appending))]

@@ -1,7 +1,7 @@
 //! The rows of an answer.
 
 ghost use Rattle.std.specs.Prelude.{◌≡◌, ◌++◌, IfOk, OnOk};
-ghost use Rattle.kob_policy_rows.specs.Answers.{granted_rows, rows_of};
+ghost use Rattle.kob_policy_rows.specs.Answers.{rows_of};
 
 use crate::access::push_access;
 use crate::bound::{push_removable, push_shadowed, push_unused};
@@ -12,24 +12,10 @@ use crate::reached::push_below;
 use crate::seen::push_sees;
 use crate::summed::push_summary;
 use kob_names::{Items, Text};
-use kob_policy_text::{Judge, Question, Right};
+use kob_policy_text::{Judge, Question};
 use std::alloc::{AllocError, Global};
 
 #[tactic(auto, using(kob_words::proofs::Appending::appending))]
-fn push_consumers(
-    alloc: Global,
-    rows: &mut Vec<Items<Cell>>,
-    judge: &Judge,
-    topic: &Right,
-    group: &Right,
-) -> Result<(), AllocError>
-    ensures { OnOk result (rows.new.items ≡ rows.old.items
-        ++ (granted_rows judge.now topic.now ++ granted_rows judge.now group.now)) }
-{
-    push_granted(alloc, rows, judge, topic)?;
-    push_granted(alloc, rows, judge, group)
-}
-
 fn push_rows(
     alloc: Global,
     rows: &mut Vec<Items<Cell>>,
@@ -45,7 +31,10 @@ fn push_rows(
             push_access(alloc, rows, judge, access)
         }
         Question::Who(right, host) => push_who(alloc, rows, judge, right, host),
-        Question::WhoConsumes(topic, group) => push_consumers(alloc, rows, judge, topic, group),
+        Question::WhoConsumes(topic, group) => {
+            push_granted(alloc, rows, judge, topic)?;
+            push_granted(alloc, rows, judge, group)
+        }
         Question::WhoBelow(right) => push_below(alloc, rows, judge, right),
         Question::Rights(principal, host) => push_rights(alloc, rows, judge, principal, host),
         Question::Sees(asker) => push_sees(alloc, rows, judge, topics, asker),

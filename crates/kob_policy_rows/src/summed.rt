@@ -1,9 +1,9 @@
 //! The row of `summary`: how many there are of what a policy has.
 
 ghost use Rattle.std.specs.Prelude.{◌≡◌, ◌++◌, ◌∷◌, [], OnOk};
-ghost use Rattle.kob_policy_rows.specs.Answers.{count_of, idle_cells, named_cells, other_cells};
-ghost use Rattle.kob_policy_rows.specs.Answers.{parties_cells, patterns_cells, summary_row};
-ghost use Rattle.kob_policy_text.specs.AtHand.{each_once, hosts_named, names_named, principals_named};
+ghost use Rattle.kob_policy_rows.specs.Answers.{count_of, named_cells, other_cells, parties_cells};
+ghost use Rattle.kob_policy_rows.specs.Answers.{summary_row};
+ghost use Rattle.kob_policy_text.specs.AtHand.{names_named};
 
 use crate::cell::{Cell, push_number, push_row};
 use kob_names::{Items, ResourceKind};
@@ -11,37 +11,17 @@ use kob_policy_review::shadowed;
 use kob_policy_text::{Judge, each_once, hosts_named, names_named, principals_named, unused_count};
 use std::alloc::{AllocError, Global};
 
-fn push_supers(alloc: Global, row: &mut Vec<Cell>, judge: &Judge) -> Result<(), AllocError>
-    ensures { OnOk result
-        (row.new.items ≡ row.old.items ++ count_of (each_once judge.now.supers) ∷ []) }
-{
-    let supers = each_once(alloc, judge.policy().supers())?;
-    push_number(row, supers.len() as u64)
-}
-
-fn push_principals(alloc: Global, row: &mut Vec<Cell>, judge: &Judge) -> Result<(), AllocError>
-    ensures { OnOk result
-        (row.new.items ≡ row.old.items ++ count_of (principals_named judge.now.bindings) ∷ []) }
-{
-    let principals = principals_named(alloc, judge.policy().bindings())?;
-    push_number(row, principals.len() as u64)
-}
-
-fn push_hosts(alloc: Global, row: &mut Vec<Cell>, judge: &Judge) -> Result<(), AllocError>
-    ensures { OnOk result
-        (row.new.items ≡ row.old.items ++ count_of (hosts_named judge.now.bindings) ∷ []) }
-{
-    let hosts = hosts_named(alloc, judge.policy().bindings())?;
-    push_number(row, hosts.len() as u64)
-}
-
 #[tactic(auto, using(kob_words::proofs::Appending::appending))]
 fn push_parties(alloc: Global, row: &mut Vec<Cell>, judge: &Judge) -> Result<(), AllocError>
     ensures { OnOk result (row.new.items ≡ row.old.items ++ parties_cells judge.now) }
 {
-    push_supers(alloc, row, judge)?;
-    push_principals(alloc, row, judge)?;
-    push_hosts(alloc, row, judge)
+    let policy = judge.policy();
+    let supers = each_once(alloc, policy.supers())?.len() as u64;
+    let principals = principals_named(alloc, policy.bindings())?.len() as u64;
+    let hosts = hosts_named(alloc, policy.bindings())?.len() as u64;
+    push_number(row, supers)?;
+    push_number(row, principals)?;
+    push_number(row, hosts)
 }
 
 fn push_names(
@@ -57,52 +37,31 @@ fn push_names(
     push_number(row, names.len() as u64)
 }
 
-#[tactic(auto, using(kob_words::proofs::Appending::appending))]
-fn push_patterns(alloc: Global, row: &mut Vec<Cell>, judge: &Judge) -> Result<(), AllocError>
-    ensures { OnOk result (row.new.items ≡ row.old.items ++ patterns_cells judge.now) }
-{
-    push_names(alloc, row, ResourceKind::Topic, judge)?;
-    push_names(alloc, row, ResourceKind::Group, judge)?;
-    push_names(alloc, row, ResourceKind::TransactionalId, judge)
-}
-
-#[tactic(auto, using(kob_words::proofs::Appending::appending))]
-fn push_idle(alloc: Global, row: &mut Vec<Cell>, judge: &Judge) -> Result<(), AllocError>
-    ensures { OnOk result (row.new.items ≡ row.old.items ++ idle_cells judge.now) }
-{
-    let idle = unused_count(alloc, judge)?;
-    let beaten = shadowed(alloc, judge.authorizer())?;
-    push_number(row, idle as u64)?;
-    push_number(row, beaten.len() as u64)
-}
-
 #[tactic(auto, using(kob_words::proofs::Appending::appending), unfolding(crate::specs::Answers::named_cells))]
 fn push_named(alloc: Global, row: &mut Vec<Cell>, judge: &Judge) -> Result<(), AllocError>
     ensures { OnOk result (row.new.items ≡ row.old.items ++ named_cells judge.now) }
 {
     push_number(row, judge.policy().bindings().len() as u64)?;
     push_parties(alloc, row, judge)?;
-    push_patterns(alloc, row, judge)
+    push_names(alloc, row, ResourceKind::Topic, judge)?;
+    push_names(alloc, row, ResourceKind::Group, judge)?;
+    push_names(alloc, row, ResourceKind::TransactionalId, judge)
 }
 
 #[tactic(auto, using(kob_words::proofs::Appending::appending), unfolding(crate::specs::Answers::other_cells))]
 fn push_others(alloc: Global, row: &mut Vec<Cell>, judge: &Judge) -> Result<(), AllocError>
     ensures { OnOk result (row.new.items ≡ row.old.items ++ other_cells judge.now) }
 {
+    let idle = unused_count(alloc, judge)?;
+    let beaten = shadowed(alloc, judge.authorizer())?.len();
     push_number(row, judge.policy().omissions().len() as u64)?;
     push_number(row, judge.policy().skipped().len() as u64)?;
-    push_idle(alloc, row, judge)
-}
-
-#[tactic(auto, using(kob_words::proofs::Appending::appending), unfolding(crate::specs::Answers::summary_row))]
-fn push_counts(alloc: Global, row: &mut Vec<Cell>, judge: &Judge) -> Result<(), AllocError>
-    ensures { OnOk result (row.new.items ≡ row.old.items ++ summary_row judge.now) }
-{
-    push_named(alloc, row, judge)?;
-    push_others(alloc, row, judge)
+    push_number(row, idle as u64)?;
+    push_number(row, beaten as u64)
 }
 
 /// How many bindings there are, whom and what they name, and how many do nothing.
+#[tactic(auto, using(kob_words::proofs::Appending::appending), unfolding(crate::specs::Answers::summary_row))]
 pub fn push_summary(
     alloc: Global,
     rows: &mut Vec<Items<Cell>>,
@@ -111,6 +70,7 @@ pub fn push_summary(
     ensures { OnOk result (rows.new.items ≡ rows.old.items ++ summary_row judge.now ∷ []) }
 {
     let mut row = Vec::new(alloc);
-    push_counts(alloc, &mut row, judge)?;
+    push_named(alloc, &mut row, judge)?;
+    push_others(alloc, &mut row, judge)?;
     push_row(rows, row)
 }

@@ -3,8 +3,8 @@
 ghost use Rattle.std.specs.Prelude.{◌≡◌, ◌++◌, OnOk, flat_map};
 ghost use Rattle.std.specs.List.{list_any};
 ghost use Rattle.kob_policy_rows.specs.Csv.{answer_text, answers_csv};
-ghost use Rattle.kob_policy_rows.specs.Csv.{behind_comma, cell_text, cells_text, flag_text};
-ghost use Rattle.kob_policy_rows.specs.Csv.{head_line, is_special, name_behind_comma, names_text};
+ghost use Rattle.kob_policy_rows.specs.Csv.{behind_comma, cell_text, cells_text};
+ghost use Rattle.kob_policy_rows.specs.Csv.{is_special, name_behind_comma, names_text};
 ghost use Rattle.kob_policy_rows.specs.Csv.{quoted_byte, row_line, table_text, words_text};
 
 use crate::cell::Cell;
@@ -15,16 +15,11 @@ use kob_policy_text::{Judge, Query};
 use kob_words::push_number;
 use std::alloc::{AllocError, Global};
 
-fn is_special(byte: u8) -> bool
-    ensures { result ≡ is_special byte }
-{
-    matches!(byte, b',' | b'"' | b'\r' | b'\n')
-}
-
 fn has_special(text: &[u8]) -> bool
     ensures { result ≡ list_any is_special text.now }
 {
-    text.iter().any(|byte| is_special(*byte))
+    text.iter()
+        .any(|byte| matches!(*byte, b',' | b'"' | b'\r' | b'\n'))
 }
 
 fn push_byte(out: &mut Vec<u8>, byte: u8) -> Result<(), AllocError>
@@ -60,29 +55,16 @@ fn push_words(out: &mut Vec<u8>, text: &[u8]) -> Result<(), AllocError>
     out.extend_from_slice(b"\"")
 }
 
-fn flag_text(yes: bool) -> &'static str
-    ensures { result.now ≡ flag_text yes }
-{
-    if yes { "true" } else { "false" }
-}
-
 fn push_cell(out: &mut Vec<u8>, cell: &Cell) -> Result<(), AllocError>
     ensures { OnOk result (out.new.items ≡ out.old.items ++ cell_text cell.now) }
 {
     match cell {
         Cell::Words(text) => push_words(out, text.as_str().as_bytes()),
         Cell::Number(number) => push_number(out, *number),
-        Cell::Flag(yes) => out.extend_from_slice(flag_text(*yes).as_bytes()),
+        Cell::Flag(true) => out.extend_from_slice(b"true"),
+        Cell::Flag(false) => out.extend_from_slice(b"false"),
         Cell::Nothing => Ok(()),
     }
-}
-
-#[tactic(auto, using(kob_words::proofs::Appending::appending))]
-fn push_behind_comma(out: &mut Vec<u8>, cell: &Cell) -> Result<(), AllocError>
-    ensures { OnOk result (out.new.items ≡ out.old.items ++ behind_comma cell.now) }
-{
-    out.extend_from_slice(b",")?;
-    push_cell(out, cell)
 }
 
 #[tactic(auto, using(kob_words::proofs::Appending::appending))]
@@ -90,7 +72,8 @@ fn push_others(out: &mut Vec<u8>, cells: &[Cell]) -> Result<(), AllocError>
     ensures { OnOk result (out.new.items ≡ out.old.items ++ flat_map behind_comma cells.now) }
 {
     for cell in cells {
-        push_behind_comma(out, cell)?;
+        out.extend_from_slice(b",")?;
+        push_cell(out, cell)?;
     }
     Ok(())
 }
@@ -108,29 +91,14 @@ fn push_cells(out: &mut Vec<u8>, row: &[Cell]) -> Result<(), AllocError>
     }
 }
 
-#[tactic(auto, using(kob_words::proofs::Appending::appending), unfolding(crate::specs::Csv::row_line))]
-fn push_row(out: &mut Vec<u8>, row: &[Cell]) -> Result<(), AllocError>
-    ensures { OnOk result (out.new.items ≡ out.old.items ++ row_line row.now) }
-{
-    push_cells(out, row)?;
-    out.extend_from_slice(b"\r\n")
-}
-
-#[tactic(auto, using(kob_words::proofs::Appending::appending))]
-fn push_name_behind_comma(out: &mut Vec<u8>, column: Column) -> Result<(), AllocError>
-    ensures { OnOk result (out.new.items ≡ out.old.items ++ name_behind_comma column) }
-{
-    out.extend_from_slice(b",")?;
-    out.extend_from_slice(column_name(column).as_bytes())
-}
-
 #[tactic(auto, using(kob_words::proofs::Appending::appending))]
 fn push_other_names(out: &mut Vec<u8>, columns: &[Column]) -> Result<(), AllocError>
     ensures { OnOk result
         (out.new.items ≡ out.old.items ++ flat_map name_behind_comma columns.now) }
 {
     for column in columns {
-        push_name_behind_comma(out, *column)?;
+        out.extend_from_slice(b",")?;
+        out.extend_from_slice(column_name(*column).as_bytes())?;
     }
     Ok(())
 }
@@ -148,27 +116,20 @@ fn push_names(out: &mut Vec<u8>, columns: &[Column]) -> Result<(), AllocError>
     }
 }
 
-#[tactic(auto, using(kob_words::proofs::Appending::appending), unfolding(crate::specs::Csv::head_line))]
-fn push_head(out: &mut Vec<u8>, columns: &[Column]) -> Result<(), AllocError>
-    ensures { OnOk result (out.new.items ≡ out.old.items ++ head_line columns.now) }
-{
-    push_names(out, columns)?;
-    out.extend_from_slice(b"\r\n")
-}
-
-#[tactic(auto, using(kob_words::proofs::Appending::appending))]
+#[tactic(auto, using(kob_words::proofs::Appending::appending), unfolding(crate::specs::Csv::row_line))]
 fn push_rows(out: &mut Vec<u8>, rows: &[Items<Cell>]) -> Result<(), AllocError>
     ensures { OnOk result (out.new.items ≡ out.old.items ++ flat_map row_line rows.now) }
 {
     for row in rows {
-        push_row(out, row.as_slice())?;
+        push_cells(out, row.as_slice())?;
+        out.extend_from_slice(b"\r\n")?;
     }
     Ok(())
 }
 
 /// Prints a line with the names of the columns, and a line for each row. The error is out of
 /// memory; `out` has then grown by a part of them.
-#[tactic(auto, using(kob_words::proofs::Appending::appending))]
+#[tactic(auto, using(kob_words::proofs::Appending::appending), unfolding(crate::specs::Csv::head_line))]
 pub fn print_csv(
     out: &mut Vec<u8>,
     columns: &[Column],
@@ -176,7 +137,8 @@ pub fn print_csv(
 ) -> Result<(), AllocError>
     ensures { OnOk result (out.new.items ≡ out.old.items ++ table_text columns.now rows.now) }
 {
-    push_head(out, columns)?;
+    push_names(out, columns)?;
+    out.extend_from_slice(b"\r\n")?;
     push_rows(out, rows)
 }
 

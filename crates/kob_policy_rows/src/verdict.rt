@@ -3,8 +3,8 @@
 ghost use Rattle.std.specs.Prelude.{◌≡◌, ◌++◌, OnOk};
 ghost use Rattle.std.specs.Option.{option_copied};
 ghost use Rattle.kob_policy_rows.specs.Answers.{on_cells};
-ghost use Rattle.kob_policy_rows.specs.Cells.{names_cells, origin_cells, party_name, reason_word};
-ghost use Rattle.kob_policy_rows.specs.Cells.{target_cells, verdict_cells};
+ghost use Rattle.kob_policy_rows.specs.Cells.{origin_cells, party_name, reason_word, target_cells};
+ghost use Rattle.kob_policy_rows.specs.Cells.{verdict_cells};
 
 use crate::cell::{Cell, push_flag, push_nothing, push_number, push_number_cell, push_words};
 use kob_names::{Operation, PatternKind, ResourceKind, Text, Verdict};
@@ -90,11 +90,13 @@ pub fn party_name<'a>(all: &'a str, party: &'a Option<Text>) -> &'a str
     }
 }
 
+/// One name, or the names that begin so and that no longer prefix and no literal takes.
 #[tactic(auto, using(kob_words::proofs::Appending::appending))]
-fn push_names(alloc: Global, row: &mut Vec<Cell>, names: &Names) -> Result<(), AllocError>
-    ensures { OnOk result (row.new.items ≡ row.old.items ++ names_cells names.now) }
+pub fn push_target(alloc: Global, row: &mut Vec<Cell>, target: &Target) -> Result<(), AllocError>
+    ensures { OnOk result (row.new.items ≡ row.old.items ++ target_cells target.now) }
 {
-    match names {
+    push_words(alloc, row, resource_name(target.resource))?;
+    match &target.names {
         Names::Exactly(name) => {
             push_words(alloc, row, pattern_name(PatternKind::Literal))?;
             push_words(alloc, row, name.as_str())
@@ -104,13 +106,4 @@ fn push_names(alloc: Global, row: &mut Vec<Cell>, names: &Names) -> Result<(), A
             push_words(alloc, row, start.as_str())
         }
     }
-}
-
-/// One name, or the names that begin so and that no longer prefix and no literal takes.
-#[tactic(auto, using(kob_words::proofs::Appending::appending))]
-pub fn push_target(alloc: Global, row: &mut Vec<Cell>, target: &Target) -> Result<(), AllocError>
-    ensures { OnOk result (row.new.items ≡ row.old.items ++ target_cells target.now) }
-{
-    push_words(alloc, row, resource_name(target.resource))?;
-    push_names(alloc, row, &target.names)
 }

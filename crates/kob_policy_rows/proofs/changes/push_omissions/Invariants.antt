@@ -1,7 +1,0 @@
-use Rattle.std.proofs.Common.{map, take, ◌++◌, ◌≡◌}
-use Rattle.kob_policy_rows.specs.Changes.{omission_row}
-use Rattle.kob_policy_rows.proofs.changes.push_omissions.Given as goal
-
-abbrev pub invariant-loop-omission : goal.invariant-loop-omission
-invariant-loop-omission l =
-    l.rows.items ≡ l.initial.rows.items ++ map omission_row (take l.omission-index l.omissions)
