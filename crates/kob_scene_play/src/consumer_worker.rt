@@ -4,7 +4,7 @@ ghost use Rattle.std.specs.Prelude.{◌≡◌, [], IfOk, OnOk, map};
 ghost use Rattle.std.specs.List.{enumerate_from};
 ghost use Rattle.kob_inbox.specs.Contents.{placed_intake};
 ghost use Rattle.kob_inbox.specs.Run.{start as new_state};
-ghost use Rattle.kob_scene_play.specs.Begins.{IsBegun, commit_event, start_event};
+ghost use Rattle.kob_scene_play.specs.Begins.{IsBegun, start_event};
 ghost use Rattle.kob_scene_play.specs.Steps.{IsConsumerTick, IsTickOfConsumer, Restarts};
 ghost use Rattle.kob_scene_play.specs.Steps.{consumer_state, is_repeat_of_consumer};
 ghost use Rattle.kob_scene_play.specs.declared.holding.Holding.TheVariants.{Nothing};
@@ -172,16 +172,9 @@ impl ConsumerWorker {
         ensures { IfOk result (λ event. event ≡ start_event self.now.start self.now.principal
             self.now.host self.now.fetcher journal.now) }
     {
-        match self.start {
-            Start::Earliest => Ok(None),
-            Start::Latest => self.commit_due(alloc, journal),
+        if self.start == Start::Earliest {
+            return Ok(None);
         }
-    }
-
-    fn commit_due(&self, alloc: Global, journal: &Journal) -> Result<Option<Event>, AllocError>
-        ensures { IfOk result (λ event. event ≡ commit_event self.now.principal self.now.host
-            self.now.fetcher journal.now) }
-    {
         let Some(asked) = start_due(alloc, journal, self.receiver.consumer())? else {
             return Ok(None);
         };

@@ -12,7 +12,7 @@ ghost use Rattle.kob_router.specs.Line.{one_more};
 ghost use Rattle.kob_scene_play.specs.Checks.{AreEarly, AreFates};
 ghost use Rattle.kob_scene_play.specs.Expectations.{IsExpected, IsMet, are_delivered};
 ghost use Rattle.kob_scene_play.specs.Expectations.{expected_text, is_among, is_lost_at};
-ghost use Rattle.kob_scene_play.specs.Expectations.{is_lost_event, is_lost_fate};
+ghost use Rattle.kob_scene_play.specs.Expectations.{is_lost_event};
 ghost use Rattle.kob_scene_play.specs.Steps.{Tells};
 ghost use Rattle.kob_scene_play.specs.Stops.{StopsQuestion};
 
@@ -123,47 +123,27 @@ fn is_among(id: Uuid, events: &[&OutboxEvent]) -> bool
 fn is_lost_event(id: Uuid, events: &[&OutboxEvent], fates: &[Fate]) -> bool
     ensures { result ≡ is_lost_event id (map (λ event. event.now) events.now) fates.now }
 {
-    match place_of(id.as_u128(), events) {
-        Some(place) => is_lost_fate(fates.get(place)),
-        None => false,
-    }
-}
-
-fn is_lost_fate(fate: Option<&Fate>) -> bool
-    ensures { result ≡ is_lost_fate (option_copied fate.entry) }
-{
-    match fate {
+    let Some(place) = place_of(id.as_u128(), events) else {
+        return false;
+    };
+    match fates.get(place) {
         Some(fate) => fate.is_lost(),
         None => false,
     }
 }
 
+#[tactic(auto, using(kob_words::proofs::Appending::appending))]
 fn print(out: &mut Output, is_met: bool) -> Result<(), AllocError>
     ensures printed { OnOk result (out.new.text.items ≡ out.old.text.items
         ++ (decimal (one_more out.old.told) ++ expected_text is_met)) }
     ensures told { OnOk result (out.new.told ≡ one_more out.old.told) }
 {
     let number = out.number();
-    push_expected(&mut out.text, number, is_met)?;
     out.tell();
-    Ok(())
-}
-
-#[tactic(auto, using(kob_words::proofs::Appending::appending))]
-fn push_expected(out: &mut Vec<u8>, number: u64, is_met: bool) -> Result<(), AllocError>
-    ensures { OnOk result (out.new.items
-        ≡ out.old.items ++ (decimal number ++ expected_text is_met)) }
-{
-    push_number(out, number)?;
-    push_answer(out, is_met)
-}
-
-fn push_answer(out: &mut Vec<u8>, is_met: bool) -> Result<(), AllocError>
-    ensures { OnOk result (out.new.items ≡ out.old.items ++ expected_text is_met) }
-{
+    push_number(&mut out.text, number)?;
     if is_met {
-        out.extend_from_slice(b" as expected\n")
+        out.text.extend_from_slice(b" as expected\n")
     } else {
-        out.extend_from_slice(b" not as expected\n")
+        out.text.extend_from_slice(b" not as expected\n")
     }
 }

@@ -1,10 +1,7 @@
 //! What a consumer holds that commits before it takes in.
 
-ghost use Rattle.std.specs.Prelude.{◌≡◌, ℕ, ◌<◌, IfOk};
-ghost use Rattle.std.specs.List.{All};
-ghost use Rattle.kob_inbox.specs.Run.{behind};
-ghost use Rattle.kob_names.specs.declared.record.Record.{Record};
-ghost use Rattle.kob_rights.specs.Requests.{BodyWithin, greatest_offset};
+ghost use Rattle.std.specs.Prelude.{◌≡◌, IfOk};
+ghost use Rattle.kob_rights.specs.Requests.{BodyWithin};
 ghost use Rattle.kob_rights.specs.declared.reply.Body.TheVariants as bodies;
 ghost use Rattle.kob_scene_play.specs.Takings.{AreWithin, asked_next, commit_of, held_or};
 ghost use Rattle.kob_scene_play.specs.Takings.{position_of};
@@ -37,7 +34,12 @@ impl Held {
         requires { BodyWithin (bodies.Records self.now.records) }
         ensures { result ≡ position_of self.now }
     {
-        position_behind(self.asked.offset, self.records.as_slice())
+        let records = self.records.as_slice();
+        let mut position = self.asked.offset;
+        for (at, _) in records {
+            position = *at + 1;
+        }
+        position
     }
 
     /// The commit of that position.
@@ -54,18 +56,6 @@ impl Held {
             offset: self.position(),
         })
     }
-}
-
-/// The position behind records that were fetched at a position.
-fn position_behind(from: u64, records: &[(u64, Record)]) -> u64
-    requires { All (λ (entry : ℕ × Record). entry.0 < greatest_offset) records.now }
-    ensures { result ≡ behind from records.now }
-{
-    let mut position = from;
-    for (at, _) in records {
-        position = *at + 1;
-    }
-    position
 }
 
 /// What is held of a body that a request brought: the records of a FETCH, if there are any. Any

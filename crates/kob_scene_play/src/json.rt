@@ -125,18 +125,13 @@ fn push_each(out: &mut Vec<u8>, words: &[u8]) -> Result<(), AllocError>
     ensures { OnOk result (out.new.items ≡ out.old.items ++ flat_map words_byte words.now) }
 {
     for byte in words {
-        push_words_byte(out, *byte)?;
+        if *byte == b' ' {
+            out.extend_from_slice(b"\",\"")?;
+        } else {
+            push_byte(out, *byte)?;
+        }
     }
     Ok(())
-}
-
-fn push_words_byte(out: &mut Vec<u8>, byte: u8) -> Result<(), AllocError>
-    ensures { OnOk result (out.new.items ≡ out.old.items ++ words_byte byte) }
-{
-    if byte == b' ' {
-        return out.extend_from_slice(b"\",\"");
-    }
-    push_byte(out, byte)
 }
 
 #[tactic(auto, using(kob_words::proofs::Appending::appending))]

@@ -1,13 +1,12 @@
 //! What a request lacked that was denied, or that named no topic or no partition that is there.
 
 ghost use Rattle.std.specs.Prelude.{◌≡◌, ◌<◌, ◌++◌, [], IfOk, OnOk, length};
-ghost use Rattle.std.specs.Prelude.{option_copied, slice_index_or};
+ghost use Rattle.std.specs.Prelude.{option_copied, option_map, slice_index_or};
 ghost use Rattle.kob_rights.specs.Requests.{partition_named};
 ghost use Rattle.kob_rights.specs.Table.{check_view, clause_view, rights};
 ghost use Rattle.kob_scene_play.specs.Forms.{entry_note, last_entry, last_needs};
-ghost use Rattle.kob_scene_play.specs.Needs.{absence_text, absent_text, behind, check_text};
-ghost use Rattle.kob_scene_play.specs.Needs.{has_code, lacked, named, needs_of, needs_text};
-ghost use Rattle.kob_scene_play.specs.Needs.{no_partition, no_topic, noted};
+ghost use Rattle.kob_scene_play.specs.Needs.{absent_text, behind, check_text, has_code, lacked};
+ghost use Rattle.kob_scene_play.specs.Needs.{named, needs_of, needs_text, noted};
 
 use crate::output::push_counted;
 use kob_rights::{Check, Clause, Code, Reason, Reply, Request, Rights};
@@ -74,6 +73,7 @@ fn push_noted(out: &mut Vec<u8>, needs: &[u8]) -> Result<(), AllocError>
 
 /// What the last request of a step lacked, behind a space; nothing if it is done. Before the step
 /// the journal had so many entries.
+#[tactic(auto, using(kob_words::proofs::Appending::appending))]
 pub(crate) fn last_needs(
     alloc: Global,
     before: usize,
@@ -81,32 +81,17 @@ pub(crate) fn last_needs(
 ) -> Result<Vec<u8>, AllocError>
     ensures { IfOk result (λ text. text.items ≡ behind (last_needs before journal.now)) }
 {
-    match last_entry(before, journal) {
-        Some(entry) => needs_behind(alloc, &entry.event.request, &entry.reply),
-        None => Ok(Vec::new(alloc)),
-    }
-}
-
-fn needs_behind(alloc: Global, request: &Request, reply: &Reply) -> Result<Vec<u8>, AllocError>
-    ensures { IfOk result (λ text. text.items ≡ behind (needs_of request.now reply.now)) }
-{
     let mut needs = Vec::new(alloc);
-    push_needs(&mut needs, request, reply)?;
-    text_behind(alloc, &needs)
-}
-
-#[tactic(auto, using(kob_words::proofs::Appending::appending))]
-fn text_behind(alloc: Global, needs: &[u8]) -> Result<Vec<u8>, AllocError>
-    ensures { IfOk result (λ text. text.items ≡ behind needs.now) }
-{
-    let mut text = Vec::new(alloc);
-    match needs {
-        [] => {}
-        [_, ..] => {
-            text.extend_from_slice(b" ")?;
-            text.extend_from_slice(needs)?;
-        }
+    let Some(entry) = last_entry(before, journal) else {
+        return Ok(needs);
+    };
+    push_needs(&mut needs, &entry.event.request, &entry.reply)?;
+    if needs.is_empty() {
+        return Ok(needs);
     }
+    let mut text = Vec::new(alloc);
+    text.extend_from_slice(b" ")?;
+    text.extend_from_slice(&needs)?;
     Ok(text)
 }
 
@@ -122,63 +107,36 @@ fn push_needs(out: &mut Vec<u8>, request: &Request, reply: &Reply) -> Result<(),
     }
 }
 
+#[tactic(auto, using(kob_words::proofs::Appending::appending))]
 fn push_absent(out: &mut Vec<u8>, request: &Request, reason: Reason) -> Result<(), AllocError>
     ensures { OnOk result (out.new.items
         ≡ out.old.items ++ absent_text reason (partition_named request.now)) }
 {
-    match request {
-        Request::Produce(asked) => push_absence(out, reason, asked.topic.as_str(), asked.partition),
-        Request::Fetch(asked) => push_absence(out, reason, asked.topic.as_str(), asked.partition),
-        Request::ListOffsets(asked) => push_absence(
-            out,
-            reason,
-            asked.topic.as_str(),
-            asked.partition,
-        ),
-        Request::OffsetCommit(asked) => push_absence(
-            out,
-            reason,
-            asked.topic.as_str(),
-            asked.partition,
-        ),
-        Request::DeleteRecords(asked) => push_absence(
-            out,
-            reason,
-            asked.topic.as_str(),
-            asked.partition,
-        ),
-        _ => Ok(()),
-    }
-}
-
-fn push_absence(
-    out: &mut Vec<u8>,
-    reason: Reason,
-    topic: &str,
-    partition: u64,
-) -> Result<(), AllocError>
-    ensures { OnOk result (out.new.items
-        ≡ out.old.items ++ absence_text reason (topic.now, partition)) }
-{
+    let Some((topic, partition)) = partition_named(request) else {
+        return Ok(());
+    };
     match reason {
-        Reason::UnknownTopic => push_no_topic(out, topic),
-        Reason::UnknownPartition => push_no_partition(out, topic, partition),
+        Reason::UnknownTopic => push_named(out, b"no topic ", topic),
+        Reason::UnknownPartition => {
+            push_counted(out, b"no partition ", partition, b"")?;
+            push_named(out, b" of topic ", topic)
+        }
         _ => Ok(()),
     }
 }
 
-fn push_no_topic(out: &mut Vec<u8>, topic: &str) -> Result<(), AllocError>
-    ensures { OnOk result (out.new.items ≡ out.old.items ++ no_topic topic.now) }
+/// The topic and the partition that a request needs to be there, if it needs one.
+fn partition_named(request: &Request) -> Option<(&str, u64)>
+    ensures { option_map (λ named. (named.0.now, named.1)) result ≡ partition_named request.now }
 {
-    push_named(out, b"no topic ", topic)
-}
-
-#[tactic(auto, using(kob_words::proofs::Appending::appending))]
-fn push_no_partition(out: &mut Vec<u8>, topic: &str, partition: u64) -> Result<(), AllocError>
-    ensures { OnOk result (out.new.items ≡ out.old.items ++ no_partition topic.now partition) }
-{
-    push_counted(out, b"no partition ", partition, b"")?;
-    push_named(out, b" of topic ", topic)
+    match request {
+        Request::Produce(asked) => Some((asked.topic.as_str(), asked.partition)),
+        Request::Fetch(asked) => Some((asked.topic.as_str(), asked.partition)),
+        Request::ListOffsets(asked) => Some((asked.topic.as_str(), asked.partition)),
+        Request::OffsetCommit(asked) => Some((asked.topic.as_str(), asked.partition)),
+        Request::DeleteRecords(asked) => Some((asked.topic.as_str(), asked.partition)),
+        _ => None,
+    }
 }
 
 /// A name behind a text.

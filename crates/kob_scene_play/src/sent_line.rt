@@ -1,7 +1,7 @@
 //! A line with or without producer ids.
 
 ghost use Rattle.std.specs.Prelude.{◌≡◌};
-ghost use Rattle.kob_scene_play.specs.Services.{asked_as, bare};
+ghost use Rattle.kob_scene_play.specs.Services.{asked_as};
 
 use kob_connections::{Connection, RecordedServer, Serve};
 use kob_names::Batch;
@@ -38,13 +38,9 @@ impl<'a> Serve for SentServer<'a> {
 fn asked_as(is_bare: bool, request: Request) -> Request
     ensures { result ≡ asked_as is_bare request }
 {
-    if is_bare { bare(request) } else { request }
-}
-
-/// The request without the producer id of its batch.
-fn bare(request: Request) -> Request
-    ensures { result ≡ bare request }
-{
+    if !is_bare {
+        return request;
+    }
     match request {
         Request::Produce(asked) => Request::Produce(Produce {
             topic: asked.topic,

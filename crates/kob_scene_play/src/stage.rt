@@ -1,15 +1,14 @@
 //! What a scene is played on.
 
-ghost use Rattle.std.specs.Prelude.{◌≡◌, ◌≢◌, ◌++◌, ◌∷◌, [], IfErr, IfOk, IsErrOf, OnOk, map};
+ghost use Rattle.std.specs.Prelude.{◌≡◌, ◌++◌, ◌∷◌, [], IfErr, IfOk, OnOk, map};
 ghost use Rattle.kob_scene_play.specs.Expectations.{all_met};
 ghost use Rattle.std.specs.Option.{option_copied};
-ghost use Rattle.kob_broker.specs.Step.{state_of};
 ghost use Rattle.kob_broker.specs.State.{settings_of};
 ghost use Rattle.kob_scene_play.specs.Stages.{IsOpened, declared_consumer, declared_service};
-ghost use Rattle.kob_scene_play.specs.Stages.{consumer_numbered, name_by, service_numbered};
+ghost use Rattle.kob_scene_play.specs.Stages.{consumer_numbered, service_numbered};
 ghost use Rattle.kob_scene_play.specs.Stages.{named_consumer, named_service, worker_name};
 ghost use Rattle.kob_scene_play.specs.Stops.{IsMemoryOrStore, MayNotOpen};
-ghost use Rattle.kob_shared.specs.Journals.{IsFresh, opened_by};
+ghost use Rattle.kob_shared.specs.Journals.{opened_by};
 
 use crate::consumer_worker::ConsumerWorker;
 use crate::fault::PlayFault;
@@ -107,25 +106,13 @@ impl<'s> Stage<'s> {
     pub fn name_of(&self, worker: usize) -> &str
         ensures { result.now ≡ worker_name self.now worker }
     {
-        let service = service_numbered(&self.services, worker);
-        let consumer = consumer_numbered(&self.consumers, worker);
-        name_by(service, consumer)
-    }
-}
-
-/// The name of the service, or that of the consumer, or `-` if there is neither.
-fn name_by<'p>(
-    service: Option<&'p PlayedService<'_>>,
-    consumer: Option<&'p PlayedConsumer>,
-) -> &'p str
-    ensures { result.now ≡ name_by (option_copied service.entry) (option_copied consumer.entry) }
-{
-    match service {
-        Some(played) => played.name.as_str(),
-        None => match consumer {
+        match service_numbered(&self.services, worker) {
             Some(played) => played.name.as_str(),
-            None => "-",
-        },
+            None => match consumer_numbered(&self.consumers, worker) {
+                Some(played) => played.name.as_str(),
+                None => "-",
+            },
+        }
     }
 }
 
@@ -160,20 +147,12 @@ fn recorded_by(alloc: Global, settings: Settings) -> Result<Recorded, PlayFault>
     }) }
     ensures stopped { IfErr result (MayNotOpen settings) }
 {
-    let broker = match broker_by(alloc, settings) {
+    let broker = match Broker::open(alloc, settings) {
         Ok(broker) => broker,
         Err(OpenFault::Memory(refused)) => return Err(PlayFault::Memory(refused)),
         Err(OpenFault::TooMany) => return Err(PlayFault::TooMany),
     };
     Ok(Recorded::open(alloc, broker, ENTRY_LIMIT)?)
-}
-
-fn broker_by(alloc: Global, settings: Settings) -> Result<Broker, OpenFault>
-    ensures fresh { IfOk result IsFresh }
-    ensures state { IfOk result (λ broker. state_of broker ≡ opened_by settings) }
-    ensures many { IsErrOf result OpenFault.TooMany → settings.opening ≢ [] }
-{
-    Broker::open(alloc, settings)
 }
 
 fn all_services<'s>(
