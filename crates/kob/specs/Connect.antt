@@ -18,14 +18,6 @@ opening_text = codes "{\n  \"name\": "
 unfoldable pub config_text : List ℕ
 config_text = codes ",\n  \"config\": {\n"
 
--- Debezium's connector for PostgreSQL; what is in angle brackets is to be filled in
-unfoldable pub postgresql_text : List ℕ
-postgresql_text = codes "    \"connector.class\": \"io.debezium.connector.postgresql.PostgresConnector\",\n    \"plugin.name\": \"pgoutput\",\n    \"database.hostname\": \"<DATABASE_HOST>\",\n    \"database.user\": \"<DATABASE_USER>\",\n    \"database.password\": \"<DATABASE_PASSWORD>\",\n    \"database.dbname\": \"<DATABASE_NAME>\",\n    \"table.include.list\": \"public.outbox\",\n"
-
--- Debezium's connector for MySQL
-unfoldable pub mysql_text : List ℕ
-mysql_text = codes "    \"connector.class\": \"io.debezium.connector.mysql.MySqlConnector\",\n    \"database.hostname\": \"<DATABASE_HOST>\",\n    \"database.user\": \"<DATABASE_USER>\",\n    \"database.password\": \"<DATABASE_PASSWORD>\",\n    \"database.server.id\": \"<A_NUMBER_THAT_NO_OTHER_REPLICA_HAS>\",\n    \"schema.history.internal.kafka.bootstrap.servers\": \"<BOOTSTRAP_SERVERS>\",\n    \"schema.history.internal.kafka.topic\": \"<A_TOPIC_THAT_NO_OTHER_CONNECTOR_HAS>\",\n    \"table.include.list\": \"<DATABASE_NAME>.outbox\",\n"
-
 unfoldable pub slot_key_text : List ℕ
 slot_key_text = codes "    \"slot.name\": "
 
@@ -39,9 +31,6 @@ prefix_key_text = codes "    \"topic.prefix\": "
 unfoldable pub transform_text : List ℕ
 transform_text = codes ",\n    \"transforms\": \"outbox\",\n    \"transforms.outbox.type\": \"io.debezium.transforms.outbox.EventRouter\",\n"
 
-unfoldable pub by_id_text : List ℕ
-by_id_text = codes "    \"transforms.outbox.route.by.field\": \"aggregateid\",\n"
-
 unfoldable pub replacement_key_text : List ℕ
 replacement_key_text = codes "    \"transforms.outbox.route.topic.replacement\": "
 
@@ -52,22 +41,15 @@ placement_key_text = codes "    \"transforms.outbox.table.fields.additional.plac
 unfoldable pub closing_text : List ℕ
 closing_text = codes "    \"key.converter\": \"org.apache.kafka.connect.storage.StringConverter\",\n    \"value.converter\": \"org.apache.kafka.connect.storage.StringConverter\"\n  }\n}\n"
 
--- the table that the properties expect, for PostgreSQL
-unfoldable pub postgresql_table_text : List ℕ
-postgresql_table_text = codes "CREATE TABLE outbox (\n  id uuid PRIMARY KEY,\n  aggregatetype varchar(255) NOT NULL,\n  aggregateid varchar(255) NOT NULL,\n  type varchar(255) NOT NULL,\n  payload text NOT NULL\n);\n"
-
--- and for MySQL
-unfoldable pub mysql_table_text : List ℕ
-mysql_table_text = codes "CREATE TABLE outbox (\n  id char(36) PRIMARY KEY,\n  aggregatetype varchar(255) NOT NULL,\n  aggregateid varchar(255) NOT NULL,\n  type varchar(255) NOT NULL,\n  payload longtext NOT NULL\n);\n"
-
-abbrev pub connector_of : Database → List ℕ
-connector_of Postgresql = postgresql_text
-connector_of Mysql = mysql_text
+-- Debezium's connector for the database; what is in angle brackets is to be filled in
+unfoldable pub connector_of : Database → List ℕ
+connector_of Postgresql = codes "    \"connector.class\": \"io.debezium.connector.postgresql.PostgresConnector\",\n    \"plugin.name\": \"pgoutput\",\n    \"database.hostname\": \"<DATABASE_HOST>\",\n    \"database.user\": \"<DATABASE_USER>\",\n    \"database.password\": \"<DATABASE_PASSWORD>\",\n    \"database.dbname\": \"<DATABASE_NAME>\",\n    \"table.include.list\": \"public.outbox\",\n"
+connector_of Mysql = codes "    \"connector.class\": \"io.debezium.connector.mysql.MySqlConnector\",\n    \"database.hostname\": \"<DATABASE_HOST>\",\n    \"database.user\": \"<DATABASE_USER>\",\n    \"database.password\": \"<DATABASE_PASSWORD>\",\n    \"database.server.id\": \"<A_NUMBER_THAT_NO_OTHER_REPLICA_HAS>\",\n    \"schema.history.internal.kafka.bootstrap.servers\": \"<BOOTSTRAP_SERVERS>\",\n    \"schema.history.internal.kafka.topic\": \"<A_TOPIC_THAT_NO_OTHER_CONNECTOR_HAS>\",\n    \"table.include.list\": \"<DATABASE_NAME>.outbox\",\n"
 
 -- the column that names the topic, where it is not Debezium's default
-abbrev pub by_property : RouteBy → List ℕ
+unfoldable pub by_property : RouteBy → List ℕ
 by_property AggregateType = []
-by_property AggregateId = by_id_text
+by_property AggregateId = codes "    \"transforms.outbox.route.by.field\": \"aggregateid\",\n"
 
 -- Debezium's default for the topic of a row
 unfoldable pub default_replacement : List ℕ
@@ -122,7 +104,7 @@ abbrev pub connector_text : Database → Result ℕ ExportFault → List Service
 connector_text database (Ok place) services = connector_at database (slice_get services place)
 connector_text database (Err why) services = []
 
--- CREATE TABLE
-abbrev pub table_of : Database → List ℕ
-table_of Postgresql = postgresql_table_text
-table_of Mysql = mysql_table_text
+-- the table that the properties expect
+unfoldable pub table_of : Database → List ℕ
+table_of Postgresql = codes "CREATE TABLE outbox (\n  id uuid PRIMARY KEY,\n  aggregatetype varchar(255) NOT NULL,\n  aggregateid varchar(255) NOT NULL,\n  type varchar(255) NOT NULL,\n  payload text NOT NULL\n);\n"
+table_of Mysql = codes "CREATE TABLE outbox (\n  id char(36) PRIMARY KEY,\n  aggregatetype varchar(255) NOT NULL,\n  aggregateid varchar(255) NOT NULL,\n  type varchar(255) NOT NULL,\n  payload longtext NOT NULL\n);\n"

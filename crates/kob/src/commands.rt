@@ -7,20 +7,14 @@ use kob_policy_text::{Judge, Step, steps};
 use kob_scene_export::{export_binding, export_removal};
 use std::alloc::{AllocError, Global};
 
-fn push_step(out: &mut Vec<u8>, step: &Step) -> Result<(), AllocError>
-    ensures { OnOk result (out.new.items ≡ out.old.items ++ step_line step.now) }
-{
-    match step {
-        Step::Add(binding) => export_binding(out, binding.parts()),
-        Step::Remove(binding) => export_removal(out, binding.parts()),
-    }
-}
-
 fn push_steps(out: &mut Vec<u8>, found: &[Step]) -> Result<(), AllocError>
     ensures { OnOk result (out.new.items ≡ out.old.items ++ flat_map step_line found.now) }
 {
     for step in found {
-        push_step(out, step)?;
+        match step {
+            Step::Add(binding) => export_binding(out, binding.parts())?,
+            Step::Remove(binding) => export_removal(out, binding.parts())?,
+        }
     }
     Ok(())
 }

@@ -2,13 +2,13 @@
 
 ghost use Rattle.std.specs.List.{list_all};
 ghost use Rattle.std.specs.Prelude.{◌≡◌, ◌++◌, OnOk, codes, slice_get};
-ghost use Rattle.kob.specs.Connect.{by_id_text, by_property, closing_text, config_text};
-ghost use Rattle.kob.specs.Connect.{connect_text, connector_at, connector_of, default_replacement};
-ghost use Rattle.kob.specs.Connect.{is_slot_byte, is_slot_name, mysql_table_text, mysql_text};
-ghost use Rattle.kob.specs.Connect.{opening_text, placement_key_text, postgresql_table_text};
-ghost use Rattle.kob.specs.Connect.{postgresql_text, prefix_key_text, property_unless};
-ghost use Rattle.kob.specs.Connect.{publication_key_text, replacement_key_text, route_properties};
-ghost use Rattle.kob.specs.Connect.{slot_key_text, slot_name, slot_text, table_of, transform_text};
+ghost use Rattle.kob.specs.Connect.{by_property, closing_text, config_text, connect_text};
+ghost use Rattle.kob.specs.Connect.{connector_at, connector_of, default_replacement};
+ghost use Rattle.kob.specs.Connect.{is_slot_byte, is_slot_name};
+ghost use Rattle.kob.specs.Connect.{opening_text, placement_key_text, prefix_key_text};
+ghost use Rattle.kob.specs.Connect.{property_unless, publication_key_text, replacement_key_text};
+ghost use Rattle.kob.specs.Connect.{route_properties, slot_key_text, slot_name, slot_text};
+ghost use Rattle.kob.specs.Connect.{table_of, transform_text};
 ghost use Rattle.kob_scene_play.specs.Json.{json_string};
 
 use kob_names::Text;
@@ -105,12 +105,16 @@ fn is_slot_byte(byte: u8) -> bool
     byte.is_ascii_lowercase() || byte.is_ascii_digit() || byte == b'_'
 }
 
+/// Debezium's connector for the database.
+#[tactic(auto, unfolding(crate::specs::Connect::connector_of))]
 fn connector_of(database: Database) -> &'static str
     ensures { result.now ≡ connector_of database }
 {
     match database {
-        Database::Postgresql => postgresql_text(),
-        Database::Mysql => mysql_text(),
+        Database::Postgresql =>
+            "    \"connector.class\": \"io.debezium.connector.postgresql.PostgresConnector\",\n    \"plugin.name\": \"pgoutput\",\n    \"database.hostname\": \"<DATABASE_HOST>\",\n    \"database.user\": \"<DATABASE_USER>\",\n    \"database.password\": \"<DATABASE_PASSWORD>\",\n    \"database.dbname\": \"<DATABASE_NAME>\",\n    \"table.include.list\": \"public.outbox\",\n",
+        Database::Mysql =>
+            "    \"connector.class\": \"io.debezium.connector.mysql.MySqlConnector\",\n    \"database.hostname\": \"<DATABASE_HOST>\",\n    \"database.user\": \"<DATABASE_USER>\",\n    \"database.password\": \"<DATABASE_PASSWORD>\",\n    \"database.server.id\": \"<A_NUMBER_THAT_NO_OTHER_REPLICA_HAS>\",\n    \"schema.history.internal.kafka.bootstrap.servers\": \"<BOOTSTRAP_SERVERS>\",\n    \"schema.history.internal.kafka.topic\": \"<A_TOPIC_THAT_NO_OTHER_CONNECTOR_HAS>\",\n    \"table.include.list\": \"<DATABASE_NAME>.outbox\",\n",
     }
 }
 
@@ -119,7 +123,7 @@ fn connector_of(database: Database) -> &'static str
 fn push_route(out: &mut Vec<u8>, settings: &RouteSettings) -> Result<(), AllocError>
     ensures { OnOk result (out.new.items ≡ out.old.items ++ route_properties settings.now) }
 {
-    push_by(out, settings.by)?;
+    out.extend_from_slice(by_property(settings.by).as_bytes())?;
     push_unless(
         out,
         default_replacement(),
@@ -129,12 +133,14 @@ fn push_route(out: &mut Vec<u8>, settings: &RouteSettings) -> Result<(), AllocEr
     push_unless(out, "", placement_key_text(), &settings.placement)
 }
 
-fn push_by(out: &mut Vec<u8>, by: RouteBy) -> Result<(), AllocError>
-    ensures { OnOk result (out.new.items ≡ out.old.items ++ by_property by) }
+/// The column that names the topic, if it is not Debezium's default.
+#[tactic(auto, unfolding(crate::specs::Connect::by_property))]
+fn by_property(by: RouteBy) -> &'static str
+    ensures { result.now ≡ by_property by }
 {
     match by {
-        RouteBy::AggregateType => Ok(()),
-        RouteBy::AggregateId => out.extend_from_slice(by_id_text().as_bytes()),
+        RouteBy::AggregateType => "",
+        RouteBy::AggregateId => "    \"transforms.outbox.route.by.field\": \"aggregateid\",\n",
     }
 }
 
@@ -160,12 +166,15 @@ fn push_property(out: &mut Vec<u8>, name: &str, value: &str) -> Result<(), Alloc
 }
 
 /// The statement that creates the outbox table which the properties expect.
+#[tactic(auto, unfolding(crate::specs::Connect::table_of))]
 pub fn table_of(database: Database) -> &'static str
     ensures { result.now ≡ table_of database }
 {
     match database {
-        Database::Postgresql => postgresql_table_text(),
-        Database::Mysql => mysql_table_text(),
+        Database::Postgresql =>
+            "CREATE TABLE outbox (\n  id uuid PRIMARY KEY,\n  aggregatetype varchar(255) NOT NULL,\n  aggregateid varchar(255) NOT NULL,\n  type varchar(255) NOT NULL,\n  payload text NOT NULL\n);\n",
+        Database::Mysql =>
+            "CREATE TABLE outbox (\n  id char(36) PRIMARY KEY,\n  aggregatetype varchar(255) NOT NULL,\n  aggregateid varchar(255) NOT NULL,\n  type varchar(255) NOT NULL,\n  payload longtext NOT NULL\n);\n",
     }
 }
 
@@ -183,22 +192,6 @@ fn config_text() -> &'static str
     ensures { result.now ≡ config_text }
 {
     ",\n  \"config\": {\n"
-}
-
-/// Debezium's connector for PostgreSQL.
-#[tactic(auto, unfolding(crate::specs::Connect::postgresql_text))]
-fn postgresql_text() -> &'static str
-    ensures { result.now ≡ postgresql_text }
-{
-    "    \"connector.class\": \"io.debezium.connector.postgresql.PostgresConnector\",\n    \"plugin.name\": \"pgoutput\",\n    \"database.hostname\": \"<DATABASE_HOST>\",\n    \"database.user\": \"<DATABASE_USER>\",\n    \"database.password\": \"<DATABASE_PASSWORD>\",\n    \"database.dbname\": \"<DATABASE_NAME>\",\n    \"table.include.list\": \"public.outbox\",\n"
-}
-
-/// Debezium's connector for MySQL.
-#[tactic(auto, unfolding(crate::specs::Connect::mysql_text))]
-fn mysql_text() -> &'static str
-    ensures { result.now ≡ mysql_text }
-{
-    "    \"connector.class\": \"io.debezium.connector.mysql.MySqlConnector\",\n    \"database.hostname\": \"<DATABASE_HOST>\",\n    \"database.user\": \"<DATABASE_USER>\",\n    \"database.password\": \"<DATABASE_PASSWORD>\",\n    \"database.server.id\": \"<A_NUMBER_THAT_NO_OTHER_REPLICA_HAS>\",\n    \"schema.history.internal.kafka.bootstrap.servers\": \"<BOOTSTRAP_SERVERS>\",\n    \"schema.history.internal.kafka.topic\": \"<A_TOPIC_THAT_NO_OTHER_CONNECTOR_HAS>\",\n    \"table.include.list\": \"<DATABASE_NAME>.outbox\",\n"
 }
 
 /// The name of a property.
@@ -233,14 +226,6 @@ fn transform_text() -> &'static str
     ",\n    \"transforms\": \"outbox\",\n    \"transforms.outbox.type\": \"io.debezium.transforms.outbox.EventRouter\",\n"
 }
 
-/// The column that names the topic, if it is not Debezium's default.
-#[tactic(auto, unfolding(crate::specs::Connect::by_id_text))]
-fn by_id_text() -> &'static str
-    ensures { result.now ≡ by_id_text }
-{
-    "    \"transforms.outbox.route.by.field\": \"aggregateid\",\n"
-}
-
 /// Debezium's default for the topic of a row.
 #[tactic(auto, unfolding(crate::specs::Connect::default_replacement))]
 fn default_replacement() -> &'static str
@@ -271,20 +256,4 @@ fn closing_text() -> &'static str
     ensures { result.now ≡ closing_text }
 {
     "    \"key.converter\": \"org.apache.kafka.connect.storage.StringConverter\",\n    \"value.converter\": \"org.apache.kafka.connect.storage.StringConverter\"\n  }\n}\n"
-}
-
-/// The table for PostgreSQL.
-#[tactic(auto, unfolding(crate::specs::Connect::postgresql_table_text))]
-fn postgresql_table_text() -> &'static str
-    ensures { result.now ≡ postgresql_table_text }
-{
-    "CREATE TABLE outbox (\n  id uuid PRIMARY KEY,\n  aggregatetype varchar(255) NOT NULL,\n  aggregateid varchar(255) NOT NULL,\n  type varchar(255) NOT NULL,\n  payload text NOT NULL\n);\n"
-}
-
-/// The table for MySQL.
-#[tactic(auto, unfolding(crate::specs::Connect::mysql_table_text))]
-fn mysql_table_text() -> &'static str
-    ensures { result.now ≡ mysql_table_text }
-{
-    "CREATE TABLE outbox (\n  id char(36) PRIMARY KEY,\n  aggregatetype varchar(255) NOT NULL,\n  aggregateid varchar(255) NOT NULL,\n  type varchar(255) NOT NULL,\n  payload longtext NOT NULL\n);\n"
 }

@@ -2,13 +2,11 @@
 
 ghost use Rattle.std.specs.Option.{option_map};
 ghost use Rattle.std.specs.Prelude.{◌≡◌, ◌≢◌, ◌++◌, OnOk, true};
-ghost use Rattle.std.specs.Result.{is_ok};
-ghost use Rattle.kob.specs.Connect.{connector_text};
 ghost use Rattle.kob.specs.Ending.{IsFailure};
 ghost use Rattle.kob.specs.Exporting.{IsExportable, chosen, export_by, has_export, is_exported};
 ghost use Rattle.kob.specs.Exporting.{refusal, service_named, variant_words};
 
-use crate::connect::{Database, push_connector, table_of};
+use crate::connect::{push_connector, table_of};
 use crate::ending::Ending;
 use crate::export::export_scene;
 use crate::options::ExportForm;
@@ -120,28 +118,14 @@ fn push_export(
             Err(OpenFault::Memory(refused)) => Err(ExportFault::Memory(refused)),
             Err(OpenFault::TooMany) => Err(ExportFault::TooMany),
         },
-        ExportForm::Connect(database) => push_chosen(out, database, service, &scene.services),
+        ExportForm::Connect(database) => {
+            let place = chosen(service, &scene.services)?;
+            push_connector(out, database, &scene.services, place).map_err(ExportFault::Memory)
+        }
         ExportForm::Table(database) => out
             .extend_from_slice(table_of(database).as_bytes())
             .map_err(ExportFault::Memory),
     }
-}
-
-/// The connector of the service that is chosen.
-fn push_chosen(
-    out: &mut Vec<u8>,
-    database: Database,
-    named: Option<&str>,
-    services: &[Service],
-) -> Result<(), ExportFault>
-    ensures printed { OnOk result (out.new.items ≡ out.old.items
-        ++ connector_text database (chosen (option_map (λ name. name.now) named.entry) services.now)
-        services.now) }
-    ensures chosen { OnOk result (is_ok
-        (chosen (option_map (λ name. name.now) named.entry) services.now) ≡ true) }
-{
-    let place = chosen(named, services)?;
-    push_connector(out, database, services, place).map_err(ExportFault::Memory)
 }
 
 /// The place of the service of this name, or of the only one.

@@ -1,7 +1,6 @@
 //! The logs of brokers that are asked about.
 
-ghost use Rattle.std.specs.Prelude.{◌≡◌, ◌++◌, IfOk, OnOk, codes, length};
-ghost use Rattle.std.specs.Fmt.{decimal};
+ghost use Rattle.std.specs.Prelude.{◌≡◌, ◌++◌, IfOk, OnOk, length};
 ghost use Rattle.kob.specs.Ending.{ending_of_answers};
 ghost use Rattle.kob.specs.Answers.{AreLogAnswers, IsLogAnswer, log_in, log_words};
 ghost use Rattle.kob_policy_text.specs.LogAnswers.{differs};
@@ -54,18 +53,7 @@ fn answer_log<R: AllocGlobal + Files + Input + Eprint>(
     }
 }
 
-#[tactic(auto, using(kob_words::proofs::Appending::appending))]
-fn push_log_line(out: &mut Vec<u8>, number: u64, file: &str) -> Result<(), AllocError>
-    ensures { OnOk result (out.new.items
-        ≡ out.old.items ++ (decimal number ++ codes " log " ++ file.now ++ codes "\n")) }
-{
-    push_number(out, number)?;
-    out.extend_from_slice(b" log ")?;
-    out.extend_from_slice(file.as_bytes())?;
-    out.extend_from_slice(b"\n")
-}
-
-/// The answer in words.
+/// The answer in words, below its number and the name of the file.
 #[tactic(auto, using(kob_words::proofs::Appending::appending))]
 fn push_words(
     alloc: Global,
@@ -79,7 +67,10 @@ fn push_words(
         ≡ out.old.items ++ log_words judge.now number file.now text.now) }
     ensures differs { IfOk result (λ found. found ≡ differs judge.now text.now) }
 {
-    push_log_line(out, number, file)?;
+    push_number(out, number)?;
+    out.extend_from_slice(b" log ")?;
+    out.extend_from_slice(file.as_bytes())?;
+    out.extend_from_slice(b"\n")?;
     print_log(alloc, out, judge, text)
 }
 

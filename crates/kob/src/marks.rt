@@ -53,23 +53,17 @@ fn push_hint(out: &mut Vec<u8>, hint: Option<&str>) -> Result<(), AllocError>
     }
 }
 
-fn push_shown_byte(out: &mut Vec<u8>, byte: u8) -> Result<(), AllocError>
-    ensures { OnOk result (out.new.items ≡ out.old.items ++ shown_byte byte) }
-{
-    if byte.is_ascii_graphic() || byte == b' ' {
-        out.extend_from_slice(&[byte])
-    } else {
-        push_bytes(out, &[byte])
-    }
-}
-
 /// The bytes of a word as they are in the line, blanks between quotes included; a byte that no
 /// terminal shows is written `%xx`.
 fn push_shown(out: &mut Vec<u8>, word: &[u8]) -> Result<(), AllocError>
     ensures { OnOk result (out.new.items ≡ out.old.items ++ flat_map shown_byte word.now) }
 {
     for byte in word {
-        push_shown_byte(out, *byte)?;
+        if byte.is_ascii_graphic() || *byte == b' ' {
+            out.push(*byte)?;
+        } else {
+            push_bytes(out, &[*byte])?;
+        }
     }
     Ok(())
 }

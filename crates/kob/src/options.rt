@@ -207,35 +207,22 @@ fn task_named(alloc: Global, name: &str, used: &ArgMatches<'_>) -> Result<Task, 
 {
     match name {
         "play" => Ok(Task::Play(form_in(used), values_of(alloc, used, "FILE")?)),
-        "export" => export_task(alloc, used),
+        "export" => {
+            let files = values_of(alloc, used, "FILE")?;
+            let service = value_of(alloc, used, "service")?;
+            Ok(Task::Export(export_form_in(used), service, files))
+        }
         "policy" => Ok(Task::Policy),
         "topic" => Ok(Task::Topic(values_of(alloc, used, "FILE")?)),
         _ => Ok(Task::Help(value_of(alloc, used, "SUBJECT")?)),
     }
 }
 
-fn export_task(alloc: Global, used: &ArgMatches<'_>) -> Result<Task, AllocError>
-    ensures { IfOk result (λ task. task ≡ Task.Export (export_form_in (rows_of (found_of used.now)))
-        (first_of (codes "service") (rows_of (found_of used.now)))
-        (files_in (rows_of (found_of used.now)))) }
-{
-    let files = values_of(alloc, used, "FILE")?;
-    let service = value_of(alloc, used, "service")?;
-    Ok(Task::Export(export_form_in(used), service, files))
-}
-
-/// The form of the answers that is asked for.
+/// The form of the answers that the options ask for, of which not both can be given.
 fn form_in(matches: &ArgMatches<'_>) -> Option<Form>
     ensures { result ≡ form_in (rows_of (found_of matches.now)) }
 {
-    form_by(is_given(matches, "json"), is_given(matches, "trace"))
-}
-
-/// The form by the options that are given, of which not both can be.
-fn form_by(is_json: bool, is_traced: bool) -> Option<Form>
-    ensures { result ≡ form_by is_json is_traced }
-{
-    match (is_json, is_traced) {
+    match (is_given(matches, "json"), is_given(matches, "trace")) {
         (true, _) => Some(Form::Json),
         (false, true) => Some(Form::Trace),
         (false, false) => None,
@@ -311,15 +298,7 @@ fn copies_of(alloc: Global, texts: &[&str]) -> Result<Items<Text>, AllocError>
 {
     let mut made = Vec::new(alloc);
     for text in texts {
-        push_copy(alloc, &mut made, text)?;
+        made.push(Text::copied(alloc, text)?)?;
     }
     Ok(Items::from_vec(made))
-}
-
-fn push_copy(alloc: Global, made: &mut Vec<Text>, text: &str) -> Result<(), AllocError>
-    ensures { OnOk result (made.new.items ≡ made.old.items ++ text.now ∷ []) }
-{
-    let copy = Text::copied(alloc, text)?;
-    made.push(copy)?;
-    Ok(())
 }

@@ -77,24 +77,19 @@ fn push_names(out: &mut Vec<u8>, names: &[Text]) -> Result<(), AllocError>
     out.extend_from_slice(b"\n")
 }
 
+#[tactic(auto, using(kob_words::proofs::Appending::appending))]
 fn push_each_name(out: &mut Vec<u8>, names: &[Text]) -> Result<(), AllocError>
     ensures { OnOk result (out.new.items ≡ out.old.items ++ flat_map name_text names.now) }
 {
     for name in names {
-        push_name(out, name)?;
+        out.extend_from_slice(b" ")?;
+        out.extend_from_slice(name.as_str().as_bytes())?;
     }
     Ok(())
 }
 
-#[tactic(auto, using(kob_words::proofs::Appending::appending))]
-fn push_name(out: &mut Vec<u8>, name: &Text) -> Result<(), AllocError>
-    ensures { OnOk result (out.new.items ≡ out.old.items ++ name_text name.now) }
-{
-    out.extend_from_slice(b" ")?;
-    out.extend_from_slice(name.as_str().as_bytes())
-}
-
 /// A fault: `FILE fault line LINE KIND`, or an object of JSON. A table has none.
+#[tactic(auto, using(kob_words::proofs::Appending::appending))]
 pub(crate) fn push_fault(
     alloc: Global,
     form: AnswerForm,
@@ -105,34 +100,18 @@ pub(crate) fn push_fault(
     ensures { OnOk result (out.new.items ≡ out.old.items ++ fault_in form name.now fault) }
 {
     match form {
-        AnswerForm::Words => push_fault_line(out, name, fault),
-        AnswerForm::Json => push_fault_object(alloc, out, name, fault),
+        AnswerForm::Words => {
+            out.extend_from_slice(name.as_bytes())?;
+            out.extend_from_slice(b" ")?;
+            print_fault(out, fault)
+        }
+        AnswerForm::Json => {
+            let mut rows = Vec::new(alloc);
+            rows.push(fault_row(alloc, name, fault.line, kind_text(fault.kind))?)?;
+            print_json(alloc, out, fault_columns(), &rows)
+        }
         AnswerForm::Csv => Ok(()),
     }
-}
-
-#[tactic(auto, using(kob_words::proofs::Appending::appending))]
-fn push_fault_line(out: &mut Vec<u8>, name: &str, fault: Fault) -> Result<(), AllocError>
-    ensures { OnOk result (out.new.items
-        ≡ out.old.items ++ (name.now ++ codes " " ++ fault_text fault)) }
-{
-    out.extend_from_slice(name.as_bytes())?;
-    out.extend_from_slice(b" ")?;
-    print_fault(out, fault)
-}
-
-fn push_fault_object(
-    alloc: Global,
-    out: &mut Vec<u8>,
-    name: &str,
-    fault: Fault,
-) -> Result<(), AllocError>
-    ensures { OnOk result (out.new.items ≡ out.old.items
-        ++ lines_text fault_columns (fault_row name.now fault.line (kind_text fault.kind) ∷ [])) }
-{
-    let mut rows = Vec::new(alloc);
-    rows.push(fault_row(alloc, name, fault.line, kind_text(fault.kind))?)?;
-    print_json(alloc, out, fault_columns(), &rows)
 }
 
 /// What is left out, each on a line. Beside a table it is said on standard error.
@@ -238,6 +217,7 @@ pub(crate) fn push_changes(
     }
 }
 
+/// What is moved, and the answers that change.
 fn push_words(
     alloc: Global,
     out: &mut Vec<u8>,
@@ -250,20 +230,6 @@ fn push_words(
         ≡ ending_of_changes (changes_text before.now after.now)) }
 {
     print_moved(alloc, out, before, after)?;
-    push_answered(alloc, out, before, after)
-}
-
-/// The answers that change.
-fn push_answered(
-    alloc: Global,
-    out: &mut Vec<u8>,
-    before: &Judge,
-    after: &Judge,
-) -> Result<Ending, AllocError>
-    ensures printed { OnOk result (out.new.items ≡ out.old.items ++ changes_text before.now after.now) }
-    ensures ending { IfOk result (λ ending. ending
-        ≡ ending_of_changes (changes_text before.now after.now)) }
-{
     let kept = out.len();
     print_changes(alloc, out, before, after)?;
     if out.len() == kept {

@@ -4,7 +4,7 @@ ghost use Rattle.std.specs.Prelude.{◌≡◌, ◌++◌, IfOk, codes, filter, fi
 ghost use Rattle.std.specs.List.{slice_split};
 ghost use Rattle.clap.specs.Words.{app_of, found_of, rows_of, rule_of};
 ghost use Rattle.kob.specs.CommandLine.{flag, bound, is_next, options_by, parts_by, part_app, policy_app, repeated};
-ghost use Rattle.kob.specs.Options.{answer_form_by, answer_form_in, has_meaning, is_alone, is_asked};
+ghost use Rattle.kob.specs.Options.{answer_form_in, has_meaning, is_alone, is_asked};
 ghost use Rattle.kob.specs.Options.{is_log, is_question, name_in, options_in, shared, words_of};
 
 use crate::help::HELP_POLICY;
@@ -252,17 +252,11 @@ fn name_in(word: &str) -> &str
     word.strip_prefix("log ").unwrap_or(word)
 }
 
+/// The form that the options ask for, of which not both can be given.
 fn form_in(matches: &ArgMatches<'_>) -> AnswerForm
     ensures { result ≡ answer_form_in (rows_of (found_of matches.now)) }
 {
-    answer_form_by(is_given(matches, "json"), is_given(matches, "csv"))
-}
-
-/// The form by the options that are given, of which not both can be.
-fn answer_form_by(is_json: bool, is_csv: bool) -> AnswerForm
-    ensures { result ≡ answer_form_by is_json is_csv }
-{
-    match (is_json, is_csv) {
+    match (is_given(matches, "json"), is_given(matches, "csv")) {
         (true, _) => AnswerForm::Json,
         (false, true) => AnswerForm::Csv,
         (false, false) => AnswerForm::Words,

@@ -41,8 +41,9 @@ impl Drop for End {
 pub fn end_of(alloc: Global, scene: &Scene) -> Result<End, OpenFault>
     ensures { IfOk result (λ end. seen end ≡ end_of scene.now) }
 {
+    let settings = scene.settings.copy(alloc).map_err(OpenFault::Memory)?;
     let mut end = End {
-        broker: broker_of(alloc, &scene.settings)?,
+        broker: Broker::open(alloc, settings)?,
         topics: Vec::new(alloc),
     };
     take_steps(alloc, &mut end, &scene.steps).map_err(OpenFault::Memory)?;
@@ -54,25 +55,11 @@ fn take_steps(alloc: Global, end: &mut End, steps: &[Step]) -> Result<(), AllocE
     ensures { OnOk result (seen end.new ≡ fold after_step (seen end.old) steps.now) }
 {
     for step in steps {
-        take_step(alloc, end, step)?;
+        if let Step::Request(event) = step {
+            serve(alloc, end, event)?;
+        }
     }
     Ok(())
-}
-
-fn broker_of(alloc: Global, settings: &Settings) -> Result<Broker, OpenFault>
-    ensures { IfOk result (λ broker. state_of broker ≡ open_state settings.now) }
-{
-    let settings = settings.copy(alloc).map_err(OpenFault::Memory)?;
-    Broker::open(alloc, settings)
-}
-
-fn take_step(alloc: Global, end: &mut End, step: &Step) -> Result<(), AllocError>
-    ensures { OnOk result (seen end.new ≡ after_step (seen end.old) step.now) }
-{
-    match step {
-        Step::Request(event) => serve(alloc, end, event),
-        _ => Ok(()),
-    }
 }
 
 fn serve(alloc: Global, end: &mut End, event: &Event) -> Result<(), AllocError>
@@ -93,22 +80,16 @@ fn note_topics(
         ≡ topics_after request.now reply.now topics.old.items) }
 {
     match reply {
-        Reply::Done(_) => note_done(alloc, topics, request),
+        Reply::Done(_) => match request {
+            Request::CreateTopics(asked) => push_topic(alloc, topics, asked),
+            Request::DeleteTopics(asked) => {
+                remove_topic(topics, &asked.name);
+                Ok(())
+            }
+            _ => Ok(()),
+        },
         Reply::Denied { .. } => Ok(()),
         Reply::Refused { .. } => Ok(()),
-    }
-}
-
-fn note_done(alloc: Global, topics: &mut Vec<Topic>, request: &Request) -> Result<(), AllocError>
-    ensures { OnOk result (topics.new.items ≡ topics_done request.now topics.old.items) }
-{
-    match request {
-        Request::CreateTopics(asked) => push_topic(alloc, topics, asked),
-        Request::DeleteTopics(asked) => {
-            remove_topic(topics, &asked.name);
-            Ok(())
-        }
-        _ => Ok(()),
     }
 }
 

@@ -139,20 +139,6 @@ fn push_report(
         ≡ ending_of_changes (findings_text rows.now records.now)) }
 {
     print_counts(out, rows, records)?;
-    push_findings(alloc, out, rows, records)
-}
-
-fn push_findings(
-    alloc: Global,
-    out: &mut Vec<u8>,
-    rows: &[Row],
-    records: &[Record],
-) -> Result<Ending, AllocError>
-    ensures printed { OnOk result (out.new.items
-        ≡ out.old.items ++ findings_text rows.now records.now) }
-    ensures ending { IfOk result (λ ending. ending
-        ≡ ending_of_changes (findings_text rows.now records.now)) }
-{
     let kept = out.len();
     print_findings(alloc, out, rows, records)?;
     if out.len() == kept {
