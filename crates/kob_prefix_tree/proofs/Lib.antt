@@ -1,3 +1,4 @@
+pub mod BelowLemmas
 pub mod Blocks
 pub mod Ends
 pub mod Firsts

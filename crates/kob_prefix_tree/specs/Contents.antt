@@ -188,3 +188,15 @@ ahead_of (Some a) = serials_beyond (λ key. held_in key (seen a.place)) a.name.n
 -- the serials that are left, in order
 abbrev pub left_of : Walk → List ℕ
 left_of walk = unread_of walk.serials ++ ahead_of walk.ahead
+
+-- All serials behind a place.
+
+-- those of some nodes: of each, of the nodes below it, and of the siblings after it
+abbrev pub serials_below : Tree Item → List ℕ
+serials_below leaf = []
+serials_below (node item heap c below n after) =
+    (item.literal ++ item.prefixed) ++ (serials_below below ++ serials_below after)
+
+-- those at the end of its bytes, and of the nodes there
+abbrev pub serials_behind : Place → List ℕ
+serials_behind p = (p.literal.now ++ p.prefixed.now) ++ serials_below p.below.now.nodes

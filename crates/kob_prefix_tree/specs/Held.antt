@@ -1,5 +1,5 @@
 -- What a key holds; the tree as a finite map from keys to it, and what is read along a name.
-use Rattle.std.specs.Prelude.{ℕ, Bool, false, ◌==◌, if◌then◌else◌, List, [], ◌∷◌, ◌+◌, nat_eq, length, ◌++◌, ◌≡◌, ◌≢◌, ◌≤◌, map, unwrap_or}
+use Rattle.std.specs.Prelude.{Contains, ℕ, Bool, false, ◌==◌, if◌then◌else◌, List, [], ◌∷◌, ◌+◌, nat_eq, length, ◌++◌, ◌≡◌, ◌≢◌, ◌≤◌, map, unwrap_or}
 use Rattle.std.specs.List.{list_any, flat_map}
 use Rattle.kob_prefix_tree.specs.declared.kind.PatternKind.{PatternKind}
 use Rattle.kob_prefix_tree.specs.declared.kind.PatternKind.TheVariants.{Literal, Prefixed}
@@ -102,6 +102,11 @@ removed m key kind serial = removed_all m key kind (serial ∷ [])
 -- the prefixed serials of the keys with which the name begins, and then its literal ones
 abbrev pub walk_of : PrefixMap → List ℕ → List ℕ
 walk_of m name = serials_along (held m) name
+
+-- the serial stands at some key, in one of its two lists
+abbrev pub IsHeld : (List ℕ → Held) → ℕ → Type 0
+IsHeld held_at serial =
+    (key : List ℕ) × ((kind : PatternKind) × Contains (serials_of kind (held_at key)) serial)
 
 -- one more than the length of the longest beginning of the name that begins a key in use
 abbrev pub IsLevels : PrefixMap → List ℕ → ℕ → Type 0

@@ -1,6 +1,7 @@
 //! A map from byte strings to lists of serials: a radix tree whose nodes hold up to 23 bytes each.
 #![tactic(auto)]
 
+mod below;
 mod branch;
 mod cells;
 mod in_place;

@@ -73,10 +73,11 @@ impl<'a> Place<'a> {
 
     /// The place of a key, from which longer keys continue.
     pub(crate) fn at(self, key: &[u8]) -> Option<Place<'a>>
-        ensures { MatchOption result
+        ensures held { MatchOption result
             ((more : List ℕ) → held_in (key.now ++ more) (seen self.entry) ≡ nothing)
             (λ p. (more : List ℕ)
             → held_in (key.now ++ more) (seen self.entry) ≡ held_in more (seen p)) }
+        ensures leads { IsNeat (seen self.entry).1 → IfSome result (λ p. IsNeat (seen p).1) }
     {
         let mut place = self;
         let mut rest = key;

@@ -1,9 +1,10 @@
 //! The tree, seen as a finite map from keys to serials.
-ghost use Rattle.std.specs.Prelude.{◌≡◌, ◌∷◌, ◌++◌, ◌+◌, ◌≤◌, length, OnOk, OnErr, IfOk};
+ghost use Rattle.std.specs.Prelude.{◌≡◌, ◌∷◌, ◌++◌, ◌+◌, ◌≤◌, ◌↔◌, ℕ};
+ghost use Rattle.std.specs.Prelude.{Contains, length, OnOk, OnErr, IfOk};
 ghost use Rattle.std.specs.FinMap as map;
 ghost use Rattle.kob_prefix_tree.specs.Held.{has_serial, has_serials, serials_of};
 ghost use Rattle.kob_prefix_tree.specs.Contents.{part_of, left_of};
-ghost use Rattle.kob_prefix_tree.specs.Held.{held, added, removed, removed_all, walk_of, IsLevels};
+ghost use Rattle.kob_prefix_tree.specs.Held.{held, added, removed, removed_all, walk_of, IsHeld, IsLevels};
 
 use crate::branch::Branch;
 use crate::kind::PatternKind;
@@ -187,6 +188,18 @@ impl PrefixTree {
         ensures { left_of result ≡ serials_of kind (held self.now key.now) }
     {
         self.whole().listed(key, kind)
+    }
+
+    /// The serials of both kinds of all keys that begin with a text, in no particular order. It
+    /// reads the nodes of these keys alone. The only error is out of memory.
+    pub fn below(&self, alloc: Global, text: &[u8]) -> Result<Vec<u64>, AllocError>
+        ensures { IfOk result (λ made. (serial : ℕ) → Contains made.items serial
+            ↔ IsHeld (λ key. held self.now (text.now ++ key)) serial) }
+    {
+        match self.root.place().at(text) {
+            None => Ok(Vec::new(alloc)),
+            Some(place) => place.serials_behind(alloc),
+        }
     }
 
     /// The part of the keys that begin with a text and the byte after it. Does not allocate.
