@@ -1,5 +1,5 @@
 -- Serials in order that lead to every entry that passes a test lead to these in their order.
-use Rattle.kob_authorizer.proofs.Words.{AllByRecursion, ArePatternsOf, AreRising, Binding, BindingFilter, Bool, Contains, Contains-append_left, Contains-append_right, IsRising, List, None, ResourceKind, Some, [], and_parts, ap, arith, bindings_taken, cond, entry_at, eq-eqb, false, filter, held, inl, inr, matches, matching_serials, nat_cmp, nat_tests, ne_eqb, ranked, refl, resource_decides, sym, takes, tree_of, true, ℕ, ◌+◌, ◌<◌, ◌==◌, ◌∙◌, ◌∷◌, ◌≡◌, ◌≤◌, ◌⊎◌}
+use Rattle.kob_authorizer.proofs.Words.{IsIndex, key_place, kind_in_tree, serials_of, subst, Option, PrefixMap, append_assoc, bytes_eq-Decides, ◌++◌, AllByRecursion, ArePatternsOf, AreRising, Binding, BindingFilter, Bool, Contains, Contains-append_left, Contains-append_right, IsRising, List, None, ResourceKind, Some, [], and_parts, ap, arith, bindings_taken, cond, entry_at, eq-eqb, false, filter, held, inl, inr, matches, matching_serials, nat_cmp, nat_tests, ne_eqb, ranked, refl, resource_decides, sym, takes, tree_of, true, ℕ, ◌+◌, ◌<◌, ◌==◌, ◌∙◌, ◌∷◌, ◌≡◌, ◌≤◌, ◌⊎◌}
 use Rattle.std.proofs.Common.{eqb}
 use Rattle.std.proofs.lemmas.Bool.{cases_Bool}
 use Rattle.std.proofs.lemmas.Map.Keys.{IsStrictlyIncreasing-dedup, sorted_from_strictly_increasing}
@@ -8,8 +8,11 @@ use Rattle.std.specs.List.Sorted.{IsSorted, IsStrictlySortedBy}
 use Rattle.std.specs.declared.cmp.Ordering.TheVariants.{Less}
 use Rattle.kob_names.specs.declared.filter.FilterPattern.TheVariants.{Matching}
 use Rattle.kob_authorizer.proofs.Entries.{each, none_below, of_each}
-use Rattle.kob_authorizer.proofs.Verdicts.{matched_up}
-use Rattle.kob_authorizer.specs.Leading.{RiseFrom}
+use Rattle.kob_authorizer.proofs.Verdicts.{at_its_place, matched_up}
+use Rattle.kob_authorizer.specs.Leading.{LeadToTaken, RiseFrom, StandsUnder, key_start}
+use Rattle.kob_authorizer.specs.Index.{binding_key}
+use Rattle.kob_names.specs.Filter.{takes_part}
+use Rattle.kob_names.specs.Same.{same_text}
 use Rattle.kob_authorizer.specs.declared.patterns.Patterns.{Patterns}
 
 -- the entries with these serials
@@ -183,3 +186,64 @@ matching_lead patterns wanted resource name serials of_pattern on called rise am
     (λ entry there taken.
     let parts = taken_matches wanted entry resource name of_pattern on called taken in
     among entry.0 (matched_up patterns entries indexed resource name entry there parts.0 parts.1))
+
+-- What a filter takes by a principal is among the keys that begin with it.
+
+taken_of : (wanted : BindingFilter) (entry : ℕ × Binding) (principal : List ℕ) → wanted.principal ≡ Some principal
+    → takes wanted entry.1 ≡ true → entry.1.principal ≡ principal
+taken_of wanted entry principal named taken = grind (arith, nat_tests, and_parts, bytes_eq-Decides)
+
+taken_on : (wanted : BindingFilter) (entry : ℕ × Binding) (resource : ResourceKind) → wanted.resource ≡ Some resource
+    → takes wanted entry.1 ≡ true → entry.1.resource ≡ resource
+taken_on wanted entry resource on taken = grind (arith, nat_tests, and_parts, resource_decides)
+
+-- the key of a binding that the filter takes begins so
+begins : (host : Option (List ℕ)) (binding : Binding) → takes_part same_text host binding.host ≡ true
+    → (rest : List ℕ) × (key_start binding.resource binding.principal host ++ rest ≡ binding_key binding)
+unfolding binding_key
+begins None binding taken = (binding.host ++ 255 ∷ binding.pattern.name, grind (arith, append_assoc))
+begins (Some host) binding taken =
+    let same = (bytes_eq-Decides host binding.host).0 taken in
+    (binding.pattern.name, grind (arith, append_assoc))
+
+taken_from : (wanted : BindingFilter) (entry : ℕ × Binding) → takes wanted entry.1 ≡ true
+    → takes_part same_text wanted.host entry.1.host ≡ true
+taken_from wanted entry taken = grind (arith, nat_tests, and_parts)
+
+module _ (keys : PrefixMap) (wanted : BindingFilter) (principal : List ℕ) (found ordered : List ℕ)
+    (named : wanted.principal ≡ Some principal) (rise : RiseFrom 0 ordered)
+    (among : (serial : ℕ) → Contains found serial → Contains ordered serial) where
+  -- every binding that is taken stands under such a key
+  stands : (entries : List (ℕ × Binding)) → IsIndex key_place keys entries → (entry : ℕ × Binding)
+      → Contains entries entry → takes wanted entry.1 ≡ true
+      → StandsUnder keys (key_start entry.1.resource principal wanted.host) entry.0
+  stands entries indexed entry there taken =
+      let of_it = taken_of wanted entry principal named taken in
+      let (rest, is) = begins wanted.host entry.1 (taken_from wanted entry taken) in
+      let key_is : key_start entry.1.resource principal wanted.host ++ rest ≡ binding_key entry.1 =
+      ap (λ p. key_start entry.1.resource p wanted.host ++ rest) (sym of_it) ∙ is in (
+        rest,
+        (
+          kind_in_tree entry.1.pattern.kind,
+          subst (λ key. Contains (serials_of (kind_in_tree entry.1.pattern.kind)
+              (held keys key)) entry.0) (sym key_is) (at_its_place key_place keys entries entry indexed there),
+        ),
+      )
+
+  pub principal_on_all : ((resource : ResourceKind) (serial : ℕ)
+      → StandsUnder keys (key_start resource principal wanted.host) serial → Contains found serial)
+      → LeadToTaken (IsIndex key_place keys) wanted ordered
+  principal_on_all all entries rising indexed =
+      same_passing (λ (entry : ℕ × Binding). takes wanted entry.1) rising.0 0 entries rising.1 0 ordered rise
+      (λ entry there taken. among entry.0 (all entry.1.resource entry.0 (stands entries indexed entry there taken)))
+
+  pub principal_on : (resource : ResourceKind) → wanted.resource ≡ Some resource
+      → ((serial : ℕ) → StandsUnder keys (key_start resource principal wanted.host) serial → Contains found serial)
+      → LeadToTaken (IsIndex key_place keys) wanted ordered
+  principal_on resource on all entries rising indexed =
+      same_passing (λ (entry : ℕ × Binding). takes wanted entry.1) rising.0 0 entries rising.1 0 ordered rise
+      (λ entry there taken.
+      among entry.0 (all entry.0 (subst (λ r. StandsUnder keys (key_start r principal wanted.host) entry.0)
+      (taken_on wanted entry resource on taken) (stands entries indexed entry there taken))))
+
+pub ruleset principal_lead = (principal_on_all, principal_on)

@@ -235,7 +235,7 @@ impl Authorizer {
             entries.items ≡ bindings_taken filter.now self.now.contents.entries) }
         ensures rising { IfOk result (λ entries. IsRising 1 entries.items self.now.contents.next) }
     {
-        copies_taken(alloc, self.entries.as_slice(), &self.index.patterns, filter)
+        copies_taken(alloc, self.entries.as_slice(), &self.index, filter)
     }
 
     /// Deletes the bindings that the filter selects, and returns them by ascending serial. The
@@ -270,7 +270,7 @@ impl Authorizer {
         ensures rising { IfOk result (λ made. IsRising 1 made.taken self.now.contents.next) }
         ensures ready { IfOk result (λ made. CanDelete made self.now) }
     {
-        PreparedDelete::make(alloc, self.entries.as_slice(), &self.index.patterns, filter)
+        PreparedDelete::make(alloc, self.entries.as_slice(), &self.index, filter)
     }
 
     /// The second step of [`delete`](Authorizer::delete): deletes the prepared entries and returns

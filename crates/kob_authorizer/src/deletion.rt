@@ -3,12 +3,13 @@
 ghost use Rattle.std.specs.Prelude.{◌≡◌, ◌*◌, ◌≤◌, ◌++◌, ◌∷◌, [], IfOk, OnOk, length, map};
 ghost use Rattle.std.specs.List.{filter_map};
 ghost use Rattle.kob_authorizer.specs.Deletion.{bindings_taken, bindings_left};
-ghost use Rattle.kob_authorizer.specs.Index.{ArePatternsOf, addition, key_place};
+ghost use Rattle.kob_authorizer.specs.Index.{Indexes, addition, key_place};
 ghost use Rattle.kob_authorizer.specs.Index.{AreRising, entry_at, removals_of};
 
+use crate::by_principal::leading_by_principal;
 use crate::entry_list::EntryList;
+use crate::index::Index;
 use crate::look_up::{entry_of, place_of};
-use crate::patterns::Patterns;
 use crate::removal::{KeyRemoval, Removal, key_removals, removals_of};
 use kob_names::{Binding, BindingFilter, PlainValue};
 use std::alloc::{AllocError, Global};
@@ -43,15 +44,15 @@ impl PreparedDelete {
     pub(crate) fn make(
         alloc: Global,
         entries: &[(u64, Binding)],
-        patterns: &Patterns,
+        index: &Index,
         filter: &BindingFilter,
     ) -> Result<PreparedDelete, AllocError>
         requires rising { AreRising entries.now }
-        requires indexed { ArePatternsOf patterns.now entries.now }
+        requires indexed { Indexes index.now entries.now }
         ensures filter { IfOk result (λ made. made.filter ≡ filter.now) }
         ensures taken { IfOk result (λ made. made.taken ≡ bindings_taken filter.now entries.now) }
     {
-        let taken = copies_taken(alloc, entries, patterns, filter)?;
+        let taken = copies_taken(alloc, entries, index, filter)?;
         let keys = key_removals(alloc, taken.as_slice())?;
         let removals = removals_of(alloc, taken.as_slice())?;
         let filter = filter.copy(alloc)?;
@@ -98,19 +99,26 @@ type DeletionParts = (
 
 /// Copies of the entries that the filter selects. If it names one kind of resource and one name,
 /// and few entries are at its pattern, or at the patterns that match the name, only these are
-/// examined.
+/// examined. If it names a principal that has few, only its own are.
 pub fn copies_taken(
     alloc: Global,
     entries: &[(u64, Binding)],
-    patterns: &Patterns,
+    index: &Index,
     filter: &BindingFilter,
 ) -> Result<Vec<(u64, Binding)>, AllocError>
     requires rising { AreRising entries.now }
-    requires indexed { ArePatternsOf patterns.now entries.now }
+    requires indexed { Indexes index.now entries.now }
     ensures { IfOk result (λ made. made.items ≡ bindings_taken filter.now entries.now) }
 {
-    match patterns.leading_by(alloc, filter)? {
-        Some(serials) if serials.len() < entries.len() / 8 => {
+    let few = entries.len() / 8;
+    match index.patterns.leading_by(alloc, filter)? {
+        Some(serials) if serials.len() < few => {
+            return copies_at(alloc, entries, serials.as_slice(), filter);
+        }
+        _ => {}
+    }
+    match leading_by_principal(alloc, &index.keys, filter)? {
+        Some(serials) if serials.len() < few => {
             copies_at(alloc, entries, serials.as_slice(), filter)
         }
         _ => copies_among(alloc, entries, filter),

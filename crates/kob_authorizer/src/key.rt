@@ -47,7 +47,7 @@ pub fn write_key(key: &mut Vec<u8>, binding: &Binding) -> Result<(), AllocError>
 }
 
 /// The byte of a kind of resource, with which the keys of the bindings on it begin.
-fn kind_byte(resource: ResourceKind) -> u8
+pub fn kind_byte(resource: ResourceKind) -> u8
     ensures { result ≡ kind_byte resource }
 {
     match resource {

@@ -3,6 +3,7 @@
 
 mod at_once;
 mod authorizer;
+mod by_principal;
 mod candidate;
 mod creation;
 mod deletion;

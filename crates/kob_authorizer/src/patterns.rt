@@ -4,7 +4,7 @@ ghost use Rattle.std.specs.Prelude.{◌≡◌, ℕ, Contains, IfOk, IfSome, OnOk
 ghost use Rattle.std.specs.List.{fold};
 ghost use Rattle.std.specs.Option.{option_map};
 ghost use Rattle.kob_prefix_tree.specs.Contents.{left_of};
-ghost use Rattle.kob_authorizer.specs.Index.{no_patterns, patterns_of, tree_of};
+ghost use Rattle.kob_authorizer.specs.Index.{ArePatternsOf, no_patterns, patterns_of, tree_of};
 ghost use Rattle.kob_authorizer.specs.Index.{with_entry, with_pattern, listed_by};
 ghost use Rattle.kob_authorizer.specs.Index.{serials_beside, without_removal};
 ghost use Rattle.kob_authorizer.specs.Index.{matching_serials};
@@ -76,7 +76,7 @@ impl Patterns {
         filter: &BindingFilter,
     ) -> Result<Option<Vec<u64>>, AllocError>
         ensures { IfOk result (λ made. IfSome made (λ serials.
-            LeadToTaken self.now filter.now serials.items)) }
+            LeadToTaken (ArePatternsOf self.now) filter.now serials.items)) }
     {
         match filter.pattern {
             FilterPattern::Matching => self.matching_by(alloc, filter),
@@ -96,7 +96,7 @@ impl Patterns {
     ) -> Result<Option<Vec<u64>>, AllocError>
         requires { filter.now.pattern ≡ FilterPattern.Matching }
         ensures { IfOk result (λ made. IfSome made (λ serials.
-            LeadToTaken self.now filter.now serials.items)) }
+            LeadToTaken (ArePatternsOf self.now) filter.now serials.items)) }
     {
         match (filter.resource, &filter.name) {
             (Some(resource), Some(name)) => {
@@ -212,7 +212,7 @@ fn walked(alloc: Global, tree: &PrefixTree, name: &[u8]) -> Result<Vec<u64>, All
 }
 
 /// The serials in order, each once.
-fn in_order(mut serials: Vec<u64>) -> Vec<u64>
+pub fn in_order(mut serials: Vec<u64>) -> Vec<u64>
     ensures rising { RiseFrom 0 result.items }
     ensures all { (serial : ℕ) → Contains serials.items serial → Contains result.items serial }
 {
