@@ -32,7 +32,8 @@ fn push_reply(out: &mut Vec<u8>, number: u64, reply: &Reply) -> Result<(), Alloc
 {
     push_number(out, number)?;
     push_parts(out, reply)?;
-    out.extend_from_slice(b"\n")
+    out.push(b'\n')?;
+    Ok(())
 }
 
 /// Prints a reply without a number or a line feed: `ok ..`, `denied ..` or `refused ..`. On an error
@@ -58,13 +59,13 @@ fn push_parts(out: &mut Vec<u8>, reply: &Reply) -> Result<(), AllocError>
         Reply::Denied { code, verdicts } => {
             out.extend_from_slice(b" denied ")?;
             push_code(out, *code)?;
-            out.extend_from_slice(b" ")?;
+            out.push(b' ')?;
             push_verdicts(out, verdicts.as_slice())
         }
         Reply::Refused { code, reason } => {
             out.extend_from_slice(b" refused ")?;
             push_code(out, *code)?;
-            out.extend_from_slice(b" ")?;
+            out.push(b' ')?;
             out.extend_from_slice(reason.name().as_bytes())
         }
     }
@@ -75,7 +76,7 @@ fn push_code(out: &mut Vec<u8>, code: Code) -> Result<(), AllocError>
     ensures kept { OnErr result (IsKept out.old.items out.new.items) }
 {
     push_number(out, code.number())?;
-    out.extend_from_slice(b" ")?;
+    out.push(b' ')?;
     out.extend_from_slice(code.name().as_bytes())
 }
 
@@ -164,7 +165,7 @@ impl Item for Verdict {
     ghost text = { verdict_item };
 
     fn push(&self, out: &mut Vec<u8>) -> Result<(), AllocError> {
-        out.extend_from_slice(b",")?;
+        out.push(b',')?;
         push_verdict(out, *self)
     }
 }
@@ -250,9 +251,10 @@ fn push_fault(out: &mut Vec<u8>, fault: Fault) -> Result<(), AllocError>
     ensures kept { OnErr result (IsKept out.old.items out.new.items) }
 {
     push_labelled(out, b"fault line ", fault.line)?;
-    out.extend_from_slice(b" ")?;
+    out.push(b' ')?;
     out.extend_from_slice(kind_text(fault.kind).as_bytes())?;
-    out.extend_from_slice(b"\n")
+    out.push(b'\n')?;
+    Ok(())
 }
 
 /// The name of a kind of fault, as it is printed.

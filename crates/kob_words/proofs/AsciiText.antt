@@ -5,6 +5,7 @@ use Rattle.std.specs.Fmt.{decimal}
 use Rattle.std.specs.List.{list_all}
 use Rattle.std.specs.Str.{IsAscii}
 use Rattle.std.proofs.lemmas.Bool.Decides.{nat_tests}
+use Rattle.std.proofs.lemmas.Fmt.{IsAscii-decimal, decimal_digit}
 use Rattle.std.proofs.lemmas.Str.{IsAscii-append}
 use Rattle.std.proofs.lemmas.Str.Ascii.{IsAscii-nil, IsAscii-cons}
 use Rattle.kob_names.specs.Binding.{Binding}
@@ -17,6 +18,9 @@ use Rattle.kob_names.specs.declared.kinds.Permission.TheVariants.{Allow, Deny}
 use Rattle.kob_names.specs.declared.kinds.ResourceKind.{ResourceKind}
 use Rattle.kob_names.specs.declared.kinds.ResourceKind.TheVariants.{Topic, Group, Cluster, TransactionalId}
 use Rattle.kob_words.specs.Words.{grant_text, target_text, binding_text, operation_name, resource_name, pattern_name, permission_name, bytes_text}
+
+-- a number below ten is printed as one digit
+pub ruleset one_digit = (decimal_digit, IsAscii-decimal)
 
 -- a literal text passes the test by computing
 literal : (text : List ℕ) → list_all is_ascii text ≡ true → IsAscii text

@@ -33,9 +33,9 @@ fn push_binding(out: &mut Vec<u8>, serial: u64, binding: &Binding) -> Result<(),
     let parts = binding.parts();
     out.extend_from_slice(b"binding ")?;
     push_number(out, serial)?;
-    out.extend_from_slice(b" ")?;
+    out.push(b' ')?;
     push_grant(out, parts)?;
-    out.extend_from_slice(b" ")?;
+    out.push(b' ')?;
     push_target(out, parts)
 }
 
@@ -46,11 +46,11 @@ fn push_grant(out: &mut Vec<u8>, binding: &Draft) -> Result<(), AllocError>
     ensures kept { OnErr result (IsKept out.old.items out.new.items) }
 {
     out.extend_from_slice(permission_name(binding.permission).as_bytes())?;
-    out.extend_from_slice(b" ")?;
+    out.push(b' ')?;
     push_bytes(out, binding.principal.as_str().as_bytes())?;
-    out.extend_from_slice(b" ")?;
+    out.push(b' ')?;
     push_bytes(out, binding.host.as_str().as_bytes())?;
-    out.extend_from_slice(b" ")?;
+    out.push(b' ')?;
     out.extend_from_slice(operation_name(binding.operation).as_bytes())
 }
 
@@ -61,8 +61,8 @@ fn push_target(out: &mut Vec<u8>, binding: &Draft) -> Result<(), AllocError>
     ensures kept { OnErr result (IsKept out.old.items out.new.items) }
 {
     out.extend_from_slice(resource_name(binding.resource).as_bytes())?;
-    out.extend_from_slice(b" ")?;
+    out.push(b' ')?;
     out.extend_from_slice(pattern_name(binding.pattern.kind).as_bytes())?;
-    out.extend_from_slice(b" ")?;
+    out.push(b' ')?;
     push_bytes(out, binding.pattern.name.as_str().as_bytes())
 }

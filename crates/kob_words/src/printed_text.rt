@@ -125,7 +125,7 @@ pub fn push_spaced(out: &mut Vec<u8>, text: &[u8]) -> Result<(), AllocError>
     ensures text { OnOk result (out.new.items ≡ out.old.items ++ spaced text.now) }
     ensures kept { OnErr result (IsKept out.old.items out.new.items) }
 {
-    out.extend_from_slice(b" ")?;
+    out.push(b' ')?;
     push_bytes(out, text)
 }
 
@@ -135,16 +135,21 @@ pub fn push_counted(out: &mut Vec<u8>, number: u64) -> Result<(), AllocError>
     ensures text { OnOk result (out.new.items ≡ out.old.items ++ counted number) }
     ensures kept { OnErr result (IsKept out.old.items out.new.items) }
 {
-    out.extend_from_slice(b" ")?;
+    out.push(b' ')?;
     push_number(out, number)
 }
 
 /// Prints a number in decimal digits. On an error `out` is as it was.
+#[tactic(auto, using(crate::proofs::AsciiText::one_digit))]
 pub fn push_number(out: &mut Vec<u8>, number: u64) -> Result<(), AllocError>
     ensures text { OnOk result (out.new.items ≡ out.old.items ++ decimal number) }
     ensures ascii { OnOk result (IsAscii (decimal number)) }
     ensures same { OnErr result (out.new.items ≡ out.old.items) }
 {
+    if number < 10 {
+        out.push(b'0' + number as u8)?;
+        return Ok(());
+    }
     let mut digits = Buffer::new();
     out.extend_from_slice(digits.format(number).as_bytes())
 }
