@@ -1,8 +1,7 @@
 //! The operations on each resource that the options of a command line mean.
 
-ghost use Rattle.std.specs.Prelude.{◌≡◌, ◌++◌, ◌∷◌, [], map, OnOk, IfOk};
+ghost use Rattle.std.specs.Prelude.{◌≡◌, ◌++◌, ◌∷◌, [], OnOk, IfOk};
 ghost use Rattle.kob_names.specs.declared.kinds.Operation.TheVariants.{IdempotentWrite};
-ghost use Rattle.kob_names.specs.declared.kinds.ResourceKind.TheVariants.{Topic};
 ghost use Rattle.kob_acl_cli.specs.Commands.{access, accesses, accesses_to, cluster};
 ghost use Rattle.kob_acl_cli.specs.Commands.{convenience_accesses, targets_named, topic_operations};
 
@@ -30,28 +29,13 @@ pub fn accesses(
     ensures { IfOk result (λ made. made.items ≡ accesses pattern operations.now args.now) }
 {
     let mut made = Vec::new(alloc);
-    if let Err(error) = push_all(alloc, &mut made, args, pattern, operations) {
-        drop(made);
-        return Err(error);
+    if has_convenience(args) {
+        push_convenience(alloc, &mut made, args, pattern)?;
+    } else {
+        let named = targets(alloc, args, pattern)?;
+        push_accesses(alloc, &mut made, operations, named.as_slice())?;
     }
     Ok(made)
-}
-
-fn push_all(
-    alloc: Global,
-    made: &mut Vec<Access>,
-    args: &CliArgs,
-    pattern: FilterPattern,
-    operations: &[Operation],
-) -> Result<(), AllocError>
-    ensures { OnOk result
-        (made.new.items ≡ made.old.items ++ accesses pattern operations.now args.now) }
-{
-    if has_convenience(args) {
-        return push_convenience(alloc, made, args, pattern);
-    }
-    let named = targets(alloc, args, pattern)?;
-    push_accesses(alloc, made, operations, named.as_slice())
 }
 
 fn push_convenience(
@@ -63,7 +47,16 @@ fn push_convenience(
     ensures { OnOk result
         (made.new.items ≡ made.old.items ++ convenience_accesses pattern args.now) }
 {
-    push_on_topics(alloc, made, args, pattern)?;
+    let on_topics = topic_operations(alloc, args)?;
+    let kind = ResourceKind::Topic;
+    push_named(
+        alloc,
+        made,
+        on_topics.as_slice(),
+        kind,
+        pattern,
+        &args.topics,
+    )?;
     if args.consumer {
         push_named(
             alloc,
@@ -78,27 +71,6 @@ fn push_convenience(
         push_on_cluster(alloc, made)?;
     }
     Ok(())
-}
-
-fn push_on_topics(
-    alloc: Global,
-    made: &mut Vec<Access>,
-    args: &CliArgs,
-    pattern: FilterPattern,
-) -> Result<(), AllocError>
-    ensures { OnOk result (made.new.items ≡ made.old.items
-        ++ accesses_to (topic_operations args.now) (targets_named Topic pattern args.now.topics)) }
-{
-    let operations = topic_operations(alloc, args)?;
-    let kind = ResourceKind::Topic;
-    push_named(
-        alloc,
-        made,
-        operations.as_slice(),
-        kind,
-        pattern,
-        &args.topics,
-    )
 }
 
 fn push_named(

@@ -52,10 +52,14 @@ fn commands_by(alloc: Global, args: &CliArgs, parts: &Parts) -> Result<Vec<AclCo
 {
     if args.add {
         creation(alloc, args, parts)
-    } else if args.remove {
-        removals(alloc, args, parts)
+    } else if !args.remove {
+        let named = targets(alloc, args, parts.pattern)?;
+        let wanted = each_or_any(alloc, named.as_slice())?;
+        listings_of(alloc, wanted.as_slice(), parts.principals.as_slice())
+    } else if has_holder(args) {
+        removals_of_rules(alloc, rules(alloc, args, parts)?)
     } else {
-        listings(alloc, args, parts)
+        removals_on(alloc, targets(alloc, args, parts.pattern)?)
     }
 }
 
@@ -78,16 +82,6 @@ fn creation(alloc: Global, args: &CliArgs, parts: &Parts) -> Result<Vec<AclComma
     Ok(made)
 }
 
-fn removals(alloc: Global, args: &CliArgs, parts: &Parts) -> Result<Vec<AclCommand>, AllocError>
-    ensures { IfOk result (λ made. made.items ≡ commands.removals parts.now args.now) }
-{
-    if has_holder(args) {
-        removals_of_rules(alloc, rules(alloc, args, parts)?)
-    } else {
-        removals_on(alloc, targets(alloc, args, parts.pattern)?)
-    }
-}
-
 fn removals_of_rules(alloc: Global, rules: Vec<Rule>) -> Result<Vec<AclCommand>, AllocError>
     ensures { IfOk result (λ made. made.items ≡ map commands.removal rules.items) }
 {
@@ -107,14 +101,6 @@ fn removals_on(alloc: Global, targets: Vec<Target>) -> Result<Vec<AclCommand>, A
         made.push(AclCommand::Delete(filter))?;
     }
     Ok(made)
-}
-
-fn listings(alloc: Global, args: &CliArgs, parts: &Parts) -> Result<Vec<AclCommand>, AllocError>
-    ensures { IfOk result (λ made. made.items ≡ commands.listings parts.now args.now) }
-{
-    let named = targets(alloc, args, parts.pattern)?;
-    let wanted = each_or_any(alloc, named.as_slice())?;
-    listings_of(alloc, wanted.as_slice(), parts.principals.as_slice())
 }
 
 fn listings_of(

@@ -1,10 +1,9 @@
 //! Reading the words of a command line by `clap`.
 
-ghost use Rattle.std.specs.Prelude.{◌≡◌, ◌++◌, ◌∷◌, [], true, alloc_error, IfOk, IfErr, OnOk};
+ghost use Rattle.std.specs.Prelude.{◌≡◌, [], true, alloc_error, IfOk, IfErr};
 ghost use Rattle.clap.specs.Words.{app_of, first_of, found_of, kind_of, rows_of};
 ghost use Rattle.kob_acl_cli.specs.Lines.{IsFlag, IsReadOf, is_taken, line_app, line_fault};
-ghost use Rattle.kob_acl_cli.specs.Lines.{refusals};
-ghost use Rattle.kob_acl_cli.specs.Lines.{rows_of_line, texts, values_of, with_options, with_texts};
+ghost use Rattle.kob_acl_cli.specs.Lines.{refusals, rows_of_line, texts, values_of, with_options};
 
 use crate::args::CliArgs;
 use crate::fault::LineFault;
@@ -104,17 +103,17 @@ fn fault_of(error: &Error) -> LineFault
 fn args_of(alloc: Global, matches: &ArgMatches<'_>) -> Result<CliArgs, AllocError>
     ensures { IfOk result (λ args. IsReadOf (rows_of (found_of matches.now)) args) }
 {
-    let mut args = CliArgs {
-        allow_principals: Items::from_vec(Vec::new(alloc)),
-        deny_principals: Items::from_vec(Vec::new(alloc)),
-        allow_hosts: Items::from_vec(Vec::new(alloc)),
-        deny_hosts: Items::from_vec(Vec::new(alloc)),
-        operations: Items::from_vec(Vec::new(alloc)),
-        topics: Items::from_vec(Vec::new(alloc)),
-        groups: Items::from_vec(Vec::new(alloc)),
-        transactional_ids: Items::from_vec(Vec::new(alloc)),
-        principals: Items::from_vec(Vec::new(alloc)),
-        pattern_type: None,
+    Ok(CliArgs {
+        allow_principals: texts_of(alloc, matches, "allow-principal")?,
+        deny_principals: texts_of(alloc, matches, "deny-principal")?,
+        allow_hosts: texts_of(alloc, matches, "allow-host")?,
+        deny_hosts: texts_of(alloc, matches, "deny-host")?,
+        operations: texts_of(alloc, matches, "operation")?,
+        topics: texts_of(alloc, matches, "topic")?,
+        groups: texts_of(alloc, matches, "group")?,
+        transactional_ids: texts_of(alloc, matches, "transactional-id")?,
+        principals: texts_of(alloc, matches, "principal")?,
+        pattern_type: text_of(alloc, matches, "resource-pattern-type")?,
         add: flag_of(matches, "add"),
         remove: flag_of(matches, "remove"),
         list: flag_of(matches, "list"),
@@ -122,51 +121,7 @@ fn args_of(alloc: Global, matches: &ArgMatches<'_>) -> Result<CliArgs, AllocErro
         producer: flag_of(matches, "producer"),
         consumer: flag_of(matches, "consumer"),
         idempotent: flag_of(matches, "idempotent"),
-    };
-    if let Err(error) = fill_texts(alloc, matches, &mut args) {
-        drop(args);
-        return Err(error);
-    }
-    Ok(args)
-}
-
-/// Copies the texts of a line into its options, and leaves the flags as they are.
-fn fill_texts(alloc: Global, matches: &ArgMatches<'_>, args: &mut CliArgs) -> Result<(), AllocError>
-    ensures { OnOk result (args.new ≡ with_texts (rows_of (found_of matches.now)) args.old) }
-{
-    set_texts(
-        alloc,
-        matches,
-        "allow-principal",
-        &mut args.allow_principals,
-    )?;
-    set_texts(alloc, matches, "deny-principal", &mut args.deny_principals)?;
-    set_texts(alloc, matches, "allow-host", &mut args.allow_hosts)?;
-    set_texts(alloc, matches, "deny-host", &mut args.deny_hosts)?;
-    set_texts(alloc, matches, "operation", &mut args.operations)?;
-    set_texts(alloc, matches, "topic", &mut args.topics)?;
-    set_texts(alloc, matches, "group", &mut args.groups)?;
-    set_texts(
-        alloc,
-        matches,
-        "transactional-id",
-        &mut args.transactional_ids,
-    )?;
-    set_texts(alloc, matches, "principal", &mut args.principals)?;
-    args.pattern_type = text_of(alloc, matches, "resource-pattern-type")?;
-    Ok(())
-}
-
-fn set_texts(
-    alloc: Global,
-    matches: &ArgMatches<'_>,
-    id: &str,
-    texts: &mut Items<Text>,
-) -> Result<(), AllocError>
-    ensures { OnOk result (texts.new ≡ values_of (rows_of (found_of matches.now)) id.now) }
-{
-    *texts = texts_of(alloc, matches, id)?;
-    Ok(())
+    })
 }
 
 fn texts_of(alloc: Global, matches: &ArgMatches<'_>, id: &str) -> Result<Items<Text>, AllocError>
@@ -183,21 +138,9 @@ fn copies_of(alloc: Global, values: &[&str]) -> Result<Items<Text>, AllocError>
 {
     let mut made = Vec::new(alloc);
     for value in values {
-        if let Err(error) = put_copy(alloc, &mut made, value) {
-            drop(made);
-            return Err(error);
-        }
+        made.push(Text::copied(alloc, value)?)?;
     }
     Ok(Items::from_vec(made))
-}
-
-/// Appends a copy of a text.
-fn put_copy(alloc: Global, made: &mut Vec<Text>, value: &str) -> Result<(), AllocError>
-    ensures { OnOk result (made.new.items ≡ made.old.items ++ value.now ∷ []) }
-{
-    let copy = Text::copied(alloc, value)?;
-    made.push(copy)?;
-    Ok(())
 }
 
 fn text_of(alloc: Global, matches: &ArgMatches<'_>, id: &str) -> Result<Option<Text>, AllocError>

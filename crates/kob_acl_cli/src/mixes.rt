@@ -20,38 +20,31 @@ pub fn refusal(args: &CliArgs) -> Option<CommandFault>
     ensures first { IfSome result (λ fault. IsFirstFault (mixes.refusals args.now) fault) }
     ensures none { result ≡ None → mixes.refusals args.now ≡ [] }
 {
-    if is_bad_mix(args) {
+    if is_bad_mix_of_holders(args)
+        || is_bad_mix_of_action(args)
+        || is_bad_mix_of_convenience(args)
+    {
         Some(CommandFault::BadMix)
     } else if lacks_resource(args) {
         Some(CommandFault::NoResource)
-    } else if lacks_principal(args) {
+    } else if (args.add || has_convenience(args)) && !has_holder(args) {
         Some(CommandFault::NoPrincipal)
     } else {
         None
     }
 }
 
-/// Whether options are used together that may not be.
-fn is_bad_mix(args: &CliArgs) -> bool
-    ensures { result ≡ mixes.is_bad_mix args.now }
-{
-    is_bad_mix_of_holders(args) || is_bad_mix_of_action(args) || is_bad_mix_of_convenience(args)
-}
-
 /// Whether the options need a resource that is not given.
 fn lacks_resource(args: &CliArgs) -> bool
     ensures { result ≡ mixes.lacks_resource args.now }
 {
-    (args.add || args.remove) && !has_resource(args)
+    let has_resource = is_given(&args.topics)
+        || is_given(&args.groups)
+        || args.cluster
+        || is_given(&args.transactional_ids);
+    (args.add || args.remove) && !has_resource
         || args.producer && !is_given(&args.topics)
         || args.consumer && !(is_given(&args.topics) && is_given(&args.groups))
-}
-
-/// Whether the options need a principal that is not given.
-fn lacks_principal(args: &CliArgs) -> bool
-    ensures { result ≡ mixes.lacks_principal args.now }
-{
-    (args.add || has_convenience(args)) && !has_holder(args)
 }
 
 /// Whether `--allow-principal` or `--deny-principal` is given.
@@ -74,15 +67,6 @@ fn is_given(texts: &Items<Text>) -> bool
     texts.len() > 0
 }
 
-fn has_resource(args: &CliArgs) -> bool
-    ensures { result ≡ mixes.has_resource args.now }
-{
-    is_given(&args.topics)
-        || is_given(&args.groups)
-        || args.cluster
-        || is_given(&args.transactional_ids)
-}
-
 fn is_bad_mix_of_holders(args: &CliArgs) -> bool
     ensures { result ≡ mixes.is_bad_mix_of_holders args.now }
 {
@@ -96,13 +80,24 @@ fn is_bad_mix_of_action(args: &CliArgs) -> bool
 {
     args.add && is_for_filters(&args.pattern_type)
         || is_given(&args.principals) && !args.list
-        || args.list && speaks_of_bindings(args)
+        || args.list
+            && (has_holder(args)
+                || is_given(&args.allow_hosts)
+                || is_given(&args.deny_hosts)
+                || is_given(&args.operations)
+                || has_convenience(args)
+                || args.idempotent)
 }
 
 fn is_bad_mix_of_convenience(args: &CliArgs) -> bool
     ensures { result ≡ mixes.is_bad_mix_of_convenience args.now }
 {
-    has_convenience(args) && speaks_of_others(args)
+    has_convenience(args)
+        && (is_given(&args.deny_principals)
+            || is_given(&args.deny_hosts)
+            || is_given(&args.operations)
+            || args.cluster
+            || is_given(&args.transactional_ids))
         || args.idempotent && !args.producer
         || is_given(&args.groups) && args.producer && !args.consumer
 }
@@ -117,30 +112,4 @@ fn is_for_filters(pattern_type: &Option<Text>) -> bool
             word.eq_ignore_ascii_case("any") || word.eq_ignore_ascii_case("match")
         }
     }
-}
-
-fn speaks_of_bindings(args: &CliArgs) -> bool
-    ensures { result ≡ mixes.speaks_of_bindings args.now }
-{
-    has_holder(args)
-        || has_host(args)
-        || is_given(&args.operations)
-        || has_convenience(args)
-        || args.idempotent
-}
-
-fn has_host(args: &CliArgs) -> bool
-    ensures { result ≡ mixes.has_host args.now }
-{
-    is_given(&args.allow_hosts) || is_given(&args.deny_hosts)
-}
-
-fn speaks_of_others(args: &CliArgs) -> bool
-    ensures { result ≡ mixes.speaks_of_others args.now }
-{
-    is_given(&args.deny_principals)
-        || is_given(&args.deny_hosts)
-        || is_given(&args.operations)
-        || args.cluster
-        || is_given(&args.transactional_ids)
 }

@@ -34,7 +34,12 @@ impl Rule {
             operation: self.operation,
             resource: self.target.kind,
             pattern: Pattern {
-                kind: pattern_kind(self.target.pattern),
+                kind: match self.target.pattern {
+                    FilterPattern::Prefixed => PatternKind::Prefixed,
+                    FilterPattern::Literal | FilterPattern::Any | FilterPattern::Matching => {
+                        PatternKind::Literal
+                    }
+                },
                 name: self.target.name,
             },
         }
@@ -129,15 +134,4 @@ fn push_on_host(
         })?;
     }
     Ok(())
-}
-
-fn pattern_kind(pattern: FilterPattern) -> PatternKind
-    ensures { result ≡ rules.pattern_kind pattern }
-{
-    match pattern {
-        FilterPattern::Prefixed => PatternKind::Prefixed,
-        FilterPattern::Literal | FilterPattern::Any | FilterPattern::Matching => {
-            PatternKind::Literal
-        }
-    }
 }
