@@ -3,7 +3,6 @@
 ghost use Rattle.std.specs.Prelude.{◌≡◌};
 ghost use Rattle.std.specs.List.{find};
 ghost use Rattle.std.specs.Option.{option_copied};
-ghost use Rattle.uuid.specs.Text.{parsed};
 ghost use Rattle.kob_router.specs.Route.{event_id, is_id};
 
 use kob_names::{Header, Record};
@@ -17,7 +16,7 @@ pub fn event_id(sent: &Record) -> Option<Uuid>
     ensures { result ≡ event_id sent.now }
 {
     let header = id_header(sent.headers.as_slice())?;
-    read_id(header.value.as_slice())
+    Uuid::try_parse_ascii(header.value.as_slice()).ok()
 }
 
 /// The first header named `id`.
@@ -25,11 +24,4 @@ fn id_header(headers: &[Header]) -> Option<&Header>
     ensures { option_copied result ≡ find is_id headers.now }
 {
     headers.iter().find(|header| header.name.as_str() == "id")
-}
-
-/// The UUID of a text, if it is one.
-fn read_id(text: &[u8]) -> Option<Uuid>
-    ensures { result ≡ parsed text.now }
-{
-    Uuid::try_parse_ascii(text).ok()
 }

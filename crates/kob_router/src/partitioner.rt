@@ -1,8 +1,8 @@
 //! The partition of a key, as Kafka's default partitioner picks it.
 
-ghost use Rattle.std.specs.Prelude.{◌≡◌, ◌<◌, ◌+◌, ◌≤◌, length, slice_index};
-ghost use Rattle.kob_router.specs.Run.{last_mix, murmur2, partition_of, with_bytes};
-ghost use Rattle.kob_router.specs.Run.{with_rest, with_upper_bits, with_word, word};
+ghost use Rattle.std.specs.Prelude.{◌≡◌, ◌<◌};
+ghost use Rattle.kob_router.specs.Run.{murmur2, partition_of, with_bytes};
+ghost use Rattle.kob_router.specs.Run.{with_rest, with_upper_bits, with_word};
 
 const FACTOR: u32 = 0x5bd1e995;
 
@@ -23,7 +23,8 @@ fn murmur2(bytes: &[u8]) -> u32
     ensures { result ≡ murmur2 bytes.now }
 {
     let length = (bytes.len() % 0x1_0000_0000) as u32;
-    finished(with_bytes(SEED ^ length, bytes))
+    let hash = with_bytes(SEED ^ length, bytes);
+    with_upper_bits(with_upper_bits(hash, 13).wrapping_mul(FACTOR), 15)
 }
 
 fn with_bytes(start: u32, bytes: &[u8]) -> u32
@@ -32,22 +33,20 @@ fn with_bytes(start: u32, bytes: &[u8]) -> u32
     let mut hash = start;
     let mut at: usize = 0;
     while bytes.len() - at >= 4 {
-        hash = with_word(hash, word_at(bytes, at));
+        let word = bytes[at] as u32
+            + 0x100 * bytes[at + 1] as u32
+            + 0x1_0000 * bytes[at + 2] as u32
+            + 0x100_0000 * bytes[at + 3] as u32;
+        hash = with_word(hash, word);
         at += 4;
     }
-    with_last_bytes(hash, &bytes[at..])
-}
-
-/// The four bytes from a place on, the lowest first.
-fn word_at(bytes: &[u8], at: usize) -> u32
-    requires { at + 4 ≤ length bytes.now }
-    ensures { result ≡ word (slice_index bytes.now at) (slice_index bytes.now (at + 1))
-        (slice_index bytes.now (at + 2)) (slice_index bytes.now (at + 3)) }
-{
-    bytes[at] as u32
-        + 0x100 * bytes[at + 1] as u32
-        + 0x1_0000 * bytes[at + 2] as u32
-        + 0x100_0000 * bytes[at + 3] as u32
+    match &bytes[at..] {
+        [] => hash,
+        [a] => with_rest(hash, *a as u32),
+        [a, b] => with_rest(hash, *a as u32 + 0x100 * *b as u32),
+        [a, b, c] => with_rest(hash, *a as u32 + 0x100 * *b as u32 + 0x1_0000 * *c as u32),
+        _ => unreachable!(),
+    }
 }
 
 fn with_word(hash: u32, word: u32) -> u32
@@ -64,27 +63,8 @@ fn with_upper_bits(number: u32, bits: u32) -> u32
     number ^ (number >> bits)
 }
 
-fn with_last_bytes(hash: u32, bytes: &[u8]) -> u32
-    requires { length bytes.now < 4 }
-    ensures { result ≡ with_bytes hash bytes.now }
-{
-    match bytes {
-        [] => hash,
-        [a] => with_rest(hash, *a as u32),
-        [a, b] => with_rest(hash, *a as u32 + 0x100 * *b as u32),
-        [a, b, c] => with_rest(hash, *a as u32 + 0x100 * *b as u32 + 0x1_0000 * *c as u32),
-        _ => unreachable!(),
-    }
-}
-
 fn with_rest(hash: u32, rest: u32) -> u32
     ensures { result ≡ with_rest hash rest }
 {
     (hash ^ rest).wrapping_mul(FACTOR)
-}
-
-fn finished(hash: u32) -> u32
-    ensures { result ≡ last_mix hash }
-{
-    with_upper_bits(with_upper_bits(hash, 13).wrapping_mul(FACTOR), 15)
 }

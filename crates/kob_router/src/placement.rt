@@ -1,8 +1,8 @@
 //! Which columns of a row are sent as headers.
 
-ghost use Rattle.std.specs.Prelude.{◌≡◌, ◌==◌, IfOk, map};
+ghost use Rattle.std.specs.Prelude.{◌≡◌, ◌<◌, ◌==◌, IfOk, map};
 ghost use Rattle.std.specs.List.{slice_split};
-ghost use Rattle.kob_router.specs.Route.{OkIfSome, column_named, each_entry, entries_of, entry_of};
+ghost use Rattle.kob_router.specs.Route.{OkIfSome, column_named, each_entry, entries_of};
 ghost use Rattle.kob_router.specs.Route.{entry_of_parts, is_alias, placed_as};
 
 use crate::fault::RouteFault;
@@ -54,25 +54,20 @@ pub(crate) fn entries_of(alloc: Global, text: &str) -> Result<Items<Placed>, Rou
     if text.is_empty() {
         return Ok(Items::from_vec(Vec::new(alloc)));
     }
-    let texts = cut_at_commas(alloc, text)?;
+    let texts = cut_at(alloc, text, ',')?;
     if texts.len() > ENTRY_LIMIT {
         return Err(RouteFault::BadPlacement);
     }
     each_entry(alloc, &texts)
 }
 
-fn cut_at_commas(alloc: Global, text: &str) -> Result<Vec<&str>, AllocError>
-    ensures { IfOk result (λ parts.
-        map (λ part. part.now) parts.items ≡ slice_split (λ byte. byte == 44) text.now) }
+/// The parts of a text between separators, which are of one byte.
+fn cut_at(alloc: Global, text: &str, separator: char) -> Result<Vec<&str>, AllocError>
+    requires { separator < 128 }
+    ensures { IfOk result (λ parts. map (λ part. part.now) parts.items
+        ≡ slice_split (λ byte. byte == separator) text.now) }
 {
-    text.split(',').collect(alloc)
-}
-
-fn cut_at_colons(alloc: Global, text: &str) -> Result<Vec<&str>, AllocError>
-    ensures { IfOk result (λ parts.
-        map (λ part. part.now) parts.items ≡ slice_split (λ byte. byte == 58) text.now) }
-{
-    text.split(':').collect(alloc)
+    text.split(separator).collect(alloc)
 }
 
 fn each_entry(alloc: Global, texts: &[&str]) -> Result<Items<Placed>, RouteFault>
@@ -81,17 +76,10 @@ fn each_entry(alloc: Global, texts: &[&str]) -> Result<Items<Placed>, RouteFault
 {
     let mut entries = Vec::new(alloc);
     for text in texts {
-        let entry = entry_of(alloc, text)?;
-        entries.push(entry)?;
+        let parts = cut_at(alloc, text, ':')?;
+        entries.push(entry_of_parts(alloc, &parts)?)?;
     }
     Ok(Items::from_vec(entries))
-}
-
-fn entry_of(alloc: Global, text: &str) -> Result<Placed, RouteFault>
-    ensures { OkIfSome (entry_of text.now) RouteFault.BadPlacement RouteFault.Memory result }
-{
-    let parts = cut_at_colons(alloc, text)?;
-    entry_of_parts(alloc, &parts)
 }
 
 fn entry_of_parts(alloc: Global, parts: &[&str]) -> Result<Placed, RouteFault>

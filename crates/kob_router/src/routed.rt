@@ -10,7 +10,8 @@ use crate::fault::RecordFault;
 use crate::placement::{Placed, PlacedColumn};
 use crate::route::Route;
 use crate::settings::{RouteBy, Routing};
-use crate::template::filled;
+use crate::template::ROUTED_BY_VALUE;
+use bstr::ByteSlice;
 use kob_names::{Bytes, Header, Items, Record, Text, TopicName, TopicNameFault};
 use kob_outbox::Row;
 use std::alloc::{AllocError, Global};
@@ -47,19 +48,10 @@ pub(crate) fn topic_for(
     ensures { OkIfSome (topic_named (topic_of routing.now (stored_row row.now)))
         RecordFault.BadTopic RecordFault.Memory result }
 {
-    let text = topic_text(alloc, routing, row)?;
+    let value = routed_value(routing.by, row).as_bytes();
+    let template = routing.template.as_str().as_bytes();
+    let text = template.replace(alloc, ROUTED_BY_VALUE.as_bytes(), value)?;
     topic_named(alloc, &text)
-}
-
-fn topic_text(alloc: Global, routing: &Routing, row: &Row) -> Result<Vec<u8>, AllocError>
-    ensures { IfOk result (λ text. text.items ≡ topic_of routing.now (stored_row row.now)) }
-{
-    let value = routed_value(routing.by, row);
-    filled(
-        alloc,
-        routing.template.as_str().as_bytes(),
-        value.as_bytes(),
-    )
 }
 
 fn routed_value(by: RouteBy, row: &Row) -> &str

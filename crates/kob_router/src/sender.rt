@@ -5,11 +5,12 @@ ghost use Rattle.std.specs.Prelude.{alloc_error};
 ghost use Rattle.kob_outbox.specs.Contents.{stored_row};
 ghost use Rattle.kob_router.specs.Run.{batch_of, next_row};
 
-use crate::dispatch::{Target, place_of};
+use crate::dispatch::Target;
 use crate::fault::RecordFault;
 use crate::line::{Delivery, Line};
+use crate::partitioner::partition_of;
 use crate::place::Place;
-use crate::routed::message_of;
+use crate::routed::{message_of, topic_for};
 use crate::sequences::Sequences;
 use crate::tick::{StopReason, Tick};
 use kob_names::{Batch, Idem, Items, PlainValue, Record};
@@ -118,10 +119,15 @@ impl Sender {
             Err(OutboxFault::Memory(refused)) => return Err(StopReason::Memory(refused)),
             Err(OutboxFault::Store) => unreachable!(),
         };
-        let place = match place_of(alloc, &self.target, &row) {
-            Ok(place) => place,
+        let topic = match topic_for(alloc, self.target.route.as_routing(), &row) {
+            Ok(topic) => topic.into_text(),
             Err(RecordFault::BadTopic) => return Err(StopReason::BadTopic),
             Err(RecordFault::Memory(refused)) => return Err(StopReason::Memory(refused)),
+        };
+        let partition = partition_of(row.event.aggregate_id.as_bytes(), self.target.partitions);
+        let place = Place {
+            topic,
+            partition: partition as u64,
         };
         if let Err(refused) = self.sequences.prepare(alloc, &place) {
             return Err(StopReason::Memory(refused));

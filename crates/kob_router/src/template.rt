@@ -1,13 +1,10 @@
 //! The template of a topic's name, with variables for the value by which a row is routed.
 
-ghost use Rattle.std.specs.Prelude.{◌≡◌, IfOk};
-ghost use Rattle.kob_router.specs.Route.{with_routed_value, is_template, routed_by_value};
-
-use bstr::ByteSlice;
-use std::alloc::{AllocError, Global};
+ghost use Rattle.std.specs.Prelude.{◌≡◌};
+ghost use Rattle.kob_router.specs.Route.{is_template};
 
 /// The variable for the value, as in Debezium's `route.topic.replacement`.
-const ROUTED_BY_VALUE: &str = "${routedByValue}";
+pub(crate) const ROUTED_BY_VALUE: &str = "${routedByValue}";
 
 /// Whether a text can be a template: it is not empty, and each `$` begins `${routedByValue}`.
 pub(crate) fn is_template(text: &[u8]) -> bool
@@ -22,11 +19,4 @@ pub(crate) fn is_template(text: &[u8]) -> bool
         }
     }
     true
-}
-
-/// The template with the value in place of each variable.
-pub(crate) fn filled(alloc: Global, template: &[u8], value: &[u8]) -> Result<Vec<u8>, AllocError>
-    ensures { IfOk result (λ text. text.items ≡ with_routed_value template.now value.now) }
-{
-    template.replace(alloc, ROUTED_BY_VALUE.as_bytes(), value)
 }

@@ -1,4 +1,4 @@
-use Rattle.kob_router.proofs.Words.{nat_tests, List, ap, arith, drop, drop_more, get_or, length, sym, with_bytes, with_word, ℕ, ◌+◌, ◌∙◌, ◌∷◌, ◌≡◌, ◌≤◌}
+use Rattle.kob_router.proofs.Words.{nat_tests, List, ap, arith, drop, drop_more, get_or, length, sym, with_bytes, ℕ, ◌+◌, ◌∙◌, ◌∷◌, ◌≡◌, ◌≤◌}
 use Rattle.kob_router.proofs.partitioner.with_bytes.Goals as goal
 
 -- the first four of the bytes from a place on
@@ -21,7 +21,7 @@ loop-at-preserved c =
       within = fits;
       rest =
           ap (λ (h : ℕ). with_bytes h (drop (at + 4) bytes))
-          (c.with_word-hash.ensures ∙ ap (with_word c.loop-at.hash) c.word_at.ensures)
+          c.with_word-hash.ensures
           ∙ sym (ap (with_bytes c.loop-at.hash) (next_word bytes at fits))
           ∙ c.loop-at.invariant.rest;
     }
