@@ -6,7 +6,7 @@ ghost use Rattle.kob_scene_text.specs.Reading.{Gives};
 ghost use Rattle.kob_scene_text.specs.Workers.{consumer_of, cut, max_of, place_of, places_of};
 ghost use Rattle.kob_scene_text.specs.Workers.{start_first, start_named, taking_first};
 
-use crate::fault::{SceneFaultKind, StepError};
+use crate::fault::{BAD_LINE, SceneFaultKind, StepError};
 use crate::name::{Who, who_of};
 use crate::scene::{Start, Taking};
 use bstr::ByteSlice;
@@ -50,7 +50,7 @@ pub(crate) fn consumer_of(alloc: Global, words: &[Word<'_>]) -> Result<DeclaredC
                 taking,
             })
         }
-        _ => Err(StepError::Fault(SceneFaultKind::Script(FaultKind::BadLine))),
+        _ => Err(StepError::Fault(BAD_LINE)),
     }
 }
 

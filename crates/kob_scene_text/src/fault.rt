@@ -30,6 +30,8 @@ pub enum SceneFaultKind {
     NoLaw,
 }
 
+pub(crate) const BAD_LINE: SceneFaultKind = SceneFaultKind::Script(FaultKind::BadLine);
+
 /// The first line of a scene with a fault, counted from 1, and the fault's kind.
 #[derive(Clone, Copy, Debug, Error)]
 #[error("line {line}: {kind}")]

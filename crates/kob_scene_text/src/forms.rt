@@ -1,16 +1,9 @@
 //! The forms of lines: what each word behind the first one writes.
 
-ghost use Rattle.std.specs.Prelude.{◌≡◌};
-ghost use Rattle.std.specs.Option.{option_map};
+ghost use Rattle.std.specs.Prelude.{◌≡◌, bytes_eq};
 ghost use Rattle.kob_scene_text.specs.Places.{expect_form, expect_form_by, keyword_text};
-ghost use Rattle.kob_scene_text.specs.Places.{setting_form, step_form};
-ghost use Rattle.kob_scene_text.specs.ServiceForms.{tick_form};
 
-use crate::name::Worker;
-use crate::scene::Sending;
-use crate::service_forms::service_step_form;
-use crate::step_names::{StepName, step_named};
-use kob_script::{Word, is_super};
+use kob_script::Word;
 
 /// What a word writes.
 #[derive(Clone, Copy, Debug, PartialEq, Eq)]
@@ -103,47 +96,40 @@ pub(crate) const TEXT: Part = Part::One(Slot::Text);
 
 pub(crate) const OR_END: Part = Part::OrEnd;
 
-pub(crate) fn keyword_text(keyword: Keyword) -> &'static str
-    ensures { result.now ≡ keyword_text keyword }
-{
-    match keyword {
-        Keyword::Partitions => "partitions",
-        Keyword::Retries => "retries",
-        Keyword::New => "new",
-        Keyword::Deletes => "deletes",
-        Keyword::First => "first",
-        Keyword::Not => "not",
-        Keyword::Idempotent => "idempotent",
-        Keyword::Separate => "separate",
-        Keyword::Visible => "visible",
-        Keyword::Late => "late",
-        Keyword::Crash => "crash",
-        Keyword::By => "by",
-        Keyword::Replacement => "replacement",
-        Keyword::Placement => "placement",
-        Keyword::Group => "group",
-        Keyword::Max => "max",
-        Keyword::Start => "start",
-        Keyword::Commits => "commits",
-        Keyword::Before => "before",
-        Keyword::No => "no",
-        Keyword::Dedup => "dedup",
-        Keyword::Reads => "reads",
-        Keyword::Delivered => "delivered",
-        Keyword::All => "all",
-        Keyword::Lost => "lost",
-        Keyword::Order => "order",
-    }
-}
+pub(crate) const LATE: Part = Part::One(Slot::Keyword(Keyword::Late));
 
-/// The words behind `super`, or behind `everyone`.
-pub(crate) fn setting_form(first: &Word<'_>) -> &'static [Part]
-    ensures { result.now ≡ setting_form first.now }
+/// Whether a word is this one.
+pub(crate) fn is_keyword(keyword: Keyword, word: &Word<'_>) -> bool
+    ensures { result ≡ bytes_eq word.now.decoded (keyword_text keyword) }
 {
-    if is_super(first) {
-        &[Part::One(Slot::Principal)]
-    } else {
-        &[Part::One(Slot::Switch)]
+    let text = word.decoded();
+    match keyword {
+        Keyword::Partitions => text == b"partitions".as_slice(),
+        Keyword::Retries => text == b"retries".as_slice(),
+        Keyword::New => text == b"new".as_slice(),
+        Keyword::Deletes => text == b"deletes".as_slice(),
+        Keyword::First => text == b"first".as_slice(),
+        Keyword::Not => text == b"not".as_slice(),
+        Keyword::Idempotent => text == b"idempotent".as_slice(),
+        Keyword::Separate => text == b"separate".as_slice(),
+        Keyword::Visible => text == b"visible".as_slice(),
+        Keyword::Late => text == b"late".as_slice(),
+        Keyword::Crash => text == b"crash".as_slice(),
+        Keyword::By => text == b"by".as_slice(),
+        Keyword::Replacement => text == b"replacement".as_slice(),
+        Keyword::Placement => text == b"placement".as_slice(),
+        Keyword::Group => text == b"group".as_slice(),
+        Keyword::Max => text == b"max".as_slice(),
+        Keyword::Start => text == b"start".as_slice(),
+        Keyword::Commits => text == b"commits".as_slice(),
+        Keyword::Before => text == b"before".as_slice(),
+        Keyword::No => text == b"no".as_slice(),
+        Keyword::Dedup => text == b"dedup".as_slice(),
+        Keyword::Reads => text == b"reads".as_slice(),
+        Keyword::Delivered => text == b"delivered".as_slice(),
+        Keyword::All => text == b"all".as_slice(),
+        Keyword::Lost => text == b"lost".as_slice(),
+        Keyword::Order => text == b"order".as_slice(),
     }
 }
 
@@ -180,30 +166,5 @@ fn expect_form_by(what: &[u8]) -> &'static [Part]
             Part::One(Slot::ConsumerName),
             Part::One(Slot::Keyword(Keyword::Order)),
         ]
-    }
-}
-
-pub(crate) fn tick_form() -> &'static [Part]
-    ensures { result.now ≡ tick_form }
-{
-    &[Part::OrEnd, Part::One(Slot::Loss)]
-}
-
-/// The words behind a step's name; None if the worker has no such step. A service sends so.
-pub(crate) fn step_form(sending: Sending, worker: Worker, name: &[u8]) -> Option<&'static [Part]>
-    ensures { option_map (λ parts. parts.now) result ≡ step_form sending worker name.now }
-{
-    match (step_named(name)?, worker) {
-        (step, Worker::Service(_)) => service_step_form(sending, step),
-        (StepName::Tick, Worker::Consumer(_)) => Some(tick_form()),
-        (StepName::Run | StepName::Restart | StepName::Inbox, Worker::Consumer(_)) => Some(&[]),
-        (
-            StepName::Record
-            | StepName::Sweep
-            | StepName::Outbox
-            | StepName::Business
-            | StepName::Visible,
-            Worker::Consumer(_),
-        ) => None,
     }
 }

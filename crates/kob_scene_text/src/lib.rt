@@ -19,6 +19,7 @@ mod reading;
 mod scene;
 mod service_forms;
 mod service_lines;
+mod step_forms;
 mod step_lines;
 mod step_names;
 mod variants;

@@ -1,26 +1,26 @@
 //! The reader of a line of a scene.
 
 ghost use Rattle.std.specs.Prelude.{◌≡◌, ◌++◌, map, IfOk, OnOk};
-ghost use Rattle.kob_scene_text.specs.Steps.{head_by, head_of};
+ghost use Rattle.kob_scene_text.specs.Steps.{head_of};
 ghost use Rattle.kob_scene_text.specs.Scenes.{ReadsLine, ReadsNext};
 ghost use Rattle.kob_scene_text.specs.Scenes.{asked};
 ghost use Rattle.kob_scene_text.specs.Scenes.{next_worker, so_far, told};
 ghost use Rattle.kob_scene_text.specs.Reading.{Gives};
-ghost use Rattle.kob_scene_text.specs.Scenes.{pair_named, pair_of, with_check, with_consumer};
-ghost use Rattle.kob_scene_text.specs.Scenes.{with_expect, with_journal, with_law};
-ghost use Rattle.kob_scene_text.specs.Scenes.{with_requests, with_service, with_setting};
+ghost use Rattle.kob_scene_text.specs.Scenes.{pair_named, pair_of, with_consumer};
+ghost use Rattle.kob_scene_text.specs.Scenes.{with_expect, with_law};
+ghost use Rattle.kob_scene_text.specs.Scenes.{with_service, with_setting};
 ghost use Rattle.kob_scene_text.specs.Scenes.{with_step, with_steps, with_words};
 ghost use Rattle.std.specs.Prelude.{Ok, [], ◌∷◌};
 
 use crate::consumer_lines::consumer_of;
-use crate::fault::{SceneFaultKind, StepError};
+use crate::fault::{BAD_LINE, SceneFaultKind, StepError};
 use crate::name::{Worker, consumer_named, new_name, service_named, worker_named};
 use crate::reading::Reading;
-use crate::scene::{Consumer, Service, Step};
+use crate::scene::{Consumer, Sending, Service, Step};
 use crate::service_lines::service_of;
 use crate::step_lines::{consumer_step, expected_of, service_step};
 use crate::step_names::step_named;
-use crate::variants::{has_variant, sending_at};
+use crate::variants::has_variant;
 use kob_acl_cli::CliArgs;
 use kob_names::sum_of;
 use kob_rights::Event;
@@ -57,7 +57,8 @@ pub(crate) fn read_line(alloc: Global, reading: &mut Reading, line: &[u8]) -> Re
 }
 
 /// What a line begins with. A first word that is no keyword is a principal if it has a colon, and
-/// else the name of a worker.
+/// else the name of a worker. Where no worker has the name, the line asks for a step of an unknown
+/// one if it has the word of a step.
 pub(crate) fn head_of(worker: Option<Worker>, first: &Word<'_>, rest: &[Word<'_>]) -> Head
     ensures { result ≡ head_of worker first.now rest.now }
 {
@@ -79,19 +80,11 @@ pub(crate) fn head_of(worker: Option<Worker>, first: &Word<'_>, rest: &[Word<'_>
     } else if name.contains(&b':') {
         Head::Request
     } else {
-        head_by(worker, rest)
-    }
-}
-
-/// Where no worker has the name, the line asks for a step of an unknown one if it has the word of a
-/// step.
-fn head_by(worker: Option<Worker>, rest: &[Word<'_>]) -> Head
-    ensures { result ≡ head_by worker rest.now }
-{
-    match (worker, rest) {
-        (Some(worker), _) => Head::Of(worker),
-        (None, [second, ..]) if step_named(second.decoded()).is_some() => Head::Unknown,
-        (None, _) => Head::Request,
+        match (worker, rest) {
+            (Some(worker), _) => Head::Of(worker),
+            (None, [second, ..]) if step_named(second.decoded()).is_some() => Head::Unknown,
+            (None, _) => Head::Request,
+        }
     }
 }
 
@@ -124,13 +117,23 @@ impl Reading {
             Head::Setting => self.add_setting(alloc, first, rest),
             Head::Service => self.add_service(alloc, rest),
             Head::Consumer => self.add_consumer(alloc, rest),
-            Head::Journal => self.add_journal(rest),
+            Head::Journal => match rest {
+                [] => self.push_step(Step::Journal),
+                _ => Err(StepError::Fault(BAD_LINE)),
+            },
             Head::Law => self.add_law(rest),
-            Head::Check => self.add_check(rest),
+            Head::Check => {
+                let (service, consumer) = self.pair_of(rest)?;
+                self.push_step(Step::Check { service, consumer })
+            }
             Head::Expect => self.add_expect(rest),
             Head::Of(worker) => self.add_step(alloc, worker, rest),
             Head::Unknown => Err(StepError::Fault(SceneFaultKind::UnknownWorker)),
-            Head::Request => self.add_requests(alloc, words, answer),
+            Head::Request => {
+                let asked = events_of(alloc, words, answer)?;
+                push_asked(&mut self.steps, asked)?;
+                Ok(())
+            }
         }
     }
 
@@ -167,7 +170,7 @@ impl Reading {
         ensures { ReadsNext self.new result (with_service (so_far self.old) words.now) }
     {
         let [name, rest @ ..] = words else {
-            return Err(StepError::Fault(SceneFaultKind::Script(FaultKind::BadLine)));
+            return Err(StepError::Fault(BAD_LINE));
         };
         let worker = self.next_worker()?;
         let name = new_name(alloc, &self.services, &self.consumers, name)?;
@@ -188,7 +191,7 @@ impl Reading {
         ensures { ReadsNext self.new result (with_consumer (so_far self.old) words.now) }
     {
         let [name, rest @ ..] = words else {
-            return Err(StepError::Fault(SceneFaultKind::Script(FaultKind::BadLine)));
+            return Err(StepError::Fault(BAD_LINE));
         };
         let worker = self.next_worker()?;
         let name = new_name(alloc, &self.services, &self.consumers, name)?;
@@ -212,15 +215,6 @@ impl Reading {
         Ok(())
     }
 
-    fn add_journal(&mut self, words: &[Word<'_>]) -> Result<(), StepError>
-        ensures { ReadsNext self.new result (with_journal (so_far self.old) words.now) }
-    {
-        match words {
-            [] => self.push_step(Step::Journal),
-            _ => Err(StepError::Fault(SceneFaultKind::Script(FaultKind::BadLine))),
-        }
-    }
-
     /// `law SERVICE CONSUMER`, of which none is a variant
     fn add_law(&mut self, words: &[Word<'_>]) -> Result<(), StepError>
         ensures { ReadsNext self.new result (with_law (so_far self.old) words.now) }
@@ -232,20 +226,12 @@ impl Reading {
         self.push_step(Step::Law { service, consumer })
     }
 
-    /// `check SERVICE CONSUMER`
-    fn add_check(&mut self, words: &[Word<'_>]) -> Result<(), StepError>
-        ensures { ReadsNext self.new result (with_check (so_far self.old) words.now) }
-    {
-        let (service, consumer) = self.pair_of(words)?;
-        self.push_step(Step::Check { service, consumer })
-    }
-
     /// `expect SERVICE CONSUMER` and what is expected
     fn add_expect(&mut self, words: &[Word<'_>]) -> Result<(), StepError>
         ensures { ReadsNext self.new result (with_expect (so_far self.old) words.now) }
     {
         let [service, consumer, rest @ ..] = words else {
-            return Err(StepError::Fault(SceneFaultKind::Script(FaultKind::BadLine)));
+            return Err(StepError::Fault(BAD_LINE));
         };
         let (service, consumer) = self.pair_named(service, consumer)?;
         let what = expected_of(rest)?;
@@ -262,7 +248,7 @@ impl Reading {
     {
         match words {
             [service, consumer] => self.pair_named(service, consumer),
-            _ => Err(StepError::Fault(SceneFaultKind::Script(FaultKind::BadLine))),
+            _ => Err(StepError::Fault(BAD_LINE)),
         }
     }
 
@@ -291,7 +277,11 @@ impl Reading {
     {
         match worker {
             Worker::Service(place) => {
-                let step = service_step(alloc, sending_at(&self.services, place), words)?;
+                let sending = self
+                    .services
+                    .get(place)
+                    .map_or(Sending::Proved, |service| service.sending);
+                let step = service_step(alloc, sending, words)?;
                 self.push_step(Step::Service(place, step))
             }
             Worker::Consumer(place) => {
@@ -299,19 +289,5 @@ impl Reading {
                 self.push_step(Step::Consumer(place, step))
             }
         }
-    }
-
-    fn add_requests(
-        &mut self,
-        alloc: Global,
-        words: &[Word<'_>],
-        answer: &Option<CliArgs>,
-    ) -> Result<(), StepError>
-        ensures { ReadsNext self.new result
-            (with_requests answer.now (so_far self.old) words.now) }
-    {
-        let asked = events_of(alloc, words, answer)?;
-        push_asked(&mut self.steps, asked)?;
-        Ok(())
     }
 }

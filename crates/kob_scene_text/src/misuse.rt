@@ -3,12 +3,12 @@
 ghost use Rattle.std.specs.Prelude.{◌≡◌, IfOk, map};
 ghost use Rattle.kob_scene_text.specs.Misuses.{misuse_at, misuse_between};
 
-use crate::fault::SceneFaultKind;
+use crate::fault::{BAD_LINE, SceneFaultKind};
 use crate::name::Worker;
 use crate::place::same_kind;
 use crate::step_names::{StepName, step_named};
 use crate::workers_before::worker_in;
-use kob_script::{FaultKind, Word};
+use kob_script::Word;
 use std::alloc::{AllocError, Global};
 
 /// What a word is that its line means otherwise.
@@ -45,7 +45,7 @@ pub fn misuse_at(
             Some(Worker::Consumer(_)) => Ok(Some(Misuse::ConsumerName)),
             None => Ok(None),
         }
-    } else if same_kind(kind, SceneFaultKind::Script(FaultKind::BadLine)) && place == 1 {
+    } else if same_kind(kind, BAD_LINE) && place == 1 {
         let [worker, step, ..] = words else {
             return Ok(None);
         };

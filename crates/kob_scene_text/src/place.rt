@@ -3,19 +3,19 @@
 ghost use Rattle.std.specs.Prelude.{◌≡◌, ◌∷◌, IfOk, None, map};
 ghost use Rattle.kob_scene_text.specs.Places.{fault_place, faults_in, is_of, place_by, same_kind};
 ghost use Rattle.kob_scene_text.specs.Places.{word_faults, worker_faults};
-ghost use Rattle.kob_scene_text.specs.Scenes.{is_request};
 ghost use Rattle.std.specs.List.{position};
 
 use crate::consumer_forms::consumer_form;
 use crate::fault::SceneFaultKind;
-use crate::forms::{Part, Slot, expect_form, setting_form, step_form};
+use crate::forms::{Part, Slot, expect_form};
 use crate::line::{Head, head_of};
 use crate::name::Worker;
 use crate::scene::Sending;
 use crate::service_forms::service_form;
+use crate::step_forms::step_form;
 use crate::word_faults::{push_bad_line, push_faults};
 use crate::workers_before::{sending_in, worker_in};
-use kob_script::Word;
+use kob_script::{Word, is_super};
 use std::alloc::{AllocError, Global};
 
 /// The place of the first word of a line with a fault of this kind, from 0, for the remark on a
@@ -52,7 +52,7 @@ fn place_by(
     ensures { IfOk result (λ place. place
         ≡ place_by (map (λ line. line.now) before.now) head kind first.now rest.now) }
 {
-    if is_request(head) {
+    if let Head::Request = head {
         let SceneFaultKind::Script(kind) = kind else {
             return Ok(None);
         };
@@ -60,23 +60,6 @@ fn place_by(
     }
     let faults = word_faults(alloc, before, head, first, rest)?;
     Ok(first_place(&faults, kind))
-}
-
-fn is_request(head: Head) -> bool
-    ensures { result ≡ is_request head }
-{
-    match head {
-        Head::Request => true,
-        Head::Setting
-        | Head::Service
-        | Head::Consumer
-        | Head::Journal
-        | Head::Law
-        | Head::Check
-        | Head::Expect
-        | Head::Of(_)
-        | Head::Unknown => false,
-    }
 }
 
 fn first_place(faults: &[Option<SceneFaultKind>], kind: SceneFaultKind) -> Option<usize>
@@ -112,7 +95,10 @@ fn word_faults(
         ≡ word_faults (map (λ line. line.now) before.now) head first.now rest.now) }
 {
     match head {
-        Head::Setting => faults_by(alloc, before, setting_form(first), rest),
+        Head::Setting if is_super(first) => {
+            faults_by(alloc, before, &[Part::One(Slot::Principal)], rest)
+        }
+        Head::Setting => faults_by(alloc, before, &[Part::One(Slot::Switch)], rest),
         Head::Service => faults_by(alloc, before, service_form(rest), rest),
         Head::Consumer => faults_by(alloc, before, consumer_form(rest), rest),
         Head::Journal => faults_by(alloc, before, &[], rest),

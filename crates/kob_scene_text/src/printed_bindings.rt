@@ -45,9 +45,15 @@ fn push_draft(out: &mut Vec<u8>, draft: &Draft) -> Result<(), AllocError>
 }
 
 #[tactic(auto, using(kob_words::proofs::Appending::appending))]
-pub(crate) fn push_filter(out: &mut Vec<u8>, filter: &BindingFilter) -> Result<(), AllocError>
-    ensures { OnOk result (out.new.items ≡ out.old.items ++ filter_text filter.now) }
+pub(crate) fn push_filtered(
+    out: &mut Vec<u8>,
+    command: &[u8],
+    filter: &BindingFilter,
+) -> Result<(), AllocError>
+    ensures { OnOk result (out.new.items
+        ≡ out.old.items ++ (command.now ++ filter_text filter.now)) }
 {
+    out.extend_from_slice(command)?;
     push_resource(out, filter.resource)?;
     push_text(out, &filter.name)?;
     out.extend_from_slice(pattern_text(filter.pattern).as_bytes())?;

@@ -1,7 +1,7 @@
 //! The reader of a scene. Every line is read before the first step is played.
 
 ghost use Rattle.std.specs.Prelude.{◌≡◌, ◌++◌, IfOk, OnOk, replicate};
-ghost use Rattle.kob_scene_text.specs.Scenes.{HasLines, MayRead, fault_at};
+ghost use Rattle.kob_scene_text.specs.Scenes.{HasLines, MayRead};
 
 use crate::fault::{SceneError, SceneFault, StepError};
 use crate::line::read_line;
@@ -41,7 +41,13 @@ pub fn read_scene(alloc: Global, text: &[u8]) -> Result<Scene, SceneError>
         let before = reading.steps.len();
         match read_line(alloc, &mut reading, line) {
             Ok(()) => {}
-            Err(error) => return Err(fault_at(error, number as u64)),
+            Err(StepError::Memory(refused)) => return Err(SceneError::Memory(refused)),
+            Err(StepError::Fault(kind)) => {
+                return Err(SceneError::Fault(SceneFault {
+                    line: number as u64,
+                    kind,
+                }));
+            }
         }
         let added = reading.steps.len().saturating_sub(before);
         push_times(&mut lines, number as u64, added).map_err(SceneError::Memory)?;
@@ -57,15 +63,6 @@ fn push_times(lines: &mut Vec<u64>, number: u64, times: usize) -> Result<(), All
         lines.push(number)?;
     }
     Ok(())
-}
-
-fn fault_at(error: StepError, line: u64) -> SceneError
-    ensures { result ≡ fault_at line error }
-{
-    match error {
-        StepError::Memory(error) => SceneError::Memory(error),
-        StepError::Fault(kind) => SceneError::Fault(SceneFault { line, kind }),
-    }
 }
 
 ghost use Rattle.kob_scene_text.specs.Scenes.{seen, so_far};

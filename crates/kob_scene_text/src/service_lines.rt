@@ -4,10 +4,10 @@ ghost use Rattle.std.specs.Prelude.{◌≡◌, ◌≤◌, IfOk};
 ghost use Rattle.kob_script.specs.Words.{Gives as ScriptGives, GivesSeen as ScriptGivesSeen};
 ghost use Rattle.kob_scene_text.specs.Reading.{Gives};
 ghost use Rattle.kob_scene_text.specs.Workers.{by_first, by_named, partitions_of, route_of};
-ghost use Rattle.kob_scene_text.specs.Workers.{sending_first, sending_of, service_of, settings_of};
+ghost use Rattle.kob_scene_text.specs.Workers.{sending_first, service_of, settings_of};
 ghost use Rattle.kob_scene_text.specs.Workers.{text_first};
 
-use crate::fault::{SceneFaultKind, StepError};
+use crate::fault::{BAD_LINE, SceneFaultKind, StepError};
 use crate::name::{Who, who_of};
 use crate::scene::{Routed, Sending};
 use kob_names::Text;
@@ -45,7 +45,7 @@ pub(crate) fn service_of(alloc: Global, words: &[Word<'_>]) -> Result<DeclaredSe
                 sending,
             })
         }
-        _ => Err(StepError::Fault(SceneFaultKind::Script(FaultKind::BadLine))),
+        _ => Err(StepError::Fault(BAD_LINE)),
     }
 }
 
@@ -56,28 +56,22 @@ pub(crate) fn sending_first<'w, 'l>(words: &'w [Word<'l>]) -> (Sending, &'w [Wor
 {
     match words {
         [one, rest @ ..] if one.decoded() == b"separate".as_slice() => (Sending::Separate, rest),
-        [one, other, rest @ ..] => match sending_of(one, other) {
-            Some(sending) => (sending, rest),
-            None => (Sending::Proved, words),
-        },
+        [one, other, rest @ ..]
+            if one.decoded() == b"retries".as_slice() && other.decoded() == b"new".as_slice() => {
+            (Sending::RetriesNew, rest)
+        }
+        [one, other, rest @ ..]
+            if one.decoded() == b"deletes".as_slice() && other.decoded() == b"first".as_slice() => {
+            (Sending::DeletesFirst, rest)
+        }
+        [one, other, rest @ ..]
+            if one.decoded() == b"not".as_slice() && other.decoded() == b"idempotent".as_slice() =>
+            { (Sending::NotIdempotent, rest) }
+        [one, other, rest @ ..]
+            if one.decoded() == b"visible".as_slice() && other.decoded() == b"late".as_slice() => {
+            (Sending::VisibleLate, rest)
+        }
         _ => (Sending::Proved, words),
-    }
-}
-
-/// The variant that two words name.
-fn sending_of(one: &Word<'_>, other: &Word<'_>) -> Option<Sending>
-    ensures { result ≡ sending_of one.now other.now }
-{
-    if one.decoded() == b"retries".as_slice() && other.decoded() == b"new".as_slice() {
-        Some(Sending::RetriesNew)
-    } else if one.decoded() == b"deletes".as_slice() && other.decoded() == b"first".as_slice() {
-        Some(Sending::DeletesFirst)
-    } else if one.decoded() == b"not".as_slice() && other.decoded() == b"idempotent".as_slice() {
-        Some(Sending::NotIdempotent)
-    } else if one.decoded() == b"visible".as_slice() && other.decoded() == b"late".as_slice() {
-        Some(Sending::VisibleLate)
-    } else {
-        None
     }
 }
 

@@ -7,9 +7,9 @@ ghost use Rattle.kob_script.specs.Words.{text_of};
 ghost use Rattle.kob_scene_text.specs.Reading.{Gives, GivesSeen};
 ghost use Rattle.kob_scene_text.specs.Steps.{change_of, consumer_step_of};
 ghost use Rattle.kob_scene_text.specs.Steps.{expected_of, id_in, id_of, loss_of, record_of};
-ghost use Rattle.kob_scene_text.specs.Steps.{recording_of, service_step_of, service_told, written};
+ghost use Rattle.kob_scene_text.specs.Steps.{service_step_of, service_told, written};
 
-use crate::fault::{SceneFaultKind, StepError};
+use crate::fault::{BAD_LINE, SceneFaultKind, StepError};
 use crate::scene::{ConsumerStep, Expected, Recording, Sending, ServiceStep};
 use crate::step_names::{StepName, step_named};
 use kob_outbox::{Change, OutboxEvent};
@@ -39,10 +39,10 @@ pub(crate) fn service_step(
     ensures { GivesSeen service_told result (service_step_of sending words.now) }
 {
     let [name, words @ ..] = words else {
-        return Err(StepError::Fault(SceneFaultKind::Script(FaultKind::BadLine)));
+        return Err(StepError::Fault(BAD_LINE));
     };
     let Some(step) = step_named(name.decoded()) else {
-        return Err(StepError::Fault(SceneFaultKind::Script(FaultKind::BadLine)));
+        return Err(StepError::Fault(BAD_LINE));
     };
     match (step, words) {
         (StepName::Record, _) => record_step(alloc, sending, words),
@@ -65,7 +65,7 @@ pub(crate) fn service_step(
             | StepName::Visible
             | StepName::Inbox,
             _,
-        ) => Err(StepError::Fault(SceneFaultKind::Script(FaultKind::BadLine))),
+        ) => Err(StepError::Fault(BAD_LINE)),
     }
 }
 
@@ -116,7 +116,7 @@ pub(crate) fn expected_of(words: &[Word<'_>]) -> Result<Expected, StepError>
             if one.decoded() == b"delivered".as_slice() && two.decoded() == b"all".as_slice() => {
             Ok(Expected::Delivered)
         }
-        _ => Err(StepError::Fault(SceneFaultKind::Script(FaultKind::BadLine))),
+        _ => Err(StepError::Fault(BAD_LINE)),
     }
 }
 
@@ -138,7 +138,7 @@ fn record_step(
         change @ ..,
     ] = words
     else {
-        return Err(StepError::Fault(SceneFaultKind::Script(FaultKind::BadLine)));
+        return Err(StepError::Fault(BAD_LINE));
     };
     let event = OutboxEvent {
         id: id_of(id)?,
@@ -180,7 +180,16 @@ fn change_of(
 {
     match words {
         [kind, key, state, rest @ ..] => {
-            let recording = recording_of(sending, rest)?;
+            let recording = match (sending, rest) {
+                (_, []) => Recording::Whole,
+                (Sending::Separate, [word]) if word.decoded() == b"crash".as_slice() => {
+                    Recording::Crash
+                }
+                (Sending::VisibleLate, [word]) if word.decoded() == b"late".as_slice() => {
+                    Recording::Late
+                }
+                _ => return Err(LineError::Fault(FaultKind::BadLine)),
+            };
             let change = Change {
                 kind: string_of(alloc, kind)?,
                 id: string_of(alloc, key)?,
@@ -188,26 +197,6 @@ fn change_of(
             };
             Ok((change, recording))
         }
-        _ => Err(LineError::Fault(FaultKind::BadLine)),
-    }
-}
-
-/// How an event is recorded, by the words after its change.
-fn recording_of(sending: Sending, words: &[Word<'_>]) -> Result<Recording, LineError>
-    ensures { ScriptGives result (recording_of sending words.now) }
-{
-    match words {
-        [] => Ok(Recording::Whole),
-        [word] => match sending {
-            Sending::Separate if word.decoded() == b"crash".as_slice() => Ok(Recording::Crash),
-            Sending::VisibleLate if word.decoded() == b"late".as_slice() => Ok(Recording::Late),
-            Sending::Proved
-            | Sending::RetriesNew
-            | Sending::DeletesFirst
-            | Sending::NotIdempotent
-            | Sending::Separate
-            | Sending::VisibleLate => Err(LineError::Fault(FaultKind::BadLine)),
-        },
         _ => Err(LineError::Fault(FaultKind::BadLine)),
     }
 }

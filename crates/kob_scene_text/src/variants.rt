@@ -1,9 +1,9 @@
 //! Workers of which the laws of delivery do not speak.
 
 ghost use Rattle.std.specs.Prelude.{◌≡◌};
-ghost use Rattle.kob_scene_text.specs.Scenes.{has_variant, sending_at};
+ghost use Rattle.kob_scene_text.specs.Scenes.{has_variant};
 
-use crate::scene::{Consumer, Sending, Service};
+use crate::scene::{Consumer, Service};
 
 /// Whether the service at its place sends otherwise than the proved router, or the consumer at its
 /// place begins at the end, or takes in otherwise than the proved one.
@@ -20,14 +20,4 @@ pub(crate) fn has_variant(
         .is_some_and(|service| service.sending.is_variant())
         || consumers.get(consumer).is_some_and(|consumer| consumer.start.is_latest()
             || consumer.taking.is_variant())
-}
-
-/// How the service at this place sends.
-pub(crate) fn sending_at(services: &[Service], place: usize) -> Sending
-    ensures { result ≡ sending_at services.now place }
-{
-    match services.get(place) {
-        Some(service) => service.sending,
-        None => Sending::Proved,
-    }
 }

@@ -12,15 +12,15 @@ ghost use Rattle.kob_scene_text.specs.Reading.{Gives};
 ghost use Rattle.kob_scene_text.specs.declared.fault.SceneFaultKind as kinds;
 
 use crate::consumer_lines::{max_of, place_of, start_named};
-use crate::fault::{SceneFaultKind, StepError};
-use crate::forms::{Keyword, Part, Slot, keyword_text};
-use crate::name::is_name;
+use crate::fault::{BAD_LINE, SceneFaultKind, StepError};
+use crate::forms::{Part, Slot, is_keyword};
+use crate::name::{is_name, named_host, named_principal};
 use crate::service_lines::{by_named, partitions_of, route_of};
 use crate::step_lines::id_of;
 use crate::workers_before::{is_declared, is_variant, worker_in};
-use kob_names::{Host, Principal, Text};
+use kob_names::Text;
 use kob_router::{Route, RouteBy, RouteSettings};
-use kob_script::{FaultKind, LineError, Word, host_of, lent_text_of, principal_of, text_of};
+use kob_script::{LineError, Word, text_of};
 use std::alloc::{AllocError, Global};
 
 /// Appends the faults of words, by a form, behind these lines of a scene.
@@ -69,7 +69,7 @@ ghost use Rattle.kob_scene_text.specs.Reading.{bad_line};
 pub(crate) fn push_bad_line(faults: &mut Vec<Option<SceneFaultKind>>) -> Result<(), AllocError>
     ensures { OnOk result (faults.new.items ≡ faults.old.items ++ Some bad_line ∷ []) }
 {
-    faults.push(Some(SceneFaultKind::Script(FaultKind::BadLine)))?;
+    faults.push(Some(BAD_LINE))?;
     Ok(())
 }
 
@@ -89,15 +89,6 @@ fn push_each(
     Ok(())
 }
 
-ghost use Rattle.std.specs.Prelude.{bytes_eq};
-ghost use Rattle.kob_scene_text.specs.Places.{keyword_text};
-
-fn is_keyword(keyword: Keyword, word: &Word<'_>) -> bool
-    ensures { result ≡ bytes_eq word.now.decoded (keyword_text keyword) }
-{
-    word.decoded() == keyword_text(keyword).as_bytes()
-}
-
 /// The fault that a word has in a slot.
 fn slot_fault(
     alloc: Global,
@@ -115,8 +106,8 @@ fn slot_fault(
         Slot::LawService => law_fault(alloc, b"service", before, word.decoded()),
         Slot::LawConsumer => law_fault(alloc, b"consumer", before, word.decoded()),
         Slot::Text => line_fault(text_of(alloc, word)),
-        Slot::Principal => line_fault(principal_in(alloc, word)),
-        Slot::Host => line_fault(host_in(alloc, word)),
+        Slot::Principal => line_fault(named_principal(alloc, word)),
+        Slot::Host => line_fault(named_host(alloc, word)),
         Slot::Max => step_fault(max_of(word)),
         Slot::Start => line_fault(start_named(word)),
         Slot::Column => line_fault(by_named(word)),
@@ -127,17 +118,14 @@ fn slot_fault(
         Slot::Placement => step_fault(placed_by(alloc, word)),
         Slot::Switch => Ok(fault_unless(
             word.decoded() == b"on".as_slice() || word.decoded() == b"off".as_slice(),
-            SceneFaultKind::Script(FaultKind::BadLine),
+            BAD_LINE,
         )),
         Slot::Loss => Ok(fault_unless(
             word.decoded() == b"lose-request".as_slice()
                 || word.decoded() == b"lose-reply".as_slice(),
-            SceneFaultKind::Script(FaultKind::BadLine),
+            BAD_LINE,
         )),
-        Slot::Keyword(keyword) => Ok(fault_unless(
-            is_keyword(keyword, word),
-            SceneFaultKind::Script(FaultKind::BadLine),
-        )),
+        Slot::Keyword(keyword) => Ok(fault_unless(is_keyword(keyword, word), BAD_LINE)),
     }
 }
 
@@ -217,23 +205,10 @@ fn name_fault(
     Ok(fault_unless(worker.is_none(), SceneFaultKind::NameTaken))
 }
 
-ghost use Rattle.kob_script.specs.Words.{named_host, named_principal};
 ghost use Rattle.kob_script.specs.Words.{text_of};
 ghost use Rattle.kob_router.specs.declared.settings.RouteBy.TheVariants.{AggregateType};
 ghost use Rattle.kob_scene_text.specs.Reading.{◌>>>◌, as_scripts};
 ghost use Rattle.kob_scene_text.specs.Workers.{route_of};
-
-fn principal_in(alloc: Global, word: &Word<'_>) -> Result<Principal, LineError>
-    ensures { ScriptGives result (named_principal word.now) }
-{
-    principal_of(alloc, lent_text_of(word)?)
-}
-
-fn host_in(alloc: Global, word: &Word<'_>) -> Result<Host, LineError>
-    ensures { ScriptGives result (named_host word.now) }
-{
-    host_of(alloc, lent_text_of(word)?)
-}
 
 /// A route with this replacement.
 fn replaced_by(alloc: Global, word: &Word<'_>) -> Result<Route, StepError>

@@ -1,8 +1,8 @@
 //! Which workers the lines before declare.
 
-ghost use Rattle.std.specs.Prelude.{◌≡◌, IfOk, map, option_map};
+ghost use Rattle.std.specs.Prelude.{◌≡◌, IfOk, map};
 ghost use Rattle.kob_script.specs.Script.{line_words};
-ghost use Rattle.kob_scene_text.specs.Places.{are_of, are_of_variant, begins_variant, is_declared};
+ghost use Rattle.kob_scene_text.specs.Places.{are_of, are_of_variant, is_declared};
 ghost use Rattle.kob_scene_text.specs.Places.{is_variant, names_variant, sending_in, worker_in};
 
 use crate::name::Worker;
@@ -65,7 +65,12 @@ fn are_of_variant(name: &[u8], words: &[Word<'_>]) -> bool
     ensures { result ≡ are_of_variant name.now words.now }
 {
     are_of(b"service", name, words) && names_variant(words.get(6..).unwrap_or(&[]))
-        || are_of(b"consumer", name, words) && begins_variant(words.get(8))
+        || are_of(b"consumer", name, words)
+            && words.get(8).is_some_and(|word| {
+                word.decoded() == b"start".as_slice()
+                    || word.decoded() == b"commits".as_slice()
+                    || word.decoded() == b"no".as_slice()
+            })
 }
 
 /// Whether words begin with the name of a variant of a service.
@@ -95,20 +100,6 @@ pub(crate) fn sending_in(
         }
     }
     Ok(Sending::Proved)
-}
-
-/// Whether a word behind the number of records is one of a variant of a consumer.
-fn begins_variant(word: Option<&Word<'_>>) -> bool
-    ensures { result ≡ begins_variant (option_map (λ word. word.now) word.entry) }
-{
-    match word {
-        Some(word) => {
-            word.decoded() == b"start".as_slice()
-                || word.decoded() == b"commits".as_slice()
-                || word.decoded() == b"no".as_slice()
-        }
-        None => false,
-    }
 }
 
 /// The words of a line, none if it has an escape that is not whole.

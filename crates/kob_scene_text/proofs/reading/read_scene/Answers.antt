@@ -1,4 +1,4 @@
-use Rattle.kob_scene_text.proofs.Words.{ap, arith, length, length-map, replicate, so_far, subst, told, ℕ, ◌++◌, ◌+◌, ◌-◌, ◌∙◌, ◌≡◌}
+use Rattle.kob_scene_text.proofs.Words.{Fault, ap, arith, length, length-map, replicate, so_far, subst, told, ℕ, ◌++◌, ◌+◌, ◌-◌, ◌∙◌, ◌≡◌}
 use Rattle.kob_scene_text.proofs.SceneLines.{Leads, LeadsOn, line_keeps, line_stops, lines_end, steps_end, steps_follow}
 use Rattle.kob_scene_text.proofs.reading.read_scene.Goals as goal
 
@@ -30,15 +30,16 @@ loop-line-preserved c =
           c.in-Some.ensures.steps c.in-Ok.ensures (added ∙ ap (λ n. lines ++ replicate n number) count),
     )
 
-pub returns-in-Err-clause-read : goal.returns-in-Err-clause-read
-returns-in-Err-clause-read c =
+pub returns-in-Err-Fault-clause-read : goal.returns-in-Err-Fault-clause-read
+returns-in-Err-Fault-clause-read c =
     let up : c.loop-line.number + 1 ≡ c.in_ok-number.number = grind (arith, c.in_ok-number.was, c.in_ok-number.ensures, c.sum_of.ensures) in
-    rw c.fault_at.ensures
+    rw c.in-Err-Fault.field-0-is
     (line_stops c.args.text.now (so_far c.loop-line.reading) c.in_ok-number.number c.loop-line.line-iterator
     c.in-Some.line.now c.next.new.self
     (subst (λ (number : ℕ).
     Leads c.args.text.now (so_far c.loop-line.reading) number c.loop-line.line-iterator) up c.loop-line.invariant.0)
-    c.in-Some.ensures.steps c.read_line.new.reading _ c.in-Err.ensures)
+    c.in-Some.ensures.steps c.read_line.new.reading (Fault c.in-Err-Fault.kind)
+    (rw c.in-Err-Fault.field-0-is at c.in-Err-Fault.ensures))
 
 pub returns-clause-read : goal.returns-clause-read
 returns-clause-read c =
