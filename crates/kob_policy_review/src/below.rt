@@ -2,8 +2,7 @@
 
 ghost use Rattle.std.specs.Prelude.{◌≡◌, ◌++◌, IfOk, OnOk, filter, flat_map, map};
 ghost use Rattle.kob_authorizer.specs.Index.{AreRising};
-ghost use Rattle.kob_policy_review.specs.Below.{ListsReaches, near_below, reaches_below, share_of};
-ghost use Rattle.kob_policy_review.specs.Classes.{principals_named};
+ghost use Rattle.kob_policy_review.specs.Below.{ListsReaches, near_below, reaches_below};
 ghost use Rattle.kob_policy_review.specs.Sharing.{is_near, reach_near, reaches_near};
 
 use crate::askers::Askers;
@@ -37,16 +36,6 @@ pub struct Reach {
     pub share: Share,
 }
 
-fn share_of(on_some: bool, on_all: bool) -> Share
-    ensures { result ≡ share_of on_some on_all }
-{
-    match (on_some, on_all) {
-        (false, _) => Share::Nothing,
-        (true, false) => Share::Part,
-        (true, true) => Share::Everything,
-    }
-}
-
 #[tactic(auto, unfolding(crate::specs::Sharing::reach_near))]
 fn reach_near(
     alloc: Global,
@@ -66,7 +55,11 @@ fn reach_near(
     Ok(Reach {
         principal,
         host,
-        share: share_of(some, all),
+        share: match (some, all) {
+            (false, _) => Share::Nothing,
+            (true, false) => Share::Part,
+            (true, true) => Share::Everything,
+        },
     })
 }
 
@@ -168,31 +161,6 @@ fn near_first(
     Ok(made)
 }
 
-fn reaches_among(
-    alloc: Global,
-    supers: &[Principal],
-    names: &NamesBelow,
-    near: &Askers<'_>,
-    operation: Operation,
-) -> Result<Vec<Reach>, AllocError>
-    ensures { IfOk result (λ found. found.items
-        ≡ flat_map (reaches_near supers.now names.now near.now operation)
-        (principals_named near.now)) }
-{
-    let principals = principals_of(alloc, near.entries())?;
-    let mut out = Vec::new(alloc);
-    push_principals(
-        alloc,
-        &mut out,
-        supers,
-        names,
-        near,
-        operation,
-        principals.as_slice(),
-    )?;
-    Ok(out)
-}
-
 /// Copies of the bindings that are on some of the names below the prefix, by rising serial.
 fn near_below(
     alloc: Global,
@@ -208,22 +176,6 @@ fn near_below(
     near_first(alloc, rules.entries(), &first, resource, prefix)
 }
 
-fn reaches_by(
-    alloc: Global,
-    supers: &[Principal],
-    names: &NamesBelow,
-    near: &[(u64, Binding)],
-    operation: Operation,
-) -> Result<Vec<Reach>, AllocError>
-    requires { AreRising near.now }
-    ensures { IfOk result (λ found. found.items
-        ≡ flat_map (reaches_near supers.now names.now near.now operation)
-        (principals_named near.now)) }
-{
-    let askers = Askers::of(alloc, near)?;
-    reaches_among(alloc, supers, names, &askers, operation)
-}
-
 #[tactic(auto, using(crate::proofs::Shares::reaches_so))]
 fn reaches_below(
     alloc: Global,
@@ -237,7 +189,19 @@ fn reaches_below(
 {
     let near = near_below(alloc, rules, resource, prefix)?;
     let names = names_below(alloc, rules, resource, prefix)?;
-    reaches_by(alloc, rules.supers(), &names, near.as_slice(), operation)
+    let askers = Askers::of(alloc, near.as_slice())?;
+    let principals = principals_of(alloc, askers.entries())?;
+    let mut out = Vec::new(alloc);
+    push_principals(
+        alloc,
+        &mut out,
+        rules.supers(),
+        &names,
+        &askers,
+        operation,
+        principals.as_slice(),
+    )?;
+    Ok(out)
 }
 
 /// Who may do something on the names of a kind that begin with a prefix: on all of them, on some,

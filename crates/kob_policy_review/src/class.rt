@@ -1,11 +1,9 @@
 //! Classes of questions that a set of rules answers alike.
 
 ghost use Rattle.std.specs.Prelude.{◌≡◌, IfOk};
-ghost use Rattle.kob_policy_review.specs.Classes.{covers_party, is_for, is_met, is_on, matches_names};
+ghost use Rattle.kob_policy_review.specs.Classes.{covers_party, is_for, is_met, is_on};
 
-use kob_names::{
-    Binding, Operation, Pattern, PatternKind, Permission, PlainValue, ResourceKind, Text,
-};
+use kob_names::{Binding, Operation, PatternKind, Permission, PlainValue, ResourceKind, Text};
 use std::alloc::{AllocError, Global};
 
 /// One name, or the names that begin with a text and that no longer prefixed pattern and no literal
@@ -54,27 +52,22 @@ pub(crate) fn copied_target(alloc: Global, target: &Target) -> Result<Target, Al
     })
 }
 
-fn matches_names(pattern: &Pattern, names: &Names) -> bool
-    ensures { result ≡ matches_names pattern.now names.now }
-{
-    match names {
-        Names::Exactly(name) => pattern.matches(name.as_str()),
-        Names::Below(start) => match pattern.kind {
-            PatternKind::Literal => pattern.name.as_str() == "*",
-            PatternKind::Prefixed => {
-                let name = pattern.name.as_str().as_bytes();
-                start.as_str().as_bytes().starts_with(name)
-            }
-        },
-    }
-}
-
 /// Whether the binding is for the kind of resource, and its pattern matches the names.
 pub(crate) fn is_on(target: &Target, entry: &(u64, Binding)) -> bool
     ensures { result ≡ is_on target.now entry.now }
 {
     let binding = entry.1.parts();
-    binding.resource == target.resource && matches_names(&binding.pattern, &target.names)
+    binding.resource == target.resource
+        && match &target.names {
+            Names::Exactly(name) => binding.pattern.matches(name.as_str()),
+            Names::Below(start) => match binding.pattern.kind {
+                PatternKind::Literal => binding.pattern.name.as_str() == "*",
+                PatternKind::Prefixed => {
+                    let name = binding.pattern.name.as_str().as_bytes();
+                    start.as_str().as_bytes().starts_with(name)
+                }
+            },
+        }
 }
 
 fn covers_party(all: &str, bound: &str, party: &Option<Text>) -> bool

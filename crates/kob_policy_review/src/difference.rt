@@ -300,33 +300,6 @@ fn push_all(
     Ok(())
 }
 
-fn changes_at(
-    alloc: Global,
-    before: &Finder<'_>,
-    after: &Finder<'_>,
-    targets: &[Target],
-) -> Result<Vec<Change>, AllocError>
-    ensures { IfOk result (λ made.
-        made.items ≡ flat_map (changes_on before.now after.now) targets.now) }
-{
-    let mut out = Vec::new(alloc);
-    push_all(alloc, &mut out, before, after, targets)?;
-    Ok(out)
-}
-
-fn changes_to_later(
-    alloc: Global,
-    before: &Finder<'_>,
-    after: &Authorizer,
-    targets: &[Target],
-) -> Result<Vec<Change>, AllocError>
-    ensures { IfOk result (λ made.
-        made.items ≡ flat_map (changes_on before.now after.now.contents) targets.now) }
-{
-    let later = Finder::of(alloc, after)?;
-    changes_at(alloc, before, &later, targets)
-}
-
 #[tactic(auto, unfolding(crate::specs::Difference::changes_of))]
 fn all_changes(
     alloc: Global,
@@ -338,7 +311,10 @@ fn all_changes(
 {
     let targets = targets_in(alloc, before, after)?;
     let earlier = Finder::of(alloc, before)?;
-    changes_to_later(alloc, &earlier, after, targets.as_slice())
+    let later = Finder::of(alloc, after)?;
+    let mut out = Vec::new(alloc);
+    push_all(alloc, &mut out, &earlier, &later, targets.as_slice())?;
+    Ok(out)
 }
 
 /// What becomes of the answers from one set of rules to another, for principals that are super

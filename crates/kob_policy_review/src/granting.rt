@@ -5,7 +5,7 @@ ghost use Rattle.kob_authorizer.specs.Index.{AreRising};
 ghost use Rattle.kob_policy_review.specs.Classes.{principals_named};
 ghost use Rattle.kob_policy_review.specs.Difference.{some_in};
 ghost use Rattle.kob_policy_review.specs.Granting.{ListsAnswers, answer_at, answers_by, answers_on};
-ghost use Rattle.kob_policy_review.specs.Granting.{first_met, verdict_by};
+ghost use Rattle.kob_policy_review.specs.Granting.{first_met};
 
 use crate::askers::Askers;
 use crate::class::{Target, is_met};
@@ -41,17 +41,6 @@ fn first_met(
     Some(entry.0)
 }
 
-fn verdict_by(opened: bool, deny: Option<u64>, allow: Option<u64>) -> Verdict
-    ensures { result ≡ verdict_by opened deny allow }
-{
-    match (deny, allow) {
-        (Some(serial), _) => Verdict::DeniedBy(serial),
-        (None, Some(serial)) => Verdict::AllowedBy(serial),
-        (None, None) if opened => Verdict::NoAclFound,
-        (None, None) => Verdict::NoAllow,
-    }
-}
-
 #[tactic(auto, unfolding(crate::specs::Granting::answer_at))]
 fn answer_at(
     alloc: Global,
@@ -71,7 +60,12 @@ fn answer_at(
     Ok(Answer {
         principal,
         host,
-        verdict: verdict_by(opened, deny, allow),
+        verdict: match (deny, allow) {
+            (Some(serial), _) => Verdict::DeniedBy(serial),
+            (None, Some(serial)) => Verdict::AllowedBy(serial),
+            (None, None) if opened => Verdict::NoAclFound,
+            (None, None) => Verdict::NoAllow,
+        },
     })
 }
 
@@ -140,31 +134,6 @@ fn push_principals(
     Ok(())
 }
 
-fn answers_among(
-    alloc: Global,
-    supers: &[Principal],
-    opened: bool,
-    matching: &Askers<'_>,
-    operation: Operation,
-) -> Result<Vec<Answer>, AllocError>
-    ensures { IfOk result (λ found. found.items
-        ≡ flat_map (answers_by supers.now opened matching.now operation)
-        (principals_named matching.now)) }
-{
-    let principals = principals_of(alloc, matching.entries())?;
-    let mut out = Vec::new(alloc);
-    push_principals(
-        alloc,
-        &mut out,
-        supers,
-        opened,
-        matching,
-        operation,
-        principals.as_slice(),
-    )?;
-    Ok(out)
-}
-
 fn is_opened(everyone: bool, matching: &[(u64, Binding)]) -> bool
     ensures { result ≡ everyone && not (some_in matching.now) }
 {
@@ -184,7 +153,18 @@ fn answers_for(
 {
     let opened = is_opened(rules.everyone(), matching);
     let askers = Askers::of(alloc, matching)?;
-    answers_among(alloc, rules.supers(), opened, &askers, operation)
+    let principals = principals_of(alloc, matching)?;
+    let mut out = Vec::new(alloc);
+    push_principals(
+        alloc,
+        &mut out,
+        rules.supers(),
+        opened,
+        &askers,
+        operation,
+        principals.as_slice(),
+    )?;
+    Ok(out)
 }
 
 fn answers_on(

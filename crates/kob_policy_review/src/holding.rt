@@ -1,10 +1,10 @@
 //! What is granted to one principal.
 
 ghost use Rattle.std.specs.Prelude.{◌≡◌, ◌++◌, IfOk, OnOk, Some, false, filter, flat_map, map};
-ghost use Rattle.kob_policy_review.specs.Classes.{operations, targets_named};
+ghost use Rattle.kob_policy_review.specs.Classes.{operations};
 ghost use Rattle.kob_policy_review.specs.Difference.{yes_to};
 ghost use Rattle.kob_policy_review.specs.Holding.{ListsHoldings, holding_from, holdings_of};
-ghost use Rattle.kob_policy_review.specs.Holding.{holdings_on, hosts_asked, own_entries};
+ghost use Rattle.kob_policy_review.specs.Holding.{holdings_on, hosts_asked};
 
 use crate::class::{Target, copied_target};
 use crate::finder::Finder;
@@ -140,20 +140,6 @@ fn push_all(
     Ok(())
 }
 
-/// The names that the principal's bindings distinguish.
-fn own_targets(
-    alloc: Global,
-    rules: &Authorizer,
-    principal: &Principal,
-) -> Result<Vec<Target>, AllocError>
-    ensures { IfOk result (λ made. made.items
-        ≡ targets_named (own_entries rules.now.contents principal.now)) }
-{
-    let party = party_of(alloc, principal)?;
-    let own = asking(alloc, rules.entries(), &party)?;
-    targets_of(alloc, own.as_slice())
-}
-
 #[tactic(auto, unfolding(crate::specs::Holding::holdings_of))]
 fn all_rights(
     alloc: Global,
@@ -164,9 +150,11 @@ fn all_rights(
     ensures { IfOk result (λ found.
         found.items ≡ holdings_of rules.now.contents principal.now host.now) }
 {
-    let mut out = Vec::new(alloc);
-    let targets = own_targets(alloc, rules, principal)?;
+    let party = party_of(alloc, principal)?;
+    let own = asking(alloc, rules.entries(), &party)?;
+    let targets = targets_of(alloc, own.as_slice())?;
     let finder = Finder::of(alloc, rules)?;
+    let mut out = Vec::new(alloc);
     push_all(
         alloc,
         &mut out,

@@ -2,7 +2,7 @@
 
 ghost use Rattle.std.specs.Prelude.{◌≡◌, ◌++◌, ◌∷◌, [], IfOk, OnOk, filter, fold, if◌then◌else◌};
 ghost use Rattle.kob_policy_review.specs.Classes.{hosts_named, with_host};
-ghost use Rattle.kob_policy_review.specs.Classes.{is_for, is_on, is_party, with_party};
+ghost use Rattle.kob_policy_review.specs.Classes.{is_for, is_on, is_party};
 ghost use Rattle.std.specs.List.{list_any};
 
 use crate::class::{Target, is_for, is_on};
@@ -86,16 +86,6 @@ fn is_among(parties: &[Option<Text>], text: &str) -> bool
     parties.iter().any(|party| is_party(text, party))
 }
 
-fn add_party(alloc: Global, parties: &mut Vec<Option<Text>>, text: &str) -> Result<(), AllocError>
-    ensures { OnOk result (parties.new.items ≡ with_party parties.old.items text.now) }
-{
-    if !is_among(parties, text) {
-        let text = Text::copied(alloc, text)?;
-        parties.push(Some(text))?;
-    }
-    Ok(())
-}
-
 #[tactic(auto, unfolding(crate::specs::Classes::with_host))]
 fn add_host(
     alloc: Global,
@@ -104,7 +94,11 @@ fn add_host(
 ) -> Result<(), AllocError>
     ensures { OnOk result (made.new.items ≡ with_host made.old.items entry.now) }
 {
-    add_party(alloc, made, entry.1.parts().host.as_str())
+    let host = entry.1.parts().host.as_str();
+    if !is_among(made, host) {
+        made.push(Some(Text::copied(alloc, host)?))?;
+    }
+    Ok(())
 }
 
 /// The hosts that the bindings name, each once, after all others.

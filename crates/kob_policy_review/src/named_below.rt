@@ -34,18 +34,6 @@ fn some_met_on(
     asking.iter().any(|entry| is_on(target, entry) && is_met(permission, host, operation, entry))
 }
 
-fn yes_at(
-    asking: &[(u64, Binding)],
-    host: &Option<Text>,
-    operation: Operation,
-    place: &Place,
-) -> bool
-    ensures { result ≡ yes_at asking.now host.now operation place.now }
-{
-    !some_met_on(&place.target, Permission::Deny, host, operation, asking)
-        && (some_met_on(&place.target, Permission::Allow, host, operation, asking) || place.opened)
-}
-
 fn on_each(
     asking: &[(u64, Binding)],
     host: &Option<Text>,
@@ -54,9 +42,11 @@ fn on_each(
 ) -> bool
     ensures { result ≡ list_all (yes_at asking.now host.now operation) places.now }
 {
-    places
-        .iter()
-        .all(|place| yes_at(asking, host, operation, place))
+    places.iter().all(|place| {
+        !some_met_on(&place.target, Permission::Deny, host, operation, asking)
+            && (some_met_on(&place.target, Permission::Allow, host, operation, asking)
+                || place.opened)
+    })
 }
 
 /// Of the names below a prefix that a binding is on, those that the fewest others are on.

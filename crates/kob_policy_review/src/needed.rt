@@ -4,11 +4,10 @@ ghost use Rattle.std.specs.Prelude.{◌≡◌, ◌++◌, ◌∷◌, [], IfOk, On
 ghost use Rattle.kob_policy_review.specs.Classes.{principals_named};
 ghost use Rattle.kob_policy_review.specs.Needed.{closing, is_super_party, met, needed, needed_among};
 ghost use Rattle.kob_policy_review.specs.Needed.{needed_by};
-ghost use Rattle.kob_policy_review.specs.Needed.{needed_for, needed_from, needed_on, needed_to};
-ghost use Rattle.kob_policy_review.specs.Needed.{only_one, unless_allowed};
+ghost use Rattle.kob_policy_review.specs.Needed.{needed_for, needed_from};
 
 use crate::askers::Askers;
-use crate::class::{Target, is_met};
+use crate::class::is_met;
 use crate::finder::Finder;
 use crate::matching::{OPERATIONS, asking, hosts_of};
 use crate::parties::principals_of;
@@ -54,28 +53,11 @@ fn push_if(made: &mut Vec<u64>, serial: u64, wanted: bool) -> Result<(), AllocEr
 fn needed_for(alone: Option<u64>, denies: &[u64], allows: &[u64]) -> Option<u64>
     ensures { result ≡ needed_for alone denies.now allows.now }
 {
-    match alone {
-        Some(closing) => unless_allowed(closing, allows),
-        None => only_one(denies, allows),
-    }
-}
-
-fn unless_allowed(closing: u64, allows: &[u64]) -> Option<u64>
-    ensures { result ≡ unless_allowed closing allows.now }
-{
-    if allows.is_empty() {
-        Some(closing)
-    } else {
-        None
-    }
-}
-
-fn only_one(denies: &[u64], allows: &[u64]) -> Option<u64>
-    ensures { result ≡ only_one denies.now allows.now }
-{
-    match (denies, allows) {
-        ([], [allow]) => Some(*allow),
-        ([deny], [_, ..]) => Some(*deny),
+    match (alone, denies, allows) {
+        (Some(closing), _, []) => Some(closing),
+        (Some(_), _, [_, ..]) => None,
+        (None, [], [allow]) => Some(*allow),
+        (None, [deny], [_, ..]) => Some(*deny),
         _ => None,
     }
 }
@@ -100,27 +82,7 @@ pub fn is_super_party(supers: &[Principal], principal: &Option<Text>) -> bool
     }
 }
 
-#[tactic(auto, unfolding(crate::specs::Needed::needed_to))]
-fn push_needed_to(
-    alloc: Global,
-    out: &mut Vec<u64>,
-    alone: Option<u64>,
-    asking: &[(u64, Binding)],
-    host: &Option<Text>,
-    operation: Operation,
-) -> Result<(), AllocError>
-    ensures { OnOk result (out.new.items ≡ out.old.items
-        ++ needed_to alone asking.now host.now operation) }
-{
-    let denies = met(alloc, asking, Permission::Deny, host, operation)?;
-    let allows = met(alloc, asking, Permission::Allow, host, operation)?;
-    if let Some(serial) = needed_for(alone, denies.as_slice(), allows.as_slice()) {
-        out.push(serial)?;
-    }
-    Ok(())
-}
-
-#[tactic(auto, unfolding(crate::specs::Needed::needed_from))]
+#[tactic(auto, unfolding(crate::specs::Needed::needed_from, crate::specs::Needed::needed_to))]
 fn push_needed_from(
     alloc: Global,
     out: &mut Vec<u64>,
@@ -131,7 +93,11 @@ fn push_needed_from(
     ensures { OnOk result (out.new.items ≡ out.old.items ++ needed_from alone asking.now host.now) }
 {
     for operation in OPERATIONS.as_slice() {
-        push_needed_to(alloc, out, alone, asking, host, *operation)?;
+        let denies = met(alloc, asking, Permission::Deny, host, *operation)?;
+        let allows = met(alloc, asking, Permission::Allow, host, *operation)?;
+        if let Some(serial) = needed_for(alone, denies.as_slice(), allows.as_slice()) {
+            out.push(serial)?;
+        }
     }
     Ok(())
 }
@@ -182,30 +148,7 @@ pub fn push_needed_by(
     )
 }
 
-/// The same, by a look-up.
 #[tactic(auto, unfolding(crate::specs::Needed::needed_by))]
-fn push_needed_of(
-    alloc: Global,
-    out: &mut Vec<u64>,
-    rules: &Authorizer,
-    matching: &Askers<'_>,
-    principal: &Option<Text>,
-) -> Result<(), AllocError>
-    ensures { OnOk result (out.new.items ≡ out.old.items ++ needed_by rules.now.contents.supers
-        rules.now.contents.everyone matching.now principal.now) }
-{
-    let alone = closing(rules.everyone(), matching.entries());
-    let asking = matching.asking(alloc, principal)?;
-    push_needed_among(
-        alloc,
-        out,
-        rules.supers(),
-        alone,
-        asking.as_slice(),
-        principal,
-    )
-}
-
 fn push_needed_to_each(
     alloc: Global,
     out: &mut Vec<u64>,
@@ -216,36 +159,33 @@ fn push_needed_to_each(
         ++ flat_map (needed_by rules.now.contents.supers rules.now.contents.everyone matching.now)
         (principals_named matching.now)) }
 {
+    let alone = closing(rules.everyone(), matching.entries());
     let principals = principals_of(alloc, matching.entries())?;
     for principal in principals.as_slice() {
-        push_needed_of(alloc, out, rules, matching, principal)?;
+        let asking = matching.asking(alloc, principal)?;
+        push_needed_among(
+            alloc,
+            out,
+            rules.supers(),
+            alone,
+            asking.as_slice(),
+            principal,
+        )?;
     }
     Ok(())
 }
 
-#[tactic(auto, unfolding(crate::specs::Needed::needed_on))]
-fn push_needed_on(
-    alloc: Global,
-    out: &mut Vec<u64>,
-    finder: &Finder<'_>,
-    target: &Target,
-) -> Result<(), AllocError>
-    ensures { OnOk result (out.new.items ≡ out.old.items ++ needed_on finder.now target.now) }
-{
-    let matching = finder.matching(alloc, target)?;
-    let askers = Askers::of(alloc, matching.as_slice())?;
-    push_needed_to_each(alloc, out, finder.rules(), &askers)
-}
-
 /// The serials of the bindings that are needed, each at least once.
-#[tactic(auto, unfolding(crate::specs::Needed::needed))]
+#[tactic(auto, unfolding(crate::specs::Needed::needed, crate::specs::Needed::needed_on))]
 pub fn needed(alloc: Global, finder: &Finder<'_>) -> Result<Vec<u64>, AllocError>
     ensures { IfOk result (λ made. made.items ≡ needed finder.now) }
 {
     let mut out = Vec::new(alloc);
     let targets = targets_of(alloc, finder.rules().entries())?;
     for target in targets.as_slice() {
-        push_needed_on(alloc, &mut out, finder, target)?;
+        let matching = finder.matching(alloc, target)?;
+        let askers = Askers::of(alloc, matching.as_slice())?;
+        push_needed_to_each(alloc, &mut out, finder.rules(), &askers)?;
     }
     Ok(out)
 }

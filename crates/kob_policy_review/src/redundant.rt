@@ -6,7 +6,7 @@ ghost use Rattle.std.specs.List.{list_any};
 ghost use Rattle.std.specs.HashSet.{contains};
 ghost use Rattle.kob_policy_review.specs.Redundancy.{ListsUnused, around, bears_on_all, binds_all};
 ghost use Rattle.kob_policy_review.specs.Redundancy.{first_wider, is_outside, reaches_all};
-ghost use Rattle.kob_policy_review.specs.Redundancy.{reason_by, reason_of, takes_all};
+ghost use Rattle.kob_policy_review.specs.Redundancy.{reason_by, reason_of};
 ghost use Rattle.kob_policy_review.specs.Redundancy.{unused_entry, unused_in};
 
 use crate::class::{Names, Target};
@@ -15,7 +15,7 @@ use crate::matching::OPERATIONS;
 use crate::needed::needed;
 use crate::supers::is_super;
 use kob_authorizer::Authorizer;
-use kob_names::{Binding, Draft, Pattern, PatternKind, Permission, PlainValue};
+use kob_names::{Binding, Draft, PatternKind, Permission, PlainValue};
 use std::alloc::{AllocError, Global};
 use std::collections::HashSet;
 
@@ -39,23 +39,6 @@ pub struct Unneeded {
     pub reason: Reason,
 }
 
-fn takes_all(wide: &Pattern, narrow: &Pattern) -> bool
-    ensures { result ≡ takes_all wide.now.kind wide.now.name narrow.now.kind narrow.now.name }
-{
-    let name = narrow.name.as_str();
-    let start = wide.name.as_str();
-    match (wide.kind, narrow.kind) {
-        (PatternKind::Literal, PatternKind::Literal) => start == "*" || start == name,
-        (PatternKind::Literal, PatternKind::Prefixed) => start == "*",
-        (PatternKind::Prefixed, PatternKind::Literal) => {
-            name != "*" && name.as_bytes().starts_with(start.as_bytes())
-        }
-        (PatternKind::Prefixed, PatternKind::Prefixed) => {
-            name.as_bytes().starts_with(start.as_bytes())
-        }
-    }
-}
-
 fn binds_all(all: &str, wide: &str, narrow: &str) -> bool
     ensures { result ≡ binds_all all.now wide.now narrow.now }
 {
@@ -75,8 +58,20 @@ fn reaches_all(wide: &Draft, narrow: &Draft) -> bool
 fn bears_on_all(wide: &Draft, narrow: &Draft) -> bool
     ensures { result ≡ bears_on_all wide.now narrow.now }
 {
+    let name = narrow.pattern.name.as_str();
+    let start = wide.pattern.name.as_str();
+    let takes_all = match (wide.pattern.kind, narrow.pattern.kind) {
+        (PatternKind::Literal, PatternKind::Literal) => start == "*" || start == name,
+        (PatternKind::Literal, PatternKind::Prefixed) => start == "*",
+        (PatternKind::Prefixed, PatternKind::Literal) => {
+            name != "*" && name.as_bytes().starts_with(start.as_bytes())
+        }
+        (PatternKind::Prefixed, PatternKind::Prefixed) => {
+            name.as_bytes().starts_with(start.as_bytes())
+        }
+    };
     wide.resource == narrow.resource
-        && takes_all(&wide.pattern, &narrow.pattern)
+        && takes_all
         && binds_all("User:*", wide.principal.as_str(), narrow.principal.as_str())
         && binds_all("*", wide.host.as_str(), narrow.host.as_str())
         && reaches_all(wide, narrow)

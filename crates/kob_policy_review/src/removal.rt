@@ -1,7 +1,6 @@
 //! Bindings that may go together: no answer at all changes without all of them.
 
-ghost use Rattle.std.specs.Prelude.{◌≡◌, ◌==◌, IfOk, filter};
-ghost use Rattle.std.specs.List.{list_any};
+ghost use Rattle.std.specs.Prelude.{◌≡◌, IfOk, filter};
 ghost use Rattle.kob_policy_review.specs.Redundancy.{is_outside};
 ghost use Rattle.kob_policy_review.specs.Removal.{ListsRemovable, concerned, is_among, is_needed_in, removable_in};
 
@@ -31,12 +30,6 @@ fn concerned(
     Ok(made)
 }
 
-fn has(serials: &[u64], serial: u64) -> bool
-    ensures { result ≡ list_any (λ other. other == serial) serials.now }
-{
-    serials.iter().any(|other| *other == serial)
-}
-
 /// Whether the entry is needed on some names, of the entries that match these.
 fn is_needed_in(
     alloc: Global,
@@ -52,7 +45,7 @@ fn is_needed_in(
     for principal in principals.as_slice() {
         push_needed_by(alloc, &mut out, rules, matching, principal)?;
     }
-    Ok(has(out.as_slice(), entry.0))
+    Ok(out.contains(&entry.0))
 }
 
 /// Whether the entry is needed on some names, of those that match these, once some are gone.

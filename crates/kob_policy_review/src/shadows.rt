@@ -3,32 +3,24 @@
 ghost use Rattle.std.specs.Prelude.{◌≡◌, ◌==◌, ◌++◌, ℕ, IfOk, OnOk, filter, flat_map, map, nat_eq};
 ghost use Rattle.std.specs.HashSet.{contains};
 ghost use Rattle.std.specs.List.{list_any};
-ghost use Rattle.kob_names.specs.declared.kinds.Permission.TheVariants.{Deny};
-ghost use Rattle.kob_policy_review.specs.Classes.{is_met, principals_named};
+ghost use Rattle.kob_policy_review.specs.Classes.{principals_named};
 ghost use Rattle.kob_policy_review.specs.Shadows.{ListsShadowed, bearing, bearing_by, bearing_from};
 ghost use Rattle.kob_policy_review.specs.Shadows.{bearing_on, bearing_to, is_between, serial_of_entry};
 ghost use Rattle.kob_policy_review.specs.Shadows.{shadowed_in};
 
 use crate::askers::Askers;
-use crate::class::{Target, is_met};
+use crate::class::Target;
 use crate::finder::Finder;
 use crate::matching::{OPERATIONS, hosts_of};
 use crate::needed::{is_super_party, met};
 use crate::parties::principals_of;
 use crate::redundant::set_of;
+use crate::sides::some_met;
 use crate::targets::targets_of;
 use kob_authorizer::Authorizer;
 use kob_names::{Binding, Operation, Permission, Principal, Text};
 use std::alloc::{AllocError, Global};
 use std::collections::HashSet;
-
-fn some_denies(asking: &[(u64, Binding)], host: &Option<Text>, operation: Operation) -> bool
-    ensures { result ≡ list_any (is_met Deny host.now operation) asking.now }
-{
-    asking
-        .iter()
-        .any(|entry| is_met(Permission::Deny, host, operation, entry))
-}
 
 #[tactic(auto, unfolding(crate::specs::Shadows::bearing_to))]
 fn push_to(
@@ -42,7 +34,7 @@ fn push_to(
     ensures { OnOk result (out.new.items ≡ out.old.items
         ++ bearing_to beaten asking.now host.now operation) }
 {
-    if beaten && some_denies(asking, host, operation) {
+    if beaten && some_met(asking, Permission::Deny, host, operation) {
         return Ok(());
     }
     let serials = met(alloc, asking, Permission::Allow, host, operation)?;
@@ -153,12 +145,6 @@ fn is_between(some: &HashSet<u64>, others: &HashSet<u64>, entry: &(u64, Binding)
     some.contains(&entry.0) && !others.contains(&entry.0)
 }
 
-fn serial_of(entry: &(u64, Binding)) -> u64
-    ensures { result ≡ serial_of_entry entry.now }
-{
-    entry.0
-}
-
 /// The serials of the entries that are in the one set and not in the other.
 fn between(
     alloc: Global,
@@ -172,7 +158,7 @@ fn between(
     entries
         .iter()
         .filter(|entry| is_between(some, others, entry))
-        .map(|entry| serial_of(entry))
+        .map(|entry| entry.0)
         .collect(alloc)
 }
 

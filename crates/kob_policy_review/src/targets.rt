@@ -3,7 +3,7 @@
 ghost use Rattle.std.specs.Prelude.{◌≡◌, ◌++◌, ◌∷◌, [], IfOk, OnOk, filter, fold, slice_get};
 ghost use Rattle.std.specs.List.{list_any};
 ghost use Rattle.kob_prefix_tree.specs.Held.{held};
-ghost use Rattle.kob_policy_review.specs.Classes.{names_by, open_targets, others_on, same_names};
+ghost use Rattle.kob_policy_review.specs.Classes.{names_by, open_targets, others_on};
 ghost use Rattle.kob_policy_review.specs.Classes.{same_target, target_of, targets_named};
 ghost use Rattle.kob_policy_review.specs.Classes.{the_cluster, with_target, with_target_of};
 ghost use Rattle.kob_policy_review.specs.Below.{at_prefix, is_below, targets_below};
@@ -202,20 +202,15 @@ pub fn target_of(alloc: Global, entry: &(u64, Binding)) -> Result<Target, AllocE
     }
 }
 
-fn same_names(one: &Names, other: &Names) -> bool
-    ensures { result ≡ same_names one.now other.now }
-{
-    match (one, other) {
-        (Names::Exactly(one), Names::Exactly(other)) => one == other,
-        (Names::Below(one), Names::Below(other)) => one == other,
-        _ => false,
-    }
-}
-
 fn same_target(one: &Target, other: &Target) -> bool
     ensures { result ≡ same_target one.now other.now }
 {
-    one.resource == other.resource && same_names(&one.names, &other.names)
+    one.resource == other.resource
+        && match (&one.names, &other.names) {
+            (Names::Exactly(one), Names::Exactly(other)) => one == other,
+            (Names::Below(one), Names::Below(other)) => one == other,
+            _ => false,
+        }
 }
 
 /// The names that a set of rules distinguishes, each once.
