@@ -39,9 +39,15 @@ pub(crate) fn is_altered(recorded: &HashMap<u128, &OutboxEvent>, row: &InboxRow)
         → ((id : ℕ) → option_copied (get nat_eq recorded.now id) ≡ event_with id (reverse events))
         → result ≡ is_altered events row.now }
 {
-    match recorded.get(&row.id.as_u128()).copied() {
-        Some(event) => !is_copy(event, row),
-        None => false,
+    let Some(event) = recorded.get(&row.id.as_u128()).copied() else {
+        return false;
+    };
+    match &row.key {
+        Some(key) => {
+            !(key.as_slice() == event.aggregate_id.as_bytes()
+                && row.value.as_slice() == event.payload.as_bytes())
+        }
+        None => true,
     }
 }
 
@@ -59,16 +65,4 @@ pub(crate) fn events_by_id<'e>(
         recorded.insert(event.id.as_u128(), *event)?;
     }
     Ok(recorded)
-}
-
-fn is_copy(event: &OutboxEvent, row: &InboxRow) -> bool
-    ensures { result ≡ is_copy event.now row.now }
-{
-    match &row.key {
-        Some(key) => {
-            key.as_slice() == event.aggregate_id.as_bytes()
-                && row.value.as_slice() == event.payload.as_bytes()
-        }
-        None => false,
-    }
 }

@@ -25,25 +25,8 @@ fn push_places(out: &mut Vec<u8>, double: DoubledRow) -> Result<(), AllocError>
     out.extend_from_slice(b"\n")
 }
 
-#[tactic(auto, using(kob_words::proofs::Appending::appending))]
-fn push_text(
-    out: &mut Vec<u8>,
-    place: usize,
-    double: DoubledRow,
-    event: Option<&OutboxEvent>,
-) -> Result<(), AllocError>
-    ensures { OnOk result (out.new.items
-        ≡ out.old.items ++ double_text place double (option_copied event.entry)) }
-{
-    let Some(event) = event else {
-        return Ok(());
-    };
-    out.extend_from_slice(b"doubled")?;
-    push_event(out, (place as u64).saturating_add(1), event)?;
-    push_places(out, double)
-}
-
 /// The line of a row; nothing if its event is none of these.
+#[tactic(auto, using(kob_words::proofs::Appending::appending))]
 fn push_double(
     out: &mut Vec<u8>,
     events: &[&OutboxEvent],
@@ -52,10 +35,15 @@ fn push_double(
     ensures { OnOk result (out.new.items
         ≡ out.old.items ++ double_line (map (λ event. event.now) events.now) double) }
 {
-    match place_of(double.event, events) {
-        None => Ok(()),
-        Some(place) => push_text(out, place, double, event_at(events, place)),
-    }
+    let Some(place) = place_of(double.event, events) else {
+        return Ok(());
+    };
+    let Some(event) = event_at(events, place) else {
+        return Ok(());
+    };
+    out.extend_from_slice(b"doubled")?;
+    push_event(out, (place as u64).saturating_add(1), event)?;
+    push_places(out, double)
 }
 
 /// A line for each row of the inbox whose event has an earlier row.
@@ -68,14 +56,7 @@ pub(crate) fn push_doubled_rows(
         ≡ out.old.items ++ double_lines (map (λ event. event.now) events.now) doubles.now) }
 {
     for place in 0..doubles.len() {
-        push_double(out, events, double_at(doubles, place))?;
+        push_double(out, events, doubles[place])?;
     }
     Ok(())
-}
-
-fn double_at(doubles: &[DoubledRow], place: usize) -> DoubledRow
-    requires { place < length doubles.now }
-    ensures { slice_get doubles.now place ≡ Some result }
-{
-    doubles[place]
 }

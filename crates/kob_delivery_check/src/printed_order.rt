@@ -96,16 +96,9 @@ pub(crate) fn push_rows(
         ≡ out.old.items ++ row_lines (map (λ event. event.now) events.now) early.now) }
 {
     for place in 0..early.len() {
-        push_row(out, events, row_at(early, place))?;
+        push_row(out, events, early[place])?;
     }
     Ok(())
-}
-
-fn row_at(early: &[Early], place: usize) -> Early
-    requires { place < length early.now }
-    ensures { slice_get early.now place ≡ Some result }
-{
-    early[place]
 }
 
 /// A line for each record that is out of order in its partition.
@@ -119,14 +112,7 @@ pub(crate) fn push_records(
         ++ record_lines (map (λ event. event.now) events.now) assignment.now early.now) }
 {
     for place in 0..early.len() {
-        push_record(out, events, assignment, record_at(early, place))?;
+        push_record(out, events, assignment, early[place])?;
     }
     Ok(())
-}
-
-fn record_at(early: &[EarlyRecord], place: usize) -> EarlyRecord
-    requires { place < length early.now }
-    ensures { slice_get early.now place ≡ Some result }
-{
-    early[place]
 }

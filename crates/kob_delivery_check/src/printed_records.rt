@@ -116,28 +116,8 @@ fn push_cause(
     }
 }
 
-/// The line of an event that is lost.
-#[tactic(auto, using(kob_words::proofs::Appending::appending))]
-fn push_lost(
-    out: &mut Vec<u8>,
-    journal: &Journal,
-    assignment: &[Place],
-    loss: LostEvent,
-    event: Option<&OutboxEvent>,
-) -> Result<(), AllocError>
-    ensures { OnOk result (out.new.items ≡ out.old.items
-        ++ lost_line journal.now assignment.now loss (option_copied event.entry)) }
-{
-    let Some(event) = event else {
-        return Ok(());
-    };
-    out.extend_from_slice(b"lost")?;
-    push_event(out, (loss.event as u64).saturating_add(1), event)?;
-    push_cause(out, journal, assignment, loss.cause)?;
-    out.extend_from_slice(b"\n")
-}
-
 /// A line for each event that is lost.
+#[tactic(auto, using(kob_words::proofs::Appending::appending))]
 pub(crate) fn push_losses(
     out: &mut Vec<u8>,
     journal: &Journal,
@@ -149,13 +129,13 @@ pub(crate) fn push_losses(
         assignment.now (map (λ event. event.now) events.now) losses.now) }
 {
     for loss in losses {
-        push_lost(
-            out,
-            journal,
-            assignment,
-            *loss,
-            event_at(events, loss.event),
-        )?;
+        let Some(event) = event_at(events, loss.event) else {
+            continue;
+        };
+        out.extend_from_slice(b"lost")?;
+        push_event(out, (loss.event as u64).saturating_add(1), event)?;
+        push_cause(out, journal, assignment, loss.cause)?;
+        out.extend_from_slice(b"\n")?;
     }
     Ok(())
 }

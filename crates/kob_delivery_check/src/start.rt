@@ -23,34 +23,18 @@ pub fn start_due(
 {
     let subscription = consumer.subscription();
     for place in subscription.assignment.as_slice() {
-        let due = start_on(alloc, journal, consumer, place)?;
-        if due.is_some() {
-            return Ok(due);
-        }
+        let log = log_by(alloc, &subscription.group, place, journal)?;
+        let (None, None) = (consumer.position(place), log.committed()) else {
+            continue;
+        };
+        let group = subscription.group.copy(alloc)?;
+        let topic = place.topic.copy(alloc)?;
+        return Ok(Some(OffsetCommit {
+            group,
+            topic,
+            partition: place.partition,
+            offset: log.events().len() as u64,
+        }));
     }
     Ok(None)
-}
-
-/// The commit of the end of a partition, if there is neither a position nor a commit.
-fn start_on(
-    alloc: Global,
-    journal: &Journal,
-    consumer: &Consumer,
-    place: &Place,
-) -> Result<Option<OffsetCommit>, AllocError>
-    ensures { IfOk result (λ due. due ≡ start_on journal.now consumer.now place.now) }
-{
-    let group = &consumer.subscription().group;
-    let log = log_by(alloc, group, place, journal)?;
-    let (None, None) = (consumer.position(place), log.committed()) else {
-        return Ok(None);
-    };
-    let group = group.copy(alloc)?;
-    let topic = place.topic.copy(alloc)?;
-    Ok(Some(OffsetCommit {
-        group,
-        topic,
-        partition: place.partition,
-        offset: log.events().len() as u64,
-    }))
 }

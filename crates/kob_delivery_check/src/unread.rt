@@ -41,31 +41,21 @@ fn note_entry(
         return Ok(());
     }
     match (&entry.event.request, &entry.reply) {
-        (Request::Produce(asked), Reply::Done(_)) => note_produce(alloc, found, assignment, asked),
+        (Request::Produce(asked), Reply::Done(_)) => {
+            if has_partition(assignment, &asked.topic, asked.partition)
+                || has_partition(found, &asked.topic, asked.partition)
+            {
+                return Ok(());
+            }
+            let topic = asked.topic.copy(alloc)?;
+            found.push(Place {
+                topic,
+                partition: asked.partition,
+            })?;
+            Ok(())
+        }
         _ => Ok(()),
     }
-}
-
-fn note_produce(
-    alloc: Global,
-    found: &mut Vec<Place>,
-    assignment: &[Place],
-    asked: &Produce,
-) -> Result<(), AllocError>
-    ensures { OnOk result (found.new.items
-        ≡ with_produce assignment.now found.old.items asked.now) }
-{
-    if has_partition(assignment, &asked.topic, asked.partition)
-        || has_partition(found, &asked.topic, asked.partition)
-    {
-        return Ok(());
-    }
-    let topic = asked.topic.copy(alloc)?;
-    found.push(Place {
-        topic,
-        partition: asked.partition,
-    })?;
-    Ok(())
 }
 
 fn has_partition(places: &[Place], topic: &Text, partition: u64) -> bool
