@@ -5,7 +5,7 @@ ghost use Rattle.std.specs.List.{list_any};
 ghost use Rattle.std.specs.Str.{bytes_eq};
 ghost use Rattle.kob_mistakes.specs.Commands.{is_command};
 ghost use Rattle.kob_mistakes.specs.Forms.{consumer_forms, form_in, form_of, form_of_step, line_forms};
-ghost use Rattle.kob_mistakes.specs.Forms.{request_form, request_forms, request_line_form};
+ghost use Rattle.kob_mistakes.specs.Forms.{request_form, request_forms};
 ghost use Rattle.kob_mistakes.specs.Forms.{request_or_step, service_forms};
 
 use crate::words::word_at;
@@ -166,21 +166,15 @@ pub(crate) fn form_of_step(name: &[u8]) -> Option<&'static str>
     }
 }
 
-/// The form of a request, which is that of its question without `may`.
-fn request_line_form(command: &[u8]) -> &'static str
-    ensures { result.now ≡ request_line_form command.now }
-{
-    match request_form(command) {
-        Some(form) => form.strip_prefix("may ").unwrap_or(form),
-        None => "PRINCIPAL HOST COMMAND ..",
-    }
-}
-
+/// The form of a request, which is that of its question without `may`, or of a step.
 fn request_or_step(words: &[&[u8]]) -> &'static str
     ensures { result.now ≡ request_or_step (map (λ word. word.now) words.now) }
 {
     if word_at(words, 0).contains(&b':') {
-        return request_line_form(word_at(words, 2));
+        return match request_form(word_at(words, 2)) {
+            Some(form) => form.strip_prefix("may ").unwrap_or(form),
+            None => "PRINCIPAL HOST COMMAND ..",
+        };
     }
     match form_of_step(word_at(words, 1)) {
         Some(form) => form,

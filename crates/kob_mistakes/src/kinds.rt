@@ -1,8 +1,8 @@
 //! The kinds of questions, and which one a word may mean.
 
-ghost use Rattle.std.specs.Prelude.{◌≡◌, IfOk, bytes_eq, find, map, option_copied};
+ghost use Rattle.std.specs.Prelude.{◌≡◌, IfOk, bytes_eq, find, option_copied};
 ghost use Rattle.kob_mistakes.specs.Kinds.{begins_question, is_alone, kind_form, kind_name};
-ghost use Rattle.kob_mistakes.specs.Kinds.{kind_named, kinds, meant_by};
+ghost use Rattle.kob_mistakes.specs.Kinds.{kind_named, meant_by};
 
 use crate::spelling::nearest;
 use std::alloc::{AllocError, Global};
@@ -130,20 +130,7 @@ pub fn meant_by(alloc: Global, word: &str, is_missing: bool) -> Result<Meant, Al
     if !is_missing {
         return Ok(Meant::File);
     }
-    let names = kind_names();
-    let Some(name) = nearest(alloc, word, names.as_slice())? else {
-        return Ok(Meant::File);
-    };
-    match kind_named(name.as_str().as_bytes()) {
-        Some(kind) => Ok(Meant::Misspelt(kind)),
-        None => Ok(Meant::File),
-    }
-}
-
-fn kind_names() -> [&'static str; 10]
-    ensures { map (λ name. name.now) result ≡ map kind_name kinds }
-{
-    [
+    let names = [
         Kind::May.name(),
         Kind::Expect.name(),
         Kind::Who.name(),
@@ -154,5 +141,12 @@ fn kind_names() -> [&'static str; 10]
         Kind::Unused.name(),
         Kind::Shadowed.name(),
         Kind::Removable.name(),
-    ]
+    ];
+    let Some(name) = nearest(alloc, word, names.as_slice())? else {
+        return Ok(Meant::File);
+    };
+    match kind_named(name.as_str().as_bytes()) {
+        Some(kind) => Ok(Meant::Misspelt(kind)),
+        None => Ok(Meant::File),
+    }
 }

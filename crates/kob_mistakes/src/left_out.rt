@@ -1,8 +1,7 @@
 //! Words that are left out of a line of a scene, known by what is in their places.
 
 ghost use Rattle.std.specs.Prelude.{◌≡◌, map};
-ghost use Rattle.kob_mistakes.specs.LeftOut.{lacks_askers_host};
-ghost use Rattle.kob_mistakes.specs.LeftOut.{lacks_partition, lacks_payload, lacks_workers_host};
+ghost use Rattle.kob_mistakes.specs.LeftOut.{lacks_partition};
 ghost use Rattle.kob_mistakes.specs.LeftOut.{left_out, left_out_text, place_of_left_out};
 
 use crate::forms::is_command;
@@ -47,40 +46,28 @@ impl LeftOut {
 }
 
 /// What is left out of a line with a fault at a place.
+#[tactic(auto, using(crate::proofs::Walking::lent_length))]
 pub(crate) fn left_out(line: &[u8], words: &[&[u8]], place: usize) -> Option<LeftOut>
     ensures { result ≡ left_out line.now (map (λ word. word.now) words.now) place }
 {
-    if place == 4 && lacks_workers_host(words) {
+    if place == 4
+        && (word_is(words, 0, b"service") && word_is(words, 3, b"partitions")
+            || word_is(words, 0, b"consumer") && word_is(words, 3, b"group"))
+    {
         Some(LeftOut::WorkersHost)
-    } else if place == 2 && lacks_askers_host(words) {
+    } else if place == 2 && word_at(words, 0).contains(&b':') && is_command(word_at(words, 1)) {
         Some(LeftOut::AskersHost)
-    } else if place == 9 && lacks_payload(line, words) {
+    } else if place == 9
+        && words.len() == 9
+        && word_is(words, 1, b"record")
+        && !line.contains(&b'{')
+    {
         Some(LeftOut::Payload)
     } else if lacks_partition(words, place) {
         Some(LeftOut::Partition)
     } else {
         None
     }
-}
-
-fn lacks_workers_host(words: &[&[u8]]) -> bool
-    ensures { result ≡ lacks_workers_host (map (λ word. word.now) words.now) }
-{
-    word_is(words, 0, b"service") && word_is(words, 3, b"partitions")
-        || word_is(words, 0, b"consumer") && word_is(words, 3, b"group")
-}
-
-fn lacks_askers_host(words: &[&[u8]]) -> bool
-    ensures { result ≡ lacks_askers_host (map (λ word. word.now) words.now) }
-{
-    word_at(words, 0).contains(&b':') && is_command(word_at(words, 1))
-}
-
-#[tactic(auto, using(crate::proofs::Walking::lent_length))]
-fn lacks_payload(line: &[u8], words: &[&[u8]]) -> bool
-    ensures { result ≡ lacks_payload line.now (map (λ word. word.now) words.now) }
-{
-    words.len() == 9 && word_is(words, 1, b"record") && !line.contains(&b'{')
 }
 
 /// Whether a word without a colon stands behind `reads`, or behind a partition.

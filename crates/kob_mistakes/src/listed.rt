@@ -74,19 +74,8 @@ fn has_unknown_value(word: &[u8]) -> bool {
 /// A hint on a line that is not one of a list, but one of a scene, or on a list that can't be read as
 /// UTF-8, if it has a mark of UTF-16, which is read elsewhere.
 pub(crate) fn hint_on_list(text: &[u8], words: &[&[u8]]) -> Option<&'static str> {
-    if is_of_scene(words) {
-        Some("this looks like a scene: kob play plays it")
-    } else if is_utf_16(text, b"") {
-        Some("the text is UTF-16 with an odd number of bytes, or with an unpaired surrogate")
-    } else {
-        None
-    }
-}
-
-/// Whether a line looks like a declaration, a step of a worker, or a request other than those that
-/// lists may have.
-fn is_of_scene(words: &[&[u8]]) -> bool {
-    match words {
+    // (a declaration, a step of a worker, or a request other than those that lists may have)
+    let is_of_scene = match words {
         [who, _, command, ..] if who.contains(&b':') => {
             is_command(command)
                 && *command != b"create-acl".as_slice()
@@ -94,5 +83,12 @@ fn is_of_scene(words: &[&[u8]]) -> bool {
         }
         [first, second, ..] => declared_by(first).is_some() || form_of_step(second).is_some(),
         _ => false,
+    };
+    if is_of_scene {
+        Some("this looks like a scene: kob play plays it")
+    } else if is_utf_16(text, b"") {
+        Some("the text is UTF-16 with an odd number of bytes, or with an unpaired surrogate")
+    } else {
+        None
     }
 }

@@ -4,7 +4,7 @@ ghost use Rattle.std.specs.Prelude.{◌≡◌, ◌++◌, IfOk, OnOk, map, option
 ghost use Rattle.kob_scene_text.specs.Misuses.{misuse_at};
 ghost use Rattle.kob_script.specs.Script.{line_words};
 ghost use Rattle.kob_script.specs.Words.{raw_words, words_of};
-ghost use Rattle.kob_mistakes.specs.Places.{begins_with_nothing, count_of, half_place, is_half};
+ghost use Rattle.kob_mistakes.specs.Places.{count_of, is_half};
 ghost use Rattle.kob_mistakes.specs.Places.{place_by, place_named, place_of};
 ghost use Rattle.kob_scene_text.specs.Places.{same_kind};
 ghost use Rattle.kob_mistakes.specs.Forms.{form_by};
@@ -146,6 +146,7 @@ fn form_by(kind: SceneFaultKind, words: &[&[u8]], stepping: Option<WorkerKind>) 
     }
 }
 
+#[tactic(auto, using(crate::proofs::Walking::lent_length))]
 fn place_of(
     alloc: Global,
     before: &[&[u8]],
@@ -163,10 +164,14 @@ fn place_of(
     if line.starts_with(b"\xef\xbb\xbf") {
         return Ok(0);
     }
-    match half_place(raw, kind) {
-        Some(place) => Ok(place),
-        None => place_by(alloc, before, line, raw, kind),
+    // (a blank in JSON or in a quoted text cuts a word of a record in two: its first half is named,
+    // and not the word that is one too many)
+    if is_bad_line(kind) && word_is(raw, 1, b"record") && raw.len() > 10 {
+        if let Some(place) = first_half(raw) {
+            return Ok(place);
+        }
     }
+    place_by(alloc, before, line, raw, kind)
 }
 
 fn place_by(
@@ -181,8 +186,13 @@ fn place_by(
 {
     match words_of(alloc, line) {
         Ok(words) => {
-            if begins_with_nothing(alloc, before, raw, kind)? {
-                return Ok(0);
+            // (such a line may begin with no word of its own, no principal, and no worker)
+            let first = word_at(raw, 0);
+            if is_bad_line(kind) && keyword_form(first).is_none() && !first.contains(&b':') {
+                let worker = kind_named(alloc, before, first)?;
+                if worker.is_none() {
+                    return Ok(0);
+                }
             }
             word_place(alloc, before, &words, kind)
         }
@@ -200,55 +210,18 @@ fn is_bad_line(kind: SceneFaultKind) -> bool
     }
 }
 
-/// Whether a line of the wrong shape begins with no word of its own, no principal, and no worker.
-fn begins_with_nothing(
-    alloc: Global,
-    before: &[&[u8]],
-    words: &[&[u8]],
-    kind: SceneFaultKind,
-) -> Result<bool, AllocError>
-    ensures { IfOk result (λ is. is ≡ begins_with_nothing (map (λ line. line.now) before.now)
-        (map (λ word. word.now) words.now) kind) }
-{
-    let first = word_at(words, 0);
-    if !is_bad_line(kind) || keyword_form(first).is_some() || first.contains(&b':') {
-        return Ok(false);
-    }
-    let worker = kind_named(alloc, before, first)?;
-    Ok(worker.is_none())
-}
-
-/// A blank in JSON or in a quoted text cuts a word of a record in two. The first half is then the
-/// word that is named, not the one too many.
-#[tactic(auto, using(crate::proofs::Walking::lent_length))]
-fn half_place(words: &[&[u8]], kind: SceneFaultKind) -> Option<usize>
-    ensures { result ≡ half_place (map (λ word. word.now) words.now) kind }
-{
-    if is_bad_line(kind) && word_is(words, 1, b"record") && words.len() > 10 {
-        first_half(words)
-    } else {
-        None
-    }
-}
-
 #[tactic(auto, using(crate::proofs::Walking::goes_on, crate::proofs::Walking::stops, crate::proofs::Walking::ends))]
 fn first_half(words: &[&[u8]]) -> Option<usize>
     ensures { result ≡ line_where is_half 0 (map (λ word. word.now) words.now) }
 {
     let mut place: usize = 0;
     for word in words {
-        if is_half(word) {
+        if count_of(b'{', word) != count_of(b'}', word) || count_of(b'"', word) % 2 == 1 {
             return Some(place);
         }
         place += 1;
     }
     None
-}
-
-fn is_half(word: &[u8]) -> bool
-    ensures { result ≡ is_half word.now }
-{
-    count_of(b'{', word) != count_of(b'}', word) || count_of(b'"', word) % 2 == 1
 }
 
 fn count_of(sign: u8, word: &[u8]) -> usize

@@ -2,15 +2,13 @@
 
 ghost use Rattle.std.specs.Prelude.{◌≡◌, ◌<◌, ◌^◌, ◌==◌, IfOk, IfSome, drop, false, length, map, option_map};
 ghost use Rattle.std.specs.List.{position};
-ghost use Rattle.std.specs.Result.{is_ok};
-ghost use Rattle.kob_mistakes.specs.Options.{decoded_at, given_of, is_valid, is_value, is_whole, misnamed};
+ghost use Rattle.kob_mistakes.specs.Options.{decoded_at, given_of, is_valid, is_value, misnamed};
 ghost use Rattle.kob_mistakes.specs.Options.{misnamed_at, misplaced, name_of, option_place};
-ghost use Rattle.kob_mistakes.specs.Options.{place_among, taken_after, takes_next};
+ghost use Rattle.kob_mistakes.specs.Options.{place_among, taken_after};
 ghost use Rattle.kob_mistakes.specs.Options.{unless_valid, value_in, value_of};
-ghost use Rattle.kob_script.specs.Words.{host_of, principal_of};
 
-use crate::words::as_text;
-use kob_script::{FaultKind, LineError, Word, host_of, principal_of};
+use crate::words::{as_text, is_read};
+use kob_script::{FaultKind, Word, host_of, principal_of};
 use kob_words::{filter_pattern_named, operation_named};
 use std::alloc::{AllocError, Global};
 
@@ -129,26 +127,6 @@ fn given_of(word: &[u8]) -> Option<&[u8]>
     }
 }
 
-fn is_whole(kind: Value, is_given: bool) -> bool
-    ensures { result ≡ is_whole kind is_given }
-{
-    match kind {
-        Value::Unknown => false,
-        Value::Flag => !is_given,
-        Value::Principal | Value::Host | Value::Operation | Value::Pattern | Value::Any => is_given,
-    }
-}
-
-fn takes_next(kind: Value, is_given: bool) -> bool
-    ensures { result ≡ takes_next kind is_given }
-{
-    match kind {
-        Value::Unknown | Value::Flag => false,
-        Value::Principal | Value::Host | Value::Operation | Value::Pattern | Value::Any =>
-            !is_given,
-    }
-}
-
 /// Whether a word can be the value of the option before it: it does not begin with `-`, but for `-`.
 fn is_value(word: Option<&[u8]>) -> bool
     ensures { result ≡ is_value (option_map (λ word. word.now) word.entry) }
@@ -164,14 +142,15 @@ fn is_value(word: Option<&[u8]>) -> bool
 fn taken_after(is_taken: bool, word: &[u8], next: Option<&[u8]>) -> Option<bool>
     ensures { result ≡ taken_after is_taken word.now (option_map (λ word. word.now) next.entry) }
 {
-    let kind = value_of(name_of(word));
-    let is_given = given_of(word).is_some();
-    if is_taken || is_whole(kind, is_given) {
-        Some(false)
-    } else if takes_next(kind, is_given) && is_value(next) {
-        Some(true)
-    } else {
-        None
+    if is_taken {
+        return Some(false);
+    }
+    match (value_of(name_of(word)), given_of(word)) {
+        (Value::Unknown, _) | (Value::Flag, Some(_)) => None,
+        (Value::Flag, None) => Some(false),
+        (_, Some(_)) => Some(false),
+        (_, None) if is_value(next) => Some(true),
+        (_, None) => None,
     }
 }
 
@@ -260,30 +239,10 @@ fn is_valid(alloc: Global, kind: Value, value: &[u8]) -> Result<bool, AllocError
         return Ok(matches!(kind, Value::Unknown | Value::Flag));
     };
     match kind {
-        Value::Principal => is_principal(alloc, text),
-        Value::Host => is_host(alloc, text),
+        Value::Principal => is_read(principal_of(alloc, text)),
+        Value::Host => is_read(host_of(alloc, text)),
         Value::Operation => Ok(operation_named(text.as_bytes()).is_some()),
         Value::Pattern => Ok(filter_pattern_named(text.as_bytes()).is_some()),
         Value::Unknown | Value::Flag | Value::Any => Ok(true),
-    }
-}
-
-fn is_principal(alloc: Global, text: &str) -> Result<bool, AllocError>
-    ensures { IfOk result (λ is. is ≡ is_ok (principal_of text.now)) }
-{
-    match principal_of(alloc, text) {
-        Ok(_) => Ok(true),
-        Err(LineError::Fault(_)) => Ok(false),
-        Err(LineError::Memory(refused)) => Err(refused),
-    }
-}
-
-fn is_host(alloc: Global, text: &str) -> Result<bool, AllocError>
-    ensures { IfOk result (λ is. is ≡ is_ok (host_of text.now)) }
-{
-    match host_of(alloc, text) {
-        Ok(_) => Ok(true),
-        Err(LineError::Fault(_)) => Ok(false),
-        Err(LineError::Memory(refused)) => Err(refused),
     }
 }

@@ -11,7 +11,7 @@ use crate::listed::{binding_place, hint_on_list, value_in};
 use crate::mistake::Mistake;
 use crate::question_form::question_form;
 use crate::question_place::{hint_on_missing, is_cut, place_by_name};
-use crate::quotes::{each_unquoted, quoted_words, read_each, unread_in, unread_place};
+use crate::quotes::{each_unquoted, quoted_words, read_each, unread_in};
 use crate::rule::rule_at;
 use crate::spelling::{nearest, unless_same};
 use crate::words::{escape_place, line_at, lines_of, raw_words, word_at};
@@ -180,7 +180,8 @@ fn question_place(
         return Ok(wrong_at(place));
     }
     if unread_in(line).is_some() {
-        return Ok(wrong_at(unread_place(raw)));
+        let unread = raw.iter().position(|word| unread_in(word).is_some());
+        return Ok(wrong_at(unread.unwrap_or(raw.len().saturating_sub(1))));
     }
     let texts = each_unquoted(alloc, raw)?;
     match read_each(alloc, &texts) {

@@ -1,14 +1,14 @@
 //! Which word of a question is wrong, and what is missing there.
 
 ghost use Rattle.std.specs.Prelude.{◌≡◌, IfOk, option_map};
-ghost use Rattle.kob_mistakes.specs.Questions.{access_place, access_row, behind_expected};
+ghost use Rattle.kob_mistakes.specs.Questions.{access_place, access_row};
 ghost use Rattle.kob_mistakes.specs.Questions.{expected_place, first_is, has_act, has_prefix, how_row};
 ghost use Rattle.kob_mistakes.specs.Questions.{is_act, is_cut, is_cut_access, is_cut_behind};
 ghost use Rattle.kob_mistakes.specs.Questions.{is_word, lacks_host, missing_access};
-ghost use Rattle.kob_mistakes.specs.Questions.{missing_at, missing_behind, missing_expected};
-ghost use Rattle.kob_mistakes.specs.Questions.{missing_hint, missing_of_row, missing_text};
-ghost use Rattle.kob_mistakes.specs.Questions.{place_behind, place_by_name, place_of_kind};
-ghost use Rattle.kob_mistakes.specs.Questions.{produced_row, right_row, row_of};
+ghost use Rattle.kob_mistakes.specs.Questions.{missing_at, missing_behind};
+ghost use Rattle.kob_mistakes.specs.Questions.{missing_hint, missing_of_row};
+ghost use Rattle.kob_mistakes.specs.Questions.{place_behind, place_by_name};
+ghost use Rattle.kob_mistakes.specs.Questions.{produced_row, right_row};
 
 use crate::forms::is_command;
 use crate::kinds::{Kind, kind_named};
@@ -34,21 +34,10 @@ pub(crate) fn place_by_name(
 {
     match words {
         [] => Ok(0),
-        [first, rest @ ..] => place_of_kind(alloc, kind_named(first.decoded()), rest, fault),
-    }
-}
-
-fn place_of_kind(
-    alloc: Global,
-    kind: Option<Kind>,
-    words: &[Word<'_>],
-    fault: FaultKind,
-) -> Result<usize, AllocError>
-    ensures { IfOk result (λ place. place ≡ place_of_kind kind fault words.now) }
-{
-    match kind {
-        Some(kind) => sum_of(place_behind(alloc, kind, words, fault)?, 1),
-        None => Ok(0),
+        [first, rest @ ..] => match kind_named(first.decoded()) {
+            Some(kind) => sum_of(place_behind(alloc, kind, rest, fault)?, 1),
+            None => Ok(0),
+        },
     }
 }
 
@@ -78,17 +67,6 @@ fn expected_place(alloc: Global, words: &[Word<'_>], fault: FaultKind) -> Result
     ensures { IfOk result (λ place. place ≡ expected_place fault words.now) }
 {
     let place = misfit(alloc, &[Fit::Answer, Fit::May], words)?;
-    behind_expected(alloc, place, words, fault)
-}
-
-fn behind_expected(
-    alloc: Global,
-    place: usize,
-    words: &[Word<'_>],
-    fault: FaultKind,
-) -> Result<usize, AllocError>
-    ensures { IfOk result (λ found. found ≡ behind_expected fault place words.now) }
-{
     match words {
         [_, _, rest @ ..] if place == 2 => sum_of(access_place(alloc, rest, fault)?, 2),
         _ => Ok(place),
@@ -113,28 +91,19 @@ fn access_row(words: &[Word<'_>]) -> Option<&'static [Fit]>
     ensures { option_map (λ row. row.now) result ≡ access_row words.now }
 {
     match words {
-        [_, _, command, rest @ ..] => row_of(command, rest),
-        [_, _] | [_] | [] => Some(&[Fit::Principal, Fit::Host, Fit::Act]),
-    }
-}
-
-fn row_of(command: &Word<'_>, rest: &[Word<'_>]) -> Option<&'static [Fit]>
-    ensures { option_map (λ row. row.now) result ≡ row_of command.now rest.now }
-{
-    if is_word(command, b"consume") {
-        Some(&[Fit::Principal, Fit::Host, Fit::Act, Fit::Topic, Fit::Group])
-    } else if is_word(command, b"produce") {
-        produced_row(rest)
-    } else if operation_named(command.decoded()).is_some() {
-        Some(&[
+        [_, _, command, ..] if is_word(command, b"consume") => {
+            Some(&[Fit::Principal, Fit::Host, Fit::Act, Fit::Topic, Fit::Group])
+        }
+        [_, _, command, rest @ ..] if is_word(command, b"produce") => produced_row(rest),
+        [_, _, command, ..] if operation_named(command.decoded()).is_some() => Some(&[
             Fit::Principal,
             Fit::Host,
             Fit::Operation,
             Fit::Resource,
             Fit::Name,
-        ])
-    } else {
-        None
+        ]),
+        [_, _, _, ..] => None,
+        [_, _] | [_] | [] => Some(&[Fit::Principal, Fit::Host, Fit::Act]),
     }
 }
 
@@ -241,23 +210,16 @@ fn missing_access(words: &[Word<'_>], place: usize) -> Option<Fit>
     missing_of_row(access_row(words)?, words, place)
 }
 
-/// What the words behind `expect` lack.
-fn missing_expected(words: &[Word<'_>], place: usize) -> Option<Fit>
-    ensures { result ≡ missing_expected words.now place }
-{
-    match words {
-        [_, _, ..] if place < 2 => None,
-        [_, _, rest @ ..] => missing_access(rest, place - 2),
-        [_] | [] => missing_of_row(&[Fit::Answer, Fit::May], words, place),
-    }
-}
-
 fn missing_behind(kind: Kind, words: &[Word<'_>], place: usize) -> Option<Fit>
     ensures { result ≡ missing_behind kind words.now place }
 {
     match kind {
         Kind::May => missing_access(words, place),
-        Kind::Expect => missing_expected(words, place),
+        Kind::Expect => match words {
+            [_, _, ..] if place < 2 => None,
+            [_, _, rest @ ..] => missing_access(rest, place - 2),
+            [_] | [] => missing_of_row(&[Fit::Answer, Fit::May], words, place),
+        },
         Kind::Who => missing_of_row(right_row(words), words, place),
         Kind::Rights => missing_of_row(&[Fit::Principal], words, place),
         Kind::Sees => missing_of_row(&[Fit::Principal, Fit::Host], words, place),
@@ -278,32 +240,26 @@ fn missing_at(words: &[Word<'_>], place: usize) -> Option<Fit>
     }
 }
 
-fn missing_text(fit: Fit) -> &'static str
-    ensures { result.now ≡ missing_text fit }
-{
-    match fit {
-        Fit::Principal => "PRINCIPAL is missing here, as User:alice",
-        Fit::Host => "HOST is missing here, as 10.0.0.1",
-        Fit::Act => "an operation, produce, consume or a request is missing here",
-        Fit::Topic => "TOPIC is missing here, as orders",
-        Fit::Group => "GROUP is missing here, as billing",
-        Fit::Name => "NAME is missing here, as orders",
-        Fit::Id => "a transactional ID is missing here",
-        Fit::Prefix => "prefix is missing here",
-        Fit::Operation => "OPERATION is missing here, as Read or Write",
-        Fit::Resource => "RESOURCE is missing here: Topic, Group, Cluster or TransactionalId",
-        Fit::ManyNamed => "RESOURCE is missing here: Topic, Group or TransactionalId",
-        Fit::Answer => "yes or no is missing here",
-        Fit::May => "may is missing here",
-        Fit::How => "idempotent or transactional is missing here",
-    }
-}
-
 /// A hint on what a question of too few words lacks at the place that is wrong.
 pub(crate) fn hint_on_missing(words: &[Word<'_>], place: usize) -> Option<&'static str>
     ensures { option_map (λ text. text.now) result ≡ missing_hint words.now place }
 {
-    missing_at(words, place).map(missing_text)
+    match missing_at(words, place)? {
+        Fit::Principal => Some("PRINCIPAL is missing here, as User:alice"),
+        Fit::Host => Some("HOST is missing here, as 10.0.0.1"),
+        Fit::Act => Some("an operation, produce, consume or a request is missing here"),
+        Fit::Topic => Some("TOPIC is missing here, as orders"),
+        Fit::Group => Some("GROUP is missing here, as billing"),
+        Fit::Name => Some("NAME is missing here, as orders"),
+        Fit::Id => Some("a transactional ID is missing here"),
+        Fit::Prefix => Some("prefix is missing here"),
+        Fit::Operation => Some("OPERATION is missing here, as Read or Write"),
+        Fit::Resource => Some("RESOURCE is missing here: Topic, Group, Cluster or TransactionalId"),
+        Fit::ManyNamed => Some("RESOURCE is missing here: Topic, Group or TransactionalId"),
+        Fit::Answer => Some("yes or no is missing here"),
+        Fit::May => Some("may is missing here"),
+        Fit::How => Some("idempotent or transactional is missing here"),
+    }
 }
 
 fn has_act(words: &[Word<'_>]) -> bool

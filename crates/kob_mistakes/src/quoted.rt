@@ -2,7 +2,7 @@
 
 ghost use Rattle.std.specs.Prelude.{◌≡◌, IfOk, find, map, option_map};
 ghost use Rattle.kob_mistakes.specs.Lines.{line_where};
-ghost use Rattle.kob_mistakes.specs.Quoted.{is_asker, is_between, is_quoted};
+ghost use Rattle.kob_mistakes.specs.Quoted.{is_between, is_quoted};
 ghost use Rattle.kob_mistakes.specs.Quoted.{is_with_quotes, quoted_among, quoted_name};
 
 use crate::words::{line_at, lines_of, raw_words, word_at};
@@ -46,7 +46,9 @@ fn quoted_among<'a>(words: &[&'a [u8]]) -> Option<&'a [u8]>
         ≡ quoted_among (map (λ word. word.now) words.now) }
 {
     match words {
-        [principal, _, command, first, rest @ ..] if is_asker(principal) => {
+        // (a principal on a line that is no comment)
+        [principal, _, command, first, rest @ ..]
+            if principal.contains(&b':') && !principal.starts_with(b"#") => {
             if is_quoted(first) {
                 Some(first)
             } else if *command == b"acl".as_slice() {
@@ -82,11 +84,4 @@ fn is_quoted(word: &[u8]) -> bool
     ensures { result ≡ is_quoted word.now }
 {
     word.len() > 1 && (is_between(word, b"'") || is_between(word, b"\""))
-}
-
-/// Whether a word is the principal of a line that is no comment.
-fn is_asker(word: &[u8]) -> bool
-    ensures { result ≡ is_asker word.now }
-{
-    word.contains(&b':') && !word.starts_with(b"#")
 }

@@ -49,16 +49,6 @@ impl Quoting {
             Quoting::Escaped | Quoting::Single | Quoting::Double | Quoting::DoubleEscaped => false,
         }
     }
-
-    /// Whether a byte stands for itself here.
-    fn keeps(self, byte: u8) -> bool {
-        matches!(self, Quoting::Escaped | Quoting::DoubleEscaped) || self.after(byte) == self
-    }
-
-    /// Whether a shell would replace what a byte begins here.
-    fn replaces(self, byte: u8) -> bool {
-        matches!(self, Quoting::Plain | Quoting::Double) && matches!(byte, b'$' | b'`')
-    }
 }
 
 /// The words of a line as they are written in it.
@@ -107,20 +97,17 @@ fn unquoted(alloc: Global, word: &[u8]) -> Result<Vec<u8>, AllocError> {
     let mut bytes = Vec::new(alloc);
     let mut quoting = Quoting::Plain;
     for byte in word {
-        if quoting == Quoting::DoubleEscaped && !is_escaped_in_double(*byte) {
+        // (in double quotes a backslash stays before any other byte)
+        if quoting == Quoting::DoubleEscaped && !matches!(byte, b'"' | b'\\' | b'$' | b'`') {
             bytes.push(b'\\')?;
         }
-        if quoting.keeps(*byte) {
+        let after = quoting.after(*byte);
+        if matches!(quoting, Quoting::Escaped | Quoting::DoubleEscaped) || after == quoting {
             bytes.push(*byte)?;
         }
-        quoting = quoting.after(*byte);
+        quoting = after;
     }
     Ok(bytes)
-}
-
-/// Whether a backslash before a byte goes in double quotes; it stays before any other byte.
-fn is_escaped_in_double(byte: u8) -> bool {
-    matches!(byte, b'"' | b'\\' | b'$' | b'`')
 }
 
 /// The bytes of each word without its quotes.
@@ -156,7 +143,8 @@ pub(crate) fn unread_in(line: &[u8]) -> Option<Unread> {
     let mut is_quoted = false;
     let mut is_replaced = false;
     for byte in line {
-        is_replaced = is_replaced || quoting.replaces(*byte);
+        is_replaced = is_replaced
+            || matches!(quoting, Quoting::Plain | Quoting::Double) && matches!(byte, b'$' | b'`');
         quoting = quoting.after(*byte);
         is_quoted = is_quoted || quoting != Quoting::Plain;
     }
@@ -167,13 +155,4 @@ pub(crate) fn unread_in(line: &[u8]) -> Option<Unread> {
     } else {
         None
     }
-}
-
-/// The place of the word that can't be read.
-pub(crate) fn unread_place(words: &[&[u8]]) -> usize {
-    let last = words.len().saturating_sub(1);
-    words
-        .iter()
-        .position(|word| unread_in(word).is_some())
-        .unwrap_or(last)
 }

@@ -4,7 +4,7 @@ ghost use Rattle.std.specs.Prelude.{◌≡◌, IfOk, codes, map};
 ghost use Rattle.std.specs.List.{list_any};
 ghost use Rattle.std.specs.Option.{option_map};
 ghost use Rattle.kob_mistakes.specs.Lines.{line_where};
-ghost use Rattle.kob_mistakes.specs.Records.{are_of_variant, are_with_state, before_ending, doubtful_line};
+ghost use Rattle.kob_mistakes.specs.Records.{before_ending, doubtful_line};
 ghost use Rattle.kob_mistakes.specs.Records.{ending_hint, hint_on_record, missing_at};
 ghost use Rattle.kob_mistakes.specs.Records.{doubtful_state, ending_named, ending_word};
 ghost use Rattle.kob_mistakes.specs.Records.{is_of_variant, is_with_state, variant_word, word_is};
@@ -150,14 +150,14 @@ fn have_variant(alloc: Global, lines: &[&[u8]], variant: &str) -> Result<bool, A
 {
     for line in lines {
         let words = raw_words(alloc, line)?;
-        if are_of_variant(&words, variant) {
+        if word_is(&words, 0, b"service") && word_is(&words, 6, variant.as_bytes()) {
             return Ok(true);
         }
     }
     Ok(false)
 }
 
-#[tactic(auto, using(crate::proofs::Walking::goes_on, crate::proofs::Walking::stops, crate::proofs::Walking::ends))]
+#[tactic(auto, using(crate::proofs::Walking::goes_on, crate::proofs::Walking::stops, crate::proofs::Walking::ends, crate::proofs::Walking::lent_length))]
 fn line_with_state(alloc: Global, lines: &[&[u8]], state: &str) -> Result<Option<u64>, AllocError>
     ensures { IfOk result (λ number.
         number ≡ line_where (is_with_state state.now) 1 (map (λ line. line.now) lines.now)) }
@@ -165,7 +165,10 @@ fn line_with_state(alloc: Global, lines: &[&[u8]], state: &str) -> Result<Option
     let mut number: u64 = 1;
     for line in lines {
         let words = raw_words(alloc, line)?;
-        if are_with_state(&words, state) {
+        if words.len() == 10
+            && word_is(&words, 1, b"record")
+            && word_is(&words, 9, state.as_bytes())
+        {
             return Ok(Some(number));
         }
         number += 1;
@@ -182,19 +185,4 @@ pub(crate) fn word_is(words: &[&[u8]], place: usize, text: &[u8]) -> bool
         Some(word) => *word == text,
         None => false,
     }
-}
-
-/// Whether words are a record whose last word is this state.
-#[tactic(auto, using(crate::proofs::Walking::lent_length))]
-fn are_with_state(words: &[&[u8]], state: &str) -> bool
-    ensures { result ≡ are_with_state state.now (map (λ word. word.now) words.now) }
-{
-    words.len() == 10 && word_is(words, 1, b"record") && word_is(words, 9, state.as_bytes())
-}
-
-/// Whether words declare a service that is such a variant.
-fn are_of_variant(words: &[&[u8]], variant: &str) -> bool
-    ensures { result ≡ are_of_variant variant.now (map (λ word. word.now) words.now) }
-{
-    word_is(words, 0, b"service") && word_is(words, 6, variant.as_bytes())
 }

@@ -3,10 +3,11 @@
 ghost use Rattle.std.specs.Prelude.{◌≡◌, ◌≤◌, IfOk, length};
 ghost use Rattle.std.specs.Result.{is_ok};
 ghost use Rattle.kob_script.specs.Words.{named_host, named_principal};
-ghost use Rattle.kob_mistakes.specs.Rows.{fits, is_host, is_listed, is_many_named, misfit};
+ghost use Rattle.kob_mistakes.specs.Rows.{fits, is_host, is_listed, misfit};
 
+use crate::words::is_read;
 use kob_names::ResourceKind;
-use kob_script::{LineError, Word, host_of, lent_text_of, principal_of};
+use kob_script::{Word, host_of, lent_text_of, principal_of};
 use kob_words::{operation_named, resource_named};
 use std::alloc::{AllocError, Global};
 
@@ -67,7 +68,10 @@ fn fits(alloc: Global, fit: Fit, word: &Word<'_>) -> Result<bool, AllocError>
         Fit::Host => is_host(alloc, word),
         Fit::Operation => Ok(operation_named(name).is_some() || is_listed(name)),
         Fit::Resource => Ok(resource_named(name).is_some() || is_listed(name)),
-        Fit::ManyNamed => Ok(is_many_named(name)),
+        Fit::ManyNamed => match resource_named(name) {
+            Some(resource) => Ok(resource != ResourceKind::Cluster),
+            None => Ok(is_listed(name)),
+        },
         Fit::Answer => Ok(name == b"yes".as_slice() || name == b"no".as_slice()),
         Fit::May => Ok(name == b"may".as_slice()),
         Fit::How => Ok(name == b"idempotent".as_slice() || name == b"transactional".as_slice()),
@@ -80,11 +84,7 @@ fn is_principal(alloc: Global, word: &Word<'_>) -> Result<bool, AllocError>
     let Ok(text) = lent_text_of(word) else {
         return Ok(false);
     };
-    match principal_of(alloc, text) {
-        Ok(_) => Ok(true),
-        Err(LineError::Fault(_)) => Ok(false),
-        Err(LineError::Memory(refused)) => Err(refused),
-    }
+    is_read(principal_of(alloc, text))
 }
 
 fn is_host(alloc: Global, word: &Word<'_>) -> Result<bool, AllocError>
@@ -96,20 +96,7 @@ fn is_host(alloc: Global, word: &Word<'_>) -> Result<bool, AllocError>
     let Ok(text) = lent_text_of(word) else {
         return Ok(false);
     };
-    match host_of(alloc, text) {
-        Ok(_) => Ok(true),
-        Err(LineError::Fault(_)) => Ok(false),
-        Err(LineError::Memory(refused)) => Err(refused),
-    }
-}
-
-fn is_many_named(name: &[u8]) -> bool
-    ensures { result ≡ is_many_named name.now }
-{
-    match resource_named(name) {
-        Some(resource) => resource != ResourceKind::Cluster,
-        None => is_listed(name),
-    }
+    is_read(host_of(alloc, text))
 }
 
 /// Whether a name is written as in a list: DESCRIBE_CONFIGS for DescribeConfigs.

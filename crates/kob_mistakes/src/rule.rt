@@ -1,7 +1,7 @@
 //! What a word has to be that breaks its rule.
 
 ghost use Rattle.std.specs.Prelude.{◌≡◌, map, option_map};
-ghost use Rattle.kob_mistakes.specs.Rules.{id_rule, is_of_principal, principal_rule, rule_at};
+ghost use Rattle.kob_mistakes.specs.Rules.{id_rule, principal_rule, rule_at};
 
 use crate::record::word_is;
 use kob_scene_text::SceneFaultKind;
@@ -21,25 +21,19 @@ fn id_rule() -> &'static str
     "an id is a UUID, as 00000000-0000-0000-0000-000000000001"
 }
 
-/// Whether the word at a place is an option of kafka-acls that takes a principal.
-fn is_of_principal(words: &[&[u8]], place: usize) -> bool
-    ensures { result ≡ is_of_principal (map (λ word. word.now) words.now) place }
-{
-    word_is(words, place, b"--allow-principal")
-        || word_is(words, place, b"--deny-principal")
-        || word_is(words, place, b"--principal")
-}
-
 /// The rule of the word at a place, where a fault of this kind was found.
 pub(crate) fn rule_at(kind: SceneFaultKind, words: &[&[u8]], place: usize) -> Option<&'static str>
     ensures { option_map (λ rule. rule.now) result
         ≡ rule_at kind (map (λ word. word.now) words.now) place }
 {
+    let before = place.saturating_sub(1);
     match kind {
         SceneFaultKind::Script(FaultKind::BadPrincipal) => Some(principal_rule()),
         SceneFaultKind::BadId => Some(id_rule()),
         SceneFaultKind::Script(FaultKind::BadName)
-            if is_of_principal(words, place.saturating_sub(1)) => { Some(principal_rule()) }
+            if word_is(words, before, b"--allow-principal")
+                || word_is(words, before, b"--deny-principal")
+                || word_is(words, before, b"--principal") => { Some(principal_rule()) }
         _ => None,
     }
 }

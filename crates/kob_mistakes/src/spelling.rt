@@ -3,8 +3,8 @@
 ghost use Rattle.std.specs.Prelude.{◌≡◌, IfOk, OnOk, fold, map};
 ghost use Rattle.std.specs.Char.{to_ascii_lowercase};
 ghost use Rattle.std.specs.String.{string_bytes};
-ghost use Rattle.kob_mistakes.specs.Spelling.{changes_to, is_compared, nearest};
-ghost use Rattle.kob_mistakes.specs.Spelling.{none_near, unless_same, with_nearer};
+ghost use Rattle.kob_mistakes.specs.Spelling.{is_compared, nearest};
+ghost use Rattle.kob_mistakes.specs.Spelling.{unless_same, with_nearer};
 
 use kob_names::Text;
 use std::alloc::{AllocError, Global};
@@ -22,15 +22,6 @@ fn lowered(alloc: Global, text: &str) -> Result<String, AllocError>
     text.to_ascii_lowercase(alloc)
 }
 
-#[tactic(auto, unfolding(crate::specs::Spelling::distance))]
-fn changes_to(alloc: Global, word: &str, name: &str) -> Result<usize, AllocError>
-    ensures { IfOk result (λ changes. changes ≡ changes_to word.now name.now) }
-{
-    let word = lowered(alloc, word)?;
-    let name = lowered(alloc, name)?;
-    osa_distance(alloc, word.as_str(), name.as_str())
-}
-
 /// The nearest of some names, and how many changes it needs; without one, the fewest changes that
 /// are too many.
 #[derive(Drop)]
@@ -40,23 +31,17 @@ struct Found {
 }
 
 impl Found {
-    fn new(word: &str) -> Found
-        ensures { result ≡ none_near word.now }
-    {
-        Found {
-            name: None,
-            least: (word.len() / 3).max(1) + 1,
-        }
-    }
-
     /// Takes another name into account.
+    #[tactic(auto, unfolding(crate::specs::Spelling::distance))]
     fn add(&mut self, alloc: Global, word: &str, name: &str) -> Result<(), AllocError>
         ensures { OnOk result (self.new ≡ with_nearer word.now self.old name.now) }
     {
         if !is_compared(name) {
             return Ok(());
         }
-        let changes = changes_to(alloc, word, name)?;
+        let lower_word = lowered(alloc, word)?;
+        let lower_name = lowered(alloc, name)?;
+        let changes = osa_distance(alloc, lower_word.as_str(), lower_name.as_str())?;
         if changes < self.least {
             self.name = Some(Text::copied(alloc, name)?);
             self.least = changes;
@@ -84,7 +69,10 @@ pub fn nearest(alloc: Global, word: &str, names: &[&str]) -> Result<Option<Text>
     if !is_compared(word) {
         return Ok(None);
     }
-    let mut nearest = Found::new(word);
+    let mut nearest = Found {
+        name: None,
+        least: (word.len() / 3).max(1) + 1,
+    };
     nearest.add_all(alloc, word, names)?;
     Ok(nearest.name)
 }

@@ -1,7 +1,7 @@
 //! What is printed on standard error beside the answers, as text.
 
 ghost use Rattle.std.specs.Prelude.{◌≡◌, ◌++◌, OnOk};
-ghost use Rattle.kob_mistakes.specs.Told.{doubtful_text, expected_head, expected_text, form_text, head_text};
+ghost use Rattle.kob_mistakes.specs.Told.{doubtful_text, expected_head, form_text, head_text};
 ghost use Rattle.kob_mistakes.specs.Told.{misspelt_text, neither_text};
 ghost use Rattle.kob_mistakes.specs.Told.{quoted_text, quotes_text, state_text, unquoted_text, unquoted_unless};
 
@@ -61,19 +61,15 @@ pub fn push_unquoted(out: &mut Vec<u8>, word: &str) -> Result<(), AllocError>
 }
 
 #[tactic(auto, using(kob_words::proofs::Appending::appending))]
-fn push_form(out: &mut Vec<u8>, form: &str) -> Result<(), AllocError>
-    ensures { OnOk result (out.new.items ≡ out.old.items ++ expected_text form.now) }
-{
-    out.extend_from_slice(expected_head().as_bytes())?;
-    out.extend_from_slice(form.as_bytes())?;
-    out.extend_from_slice(b"\n")
-}
-
 fn push_kind(out: &mut Vec<u8>, kind: Option<Kind>) -> Result<(), AllocError>
     ensures { OnOk result (out.new.items ≡ out.old.items ++ form_text kind) }
 {
     match kind {
-        Some(kind) => push_form(out, kind.form()),
+        Some(kind) => {
+            out.extend_from_slice(expected_head().as_bytes())?;
+            out.extend_from_slice(kind.form().as_bytes())?;
+            out.extend_from_slice(b"\n")
+        }
         None => Ok(()),
     }
 }

@@ -1,9 +1,10 @@
 //! The lines of a text, and where the words of a line are.
 
-ghost use Rattle.std.specs.Prelude.{◌≡◌, ◌-◌, IfOk, map, option_map, take};
+ghost use Rattle.std.specs.Prelude.{◌≡◌, ◌-◌, IfOk, Result, is_ok, map, option_map, take};
 ghost use Rattle.kob_mistakes.specs.Lines.{as_text, is_misread, line_where, word_at};
 ghost use Rattle.kob_script.specs.Script.{lines_in};
-ghost use Rattle.kob_script.specs.Words.{is_blank, raw_words};
+ghost use Rattle.kob_script.specs.Words.{Gives, is_blank, raw_words};
+ghost use Rattle.kob_script.specs.declared.fault.FaultKind as kinds;
 
 use bstr::ByteSlice;
 use kob_script::{LineError, Word};
@@ -89,9 +90,17 @@ pub(crate) fn escape_place(alloc: Global, words: &[&[u8]]) -> Result<Option<usiz
 fn is_misread(alloc: Global, word: &[u8]) -> Result<bool, AllocError>
     ensures { IfOk result (λ is. is ≡ is_misread word.now) }
 {
-    match Word::read(alloc, word) {
-        Ok(_) => Ok(false),
-        Err(LineError::Fault(_)) => Ok(true),
+    Ok(!is_read(Word::read(alloc, word))?)
+}
+
+/// Whether something was read. What was read is dropped.
+pub(crate) fn is_read<T: Drop>(read: Result<T, LineError>) -> Result<bool, AllocError>
+    ensures { (told : Result T kinds.FaultKind) → Gives read told
+        → IfOk result (λ is. is ≡ is_ok told) }
+{
+    match read {
+        Ok(_) => Ok(true),
+        Err(LineError::Fault(_)) => Ok(false),
         Err(LineError::Memory(refused)) => Err(refused),
     }
 }
