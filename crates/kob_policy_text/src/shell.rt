@@ -79,12 +79,11 @@ impl Words {
         Ok(())
     }
 
-    fn quote(&mut self, quoting: Quoting) -> Result<(), AllocError>
-        ensures { OnOk result (self.new ≡ with_quoting self.old quoting) }
+    fn quote(&mut self, quoting: Quoting)
+        ensures { self.new ≡ with_quoting self.old quoting }
     {
         self.has_begun = true;
         self.quoting = quoting;
-        Ok(())
     }
 
     /// The backslash before a byte that needs no quoting between double quotes is a byte itself.
@@ -94,36 +93,37 @@ impl Words {
     {
         match self.quoting {
             Quoting::Plain => match byte {
-                b' ' | b'\t' => self.end(alloc),
+                b' ' | b'\t' => self.end(alloc)?,
                 b'\'' => self.quote(Quoting::Single),
                 b'"' => self.quote(Quoting::Double),
                 b'\\' => self.quote(Quoting::Escaped),
                 b'$' | b'`' => self.quote(Quoting::Refused),
-                _ => self.add(byte),
+                _ => self.add(byte)?,
             },
             Quoting::Escaped => {
-                self.quote(Quoting::Plain)?;
-                self.add(byte)
+                self.quote(Quoting::Plain);
+                self.add(byte)?;
             }
             Quoting::Single => match byte {
                 b'\'' => self.quote(Quoting::Plain),
-                _ => self.add(byte),
+                _ => self.add(byte)?,
             },
             Quoting::Double => match byte {
                 b'"' => self.quote(Quoting::Plain),
                 b'\\' => self.quote(Quoting::DoubleEscaped),
                 b'$' | b'`' => self.quote(Quoting::Refused),
-                _ => self.add(byte),
+                _ => self.add(byte)?,
             },
             Quoting::DoubleEscaped => {
-                self.quote(Quoting::Double)?;
+                self.quote(Quoting::Double);
                 if !matches!(byte, b'"' | b'\\' | b'$' | b'`') {
                     self.add(b'\\')?;
                 }
-                self.add(byte)
+                self.add(byte)?;
             }
-            Quoting::Refused => Ok(()),
+            Quoting::Refused => {}
         }
+        Ok(())
     }
 }
 
