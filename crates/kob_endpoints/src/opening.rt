@@ -3,10 +3,9 @@
 ghost use Rattle.std.specs.Prelude.{◌≡◌, ◌≤◌, ◌++◌, IfOk, OnOk};
 ghost use Rattle.kob_shared.specs.Journals.{events_of, entry_limit, opened_by};
 ghost use Rattle.kob_broker.specs.State.{settings_of};
-ghost use Rattle.kob_broker.specs.Step.{state_of};
 ghost use Rattle.std.specs.List.{All};
 
-use kob_broker::{Broker, OpenFault, Settings};
+use kob_broker::{Broker, Settings};
 use kob_connections::ProgramFault;
 use kob_rights::Event;
 use kob_shared::Recorded;
@@ -28,16 +27,10 @@ pub fn opened(
         ≡ settings_of (opened_by settings)) }
     ensures workers { IfOk result (λ recorded. All (λ x. x.worker ≡ 0) recorded.journal) }
 {
-    let broker = fresh(alloc, settings)?;
+    let broker = Broker::open(alloc, settings)?;
     let mut recorded = Recorded::open(alloc, broker, limit)?;
     serve_all(alloc, &mut recorded, events)?;
     Ok(recorded)
-}
-
-fn fresh(alloc: Global, settings: Settings) -> Result<Broker, OpenFault>
-    ensures { IfOk result (λ broker. state_of broker ≡ opened_by settings) }
-{
-    Broker::open(alloc, settings)
 }
 
 fn serve_all(alloc: Global, recorded: &mut Recorded, events: &[Event]) -> Result<(), ProgramFault>

@@ -4,7 +4,7 @@ ghost use Rattle.std.specs.Prelude.{◌≡◌, ◌<◌, ◌≤◌, ◌^◌, ◌-
 ghost use Rattle.std.specs.Prelude.{IfErr, IfOk, IsErrOf, IsTrue, OnErr, OnOk, None, Some, max};
 ghost use Rattle.std.specs.Prelude.{alloc_error, false, ℕ};
 ghost use Rattle.kob_endpoints.specs.Running.{AreTicks, EndsTakingAll, EndsTakingRows, TicksBelow};
-ghost use Rattle.kob_endpoints.specs.Running.{fault_of_code, idle_after, taking_after};
+ghost use Rattle.kob_endpoints.specs.Running.{idle_after, taking_after};
 ghost use Rattle.std.specs.List.{enumerate_from};
 ghost use Rattle.kob_inbox.specs.Contents.{placed_intake};
 ghost use Rattle.kob_inbox.specs.Run.Move.{Restarted};
@@ -143,9 +143,18 @@ impl<L: Line> RunningConsumer<L> {
         ensures line { L.becomes self.old.line self.new.line }
     {
         let tick = self.tick(alloc);
-        match fault_of(&tick) {
-            Some(fault) => Err(fault),
-            None => Ok(tick),
+        match &tick {
+            Tick::Stopped(
+                StopReason::Rejected(
+                    Reply::Refused {
+                        code: Code::OffsetOutOfRange,
+                        ..
+                    },
+                ),
+            ) => Err(ProgramFault::NotServed),
+            Tick::Stopped(StopReason::Memory(refused)) => Err(ProgramFault::Memory(*refused)),
+            Tick::Stopped(StopReason::Store) => Err(ProgramFault::Store),
+            _ => Ok(tick),
         }
     }
 
@@ -255,27 +264,6 @@ fn idle_after(tick: Tick, before: usize) -> usize
     match tick {
         Tick::Idle => before + 1,
         _ => 0,
-    }
-}
-
-/// Why the work of taking records in ends at a step, if no further step mends what stopped it.
-fn fault_of(tick: &Tick) -> Option<ProgramFault>
-    ensures { result ≡ taking_after tick.now }
-{
-    match tick {
-        Tick::Stopped(StopReason::Rejected(Reply::Refused { code, .. })) => fault_of_code(*code),
-        Tick::Stopped(StopReason::Memory(refused)) => Some(ProgramFault::Memory(*refused)),
-        Tick::Stopped(StopReason::Store) => Some(ProgramFault::Store),
-        _ => None,
-    }
-}
-
-fn fault_of_code(code: Code) -> Option<ProgramFault>
-    ensures { result ≡ fault_of_code code }
-{
-    match code {
-        Code::OffsetOutOfRange => Some(ProgramFault::NotServed),
-        _ => None,
     }
 }
 
