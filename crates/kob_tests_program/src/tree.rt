@@ -1,5 +1,5 @@
-//! The prefix tree: nodes that are split at each byte, many serials, a key that is longer than any
-//! stack of calls is deep, and out of memory.
+//! The prefix tree: nodes that are split at each byte, all keys that begin with a text, many
+//! serials, a key that is longer than any stack of calls is deep, and out of memory.
 
 use crate::no_allocation::READY;
 use kob_prefix_tree::{PatternKind, PrefixTree};
@@ -38,6 +38,38 @@ fn keys_end_at_each_byte_of_a_node(rt: HostRuntime) {
     assert!(rt; tree.walk(LONG).eq(0..53));
     assert!(rt; tree.levels(b"abcdefgx") == 8);
     assert!(rt; lets_beginnings_go(&mut tree));
+}
+
+/// The serials of the keys that begin with a text, in order.
+fn serials_below(rt: &impl Abort, alloc: Global, tree: &PrefixTree, text: &[u8]) -> Vec<u64> {
+    let mut serials = tree.below(alloc, text).expect(rt, READY);
+    serials.sort_unstable();
+    serials
+}
+
+#[test]
+fn all_keys_that_begin_with_a_text(rt: HostRuntime) {
+    let alloc = rt.alloc();
+    let mut tree = PrefixTree::new();
+    put_beginnings(&rt, alloc, &mut tree);
+    tree.add(alloc, b"abcX", PatternKind::Literal, 100)
+        .expect(&rt, READY);
+    assert!(rt;
+        serials_below(&rt, alloc, &tree, &LONG[..50])
+            .into_iter()
+            .eq(50..53)
+    );
+    assert!(rt;
+        serials_below(&rt, alloc, &tree, b"abcX")
+            .into_iter()
+            .eq(100..101)
+    );
+    assert!(rt;
+        serials_below(&rt, alloc, &tree, b"")
+            .into_iter()
+            .eq((0..53).chain(100..101))
+    );
+    assert!(rt; serials_below(&rt, alloc, &tree, b"abX").is_empty());
 }
 
 #[test]
