@@ -295,6 +295,12 @@ WORKLOADS = [
         lambda n: lines(n, "delete-acls Topic t{i:06} LITERAL - - - -"),
     ),
     Workload(
+        "delete-acls, by principal among 20,000",
+        2_000,
+        lambda _: creations(20_000),
+        lambda n: lines(n, "delete-acls - - - User:u{i:06} - - -"),
+    ),
+    Workload(
         "delete-acls, later half of one name's 2n",
         10_000,
         lambda n: [*creations(n, HALVES[0]), *creations(n, HALVES[1])],
