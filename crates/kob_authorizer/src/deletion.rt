@@ -111,6 +111,9 @@ pub fn copies_taken(
     ensures { IfOk result (λ made. made.items ≡ bindings_taken filter.now entries.now) }
 {
     let few = entries.len() / 8;
+    if few == 0 {
+        return copies_among(alloc, entries, filter);
+    }
     match index.patterns.leading_by(alloc, filter)? {
         Some(serials) if serials.len() < few => {
             return copies_at(alloc, entries, serials.as_slice(), filter);
