@@ -5,22 +5,24 @@ import pathlib
 import re
 from collections.abc import Callable, Iterable
 
-from sochullwa import citing, repository
+from sochullwa import callers, citing, repository
 from sochullwa.repository import CRATES, TOP, listed
 
 BLOCK = re.compile(
-    r"```(script|output|contract|function|files|layers|edits|tried|sizes|lines|uncited) ([^\n]+)\n(.*?)```\n", re.S
+    r"```(script|output|contract|function|files|layers|edits|tried|sizes|lines|callers|uncited) ([^\n]+)\n"
+    r"(.*?)```\n",
+    re.S,
 )
 # The crates by subject, for the table of sizes; the tests and all other crates have rows of their own.
 SUBJECTS = {
     "names, lists and trees": "names words ordered chunks prefix_tree",
     "access and broker": "authorizer rights producers partition catalog groups broker",
     "journal and threads": "shared",
-    "outbox, router, inbox, delivery": "outbox router inbox lines delivery pipeline embedding "
+    "outbox, router, inbox, delivery": "outbox router inbox connections delivery pipeline endpoints "
     "delivery_check topic_check",
     "questions about rules": "policy_review policy_text policy_rows",
-    "texts, scenes and programs": "acl_cli script text run scene_text scene_play scene_export mistakes "
-    "service kob",
+    "texts, scenes and programs": "acl_cli script script_run run scene_text scene_play scene_export "
+    "mistakes example_service kob",
 }
 
 
@@ -45,7 +47,8 @@ def function(words: str) -> str:
     name_file, name = words.split()
     text = (TOP / name_file).read_text()
     comment = r"(?:^ *(?://|#\[)[^\n]*\n)*"
-    return unindented(re.search(rf"{comment}^( *)(?:pub(?:\(crate\))? )?fn {name}\b.*?^\1\}}", text, re.M | re.S), words)
+    whole = rf"{comment}^( *)(?:pub(?:\(crate\))? )?fn {name}\b.*?^\1\}}"
+    return unindented(re.search(whole, text, re.M | re.S), words)
 
 
 def unindented(found: re.Match[str] | None, words: str) -> str:
@@ -130,6 +133,20 @@ def lines_of_each(name: str) -> str:
     return row_of("lines", HEADS) + "".join(rows)
 
 
+def called_once(name: str) -> str:
+    """The private functions of the crates of a list, tests apart: how many there are, how many one place
+    calls, and how many of these have a loop, are a case of a match, or neither."""
+    own = {it: callers.counts(CRATES / it) for it in crates_of(name) if "_tests_" not in it}
+    own["all"] = sum(own.values(), collections.Counter())
+    cells = {
+        it: [of.total(), of.total() - of[""], *(of[kind] for kind in callers.KINDS)] for it, of in own.items()
+    }
+    shares = [f"{100 * it / cells['all'][0]:.0f}%" for it in cells["all"]]
+    heads = ("all", "one caller", *callers.KINDS)
+    rows = [row_of(it, of) for it, of in [("private functions", heads), *cells.items(), ("", shares)]]
+    return "".join(rows)
+
+
 def sizes(name: str) -> str:
     """The lines of the crates of a list by subject, in thousands: code, contracts, definitions, proofs."""
     own = {it if it == "kob" else f"kob_{it}": of for of, named in SUBJECTS.items() for it in named.split()}
@@ -187,6 +204,7 @@ KINDS: dict[str, Callable[[str], str]] = {
     "tried": tried,
     "sizes": sizes,
     "lines": lines_of_each,
+    "callers": called_once,
     "uncited": uncited,
 }
 
