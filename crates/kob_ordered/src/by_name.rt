@@ -55,22 +55,25 @@ pub(crate) fn place_of<V>(
     }
 }
 
-/// The same, but the place that is `near` is looked at before a search.
+/// The same, but two places are looked at before a search.
 pub(crate) fn place_near<V>(
     slots: &[Slot<V>],
     by_name: &VecDeque<usize>,
     name: &Text,
-    near: usize,
+    near: (usize, usize),
 ) -> Option<usize>
     requires { IsSound slots.now by_name.now.items }
     ensures stands { IfSome result (λ place.
         slice_get (names_in slots.now) place ≡ Some (Some name.now)) }
     ensures known { is_some result ≡ is_some (lookup (same_text name.now) (entries_in slots.now)) }
 {
-    match order_at(slots, near, name) {
-        Ordering::Equal => Some(near),
-        _ => place_of(slots, by_name, name),
+    if let Ordering::Equal = order_at(slots, near.0, name) {
+        return Some(near.0);
     }
+    if let Ordering::Equal = order_at(slots, near.1, name) {
+        return Some(near.1);
+    }
+    place_of(slots, by_name, name)
 }
 
 /// Removes a place from the sorted list, by its index, and returns it.

@@ -4,10 +4,10 @@ use crate::slot::Slot;
 use kob_names::Text;
 use std::alloc::{AllocError, Global};
 
-/// Where the entry of a name may stand, by the hash of the name. Whoever asks compares the name that
-/// is there, and searches for the name if it is another one. So no contract speaks of these
-/// places, and names with equal hashes cost one comparison. Fewer than eight slots have none, and
-/// others four to sixteen for each slot.
+/// Where the entry of a name may stand, by two parts of the hash of the name. Whoever asks compares
+/// the names that are there, and searches for the name if both are others. So no contract speaks of
+/// these places, and names with equal hashes cost two comparisons. Fewer than eight slots have
+/// none, and others four to sixteen for each slot.
 #[derive(Drop)]
 pub(crate) struct Guesses {
     places: Vec<u32>,
@@ -20,11 +20,12 @@ impl Guesses {
         }
     }
 
-    /// A place where the entry of that name may stand.
-    pub(crate) fn place_of(&self, name: &Text) -> usize {
-        match self.places.get(self.index_of(name)) {
-            Some(place) => *place as usize,
-            None => 0,
+    /// Two places where the entry of that name may stand.
+    pub(crate) fn places_of(&self, name: &Text) -> (usize, usize) {
+        let (first, second) = self.indexes_of(name);
+        match (self.places.get(first), self.places.get(second)) {
+            (Some(first), Some(second)) => (*first as usize, *second as usize),
+            _ => (0, 1),
         }
     }
 
@@ -33,9 +34,11 @@ impl Guesses {
         let Ok(place) = u32::try_from(place) else {
             return;
         };
-        let index = self.index_of(name);
-        if let Some(guess) = self.places.get_mut(index) {
-            *guess = place;
+        let (first, second) = self.indexes_of(name);
+        for index in [first, second] {
+            if let Some(guess) = self.places.get_mut(index) {
+                *guess = place;
+            }
         }
     }
 
@@ -59,11 +62,13 @@ impl Guesses {
         }
     }
 
-    fn index_of(&self, name: &Text) -> usize {
-        match self.places.len().checked_sub(1) {
-            Some(last) => hash_of(name) as usize & last,
-            None => 0,
-        }
+    /// Where the guesses about that name are.
+    fn indexes_of(&self, name: &Text) -> (usize, usize) {
+        let Some(last) = self.places.len().checked_sub(1) else {
+            return (0, 0);
+        };
+        let hash = hash_of(name);
+        (hash as usize & last, (hash >> 40) as usize & last)
     }
 }
 

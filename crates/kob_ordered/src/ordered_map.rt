@@ -20,7 +20,7 @@ use std::marker::Model;
 use std::mem;
 
 /// A map from names to values in order of insertion. The entry of a name is looked for where its
-/// hash guesses it, and then by binary search in a list of places that is sorted by name. So no
+/// hash guesses it, at two places, and then by binary search in a list of places that is sorted by name. So no
 /// choice of names makes a look-up slow; an insertion and a removal shift the shorter side of that
 /// list. A removal leaves a hole among the entries, which iterations skip. `reserve` removes the
 /// holes once there are more of them than entries. Contracts see the entries in order, and the
@@ -88,7 +88,7 @@ impl<V: Drop> OrderedMap<V> {
     pub fn get(&self, name: &Text) -> Option<&V>
         ensures { option_copied result ≡ lookup (same_text name.now) self.now.entries }
     {
-        let near = self.guesses.place_of(name);
+        let near = self.guesses.places_of(name);
         let place = place_near(self.slots.as_slice(), &self.by_name, name, near)?;
         match &self.slots[place] {
             Slot::Entry(_, value) => Some(value),
@@ -102,7 +102,7 @@ impl<V: Drop> OrderedMap<V> {
         ensures value { option_copied_mut result ≡ lookup (same_text name.now) self.old.entries }
         ensures names { IsDistinct same_text (keys_of self.old.entries) }
     {
-        let near = self.guesses.place_of(name);
+        let near = self.guesses.places_of(name);
         let place = place_near(self.slots.as_slice(), &self.by_name, name, near)?;
         Some(self.slots[place].value_mut())
     }
@@ -113,7 +113,7 @@ impl<V: Drop> OrderedMap<V> {
         ensures stands { IfSome result (λ place. StandsAt self.now place name.now) }
         ensures known { is_some result ≡ is_some (lookup (same_text name.now) self.now.entries) }
     {
-        let near = self.guesses.place_of(name);
+        let near = self.guesses.places_of(name);
         place_near(self.slots.as_slice(), &self.by_name, name, near)
     }
 
