@@ -13,9 +13,8 @@ use crate::creation::PreparedCreate;
 use crate::deletion::{PreparedDelete, copies_taken, remove_taken};
 use crate::entry_list::EntryList;
 use crate::fault::CreateFault;
-use crate::index::{Index, put_all, remove_keys};
+use crate::index::{Index, put_all};
 use crate::look_up::{is_unmatched, verdict};
-use crate::patterns::remove_all;
 use crate::question::Question;
 use crate::super_users::SuperUsers;
 use kob_names::{Binding, BindingFilter, Host, Items, Operation, Principal, ResourceKind, Verdict};
@@ -281,9 +280,8 @@ impl Authorizer {
         ensures contents { self.new.contents ≡ without_taken prepared.filter self.old.contents }
         ensures taken { result.items ≡ prepared.taken }
     {
-        let (filter, taken, keys, removals) = prepared.into_parts();
-        remove_keys(&mut self.index.keys, keys);
-        remove_all(&mut self.index.patterns, removals);
+        let (filter, taken, removals) = prepared.into_parts();
+        self.index.remove(taken.as_slice(), removals);
         remove_taken(&mut self.entries, &filter, taken.as_slice());
         taken
     }

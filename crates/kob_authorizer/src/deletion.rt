@@ -1,42 +1,36 @@
 //! A deletion of bindings between its first and its second step.
 
-ghost use Rattle.std.specs.Prelude.{◌≡◌, ◌*◌, ◌≤◌, ◌++◌, ◌∷◌, [], IfOk, OnOk, length, map};
+ghost use Rattle.std.specs.Prelude.{◌≡◌, ◌*◌, ◌≤◌, ◌++◌, ◌∷◌, [], IfOk, OnOk, length};
 ghost use Rattle.std.specs.List.{filter_map};
-ghost use Rattle.kob_authorizer.specs.Deletion.{bindings_taken, bindings_left};
-ghost use Rattle.kob_authorizer.specs.Index.{Indexes, addition, key_place};
-ghost use Rattle.kob_authorizer.specs.Index.{AreRising, entry_at, removals_of};
+ghost use Rattle.kob_authorizer.specs.Deletion.{Removes, bindings_taken, bindings_left};
+ghost use Rattle.kob_authorizer.specs.Index.{AreRising, Indexes, entry_at};
 
 use crate::by_principal::leading_by_principal;
 use crate::entry_list::EntryList;
 use crate::index::Index;
 use crate::look_up::{entry_of, place_of};
-use crate::removal::{KeyRemoval, Removal, key_removals, removals_of};
+use crate::removal::Removals;
 use kob_names::{Binding, BindingFilter, PlainValue};
 use std::alloc::{AllocError, Global};
 use std::marker::Model;
 
-/// A deletion that needs no more allocations: its filter, the entries that it deletes, and their
-/// serials by place.
+/// A deletion that needs no more allocations: its filter, the entries that it deletes, and what is
+/// removed from the trees with them.
 #[derive(Drop)]
 pub struct PreparedDelete {
     filter: BindingFilter,
     taken: Vec<(u64, Binding)>,
-    keys: Vec<KeyRemoval>,
-    removals: Vec<Removal>,
+    removals: Removals,
 }
 
 impl Model for PreparedDelete {
-    ghost use Rattle.std.specs.Prelude.{◌≡◌, map};
-    ghost use Rattle.kob_authorizer.specs.Deletion.{Deletion};
-    ghost use Rattle.kob_authorizer.specs.Index.{addition, key_place, removals_of};
+    ghost use Rattle.kob_authorizer.specs.Deletion.{Deletion, Removes};
 
     ghost Value = { Deletion };
 
     ghost view = { λ prepared. record { filter = prepared.filter; taken = prepared.taken.items } };
 
-    ghost invariant = { λ prepared.
-        (prepared.keys.items ≡ map (addition key_place) prepared.taken.items)
-        × (prepared.removals.items ≡ removals_of prepared.taken.items) };
+    ghost invariant = { λ prepared. Removes prepared.removals prepared.taken.items };
 }
 
 impl PreparedDelete {
@@ -53,13 +47,11 @@ impl PreparedDelete {
         ensures taken { IfOk result (λ made. made.taken ≡ bindings_taken filter.now entries.now) }
     {
         let taken = copies_taken(alloc, entries, index, filter)?;
-        let keys = key_removals(alloc, taken.as_slice())?;
-        let removals = removals_of(alloc, taken.as_slice())?;
+        let removals = Removals::of(alloc, taken.as_slice())?;
         let filter = filter.copy(alloc)?;
         Ok(PreparedDelete {
             filter,
             taken,
-            keys,
             removals,
         })
     }
@@ -72,30 +64,19 @@ impl PreparedDelete {
     }
 
     /// The filter, the entries, and what is removed from the trees with them.
-    pub(crate) fn into_parts(self) -> DeletionParts
+    pub(crate) fn into_parts(self) -> (BindingFilter, Vec<(u64, Binding)>, Removals)
         ensures filter { result.0 ≡ self.filter }
         ensures taken { result.1.items ≡ self.taken }
-        ensures keys { result.2.items ≡ map (addition key_place) self.taken }
-        ensures removals { result.3.items ≡ removals_of self.taken }
+        ensures removals { Removes result.2 self.taken }
     {
         let PreparedDelete {
             filter,
             taken,
-            keys,
             removals,
         } = self;
-        (filter, taken, keys, removals)
+        (filter, taken, removals)
     }
 }
-
-/// A deletion's filter, its entries, and what is removed from the trees of keys and patterns with
-/// them.
-type DeletionParts = (
-    BindingFilter,
-    Vec<(u64, Binding)>,
-    Vec<KeyRemoval>,
-    Vec<Removal>,
-);
 
 /// Copies of the entries that the filter selects. If it names one kind of resource and one name,
 /// and few entries are at its pattern, or at the patterns that match the name, only these are

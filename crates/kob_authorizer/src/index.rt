@@ -1,12 +1,14 @@
 //! The trees that map names and keys to the serials of bindings.
 
-ghost use Rattle.std.specs.Prelude.{◌≡◌, IfOk, map};
+ghost use Rattle.std.specs.Prelude.{◌≡◌, ◌∷◌, IfOk, [], map};
 ghost use Rattle.std.specs.List.{fold};
-ghost use Rattle.kob_authorizer.specs.Index.{empty_index, leaf_of, with_leaf, without_addition};
+ghost use Rattle.kob_authorizer.specs.Deletion.{Removes, without_entries};
+ghost use Rattle.kob_authorizer.specs.Index.{binding_key, empty_index, leaf_of, with_leaf};
+ghost use Rattle.kob_authorizer.specs.Index.{without_addition};
 
 use crate::key::{kind_in_tree, write_key};
-use crate::patterns::Patterns;
-use crate::removal::KeyRemoval;
+use crate::patterns::{Patterns, remove_all};
+use crate::removal::{KeyRemoval, Removals};
 use kob_names::{Binding, ResourceKind};
 use kob_prefix_tree::{PrefixTree, Prepared};
 use std::alloc::{AllocError, Global};
@@ -89,6 +91,33 @@ impl Index {
         self.keys.commit_add(key);
         self.patterns.put(resource, pattern);
     }
+
+    /// Removes entries. Does not allocate.
+    pub fn remove(&mut self, taken: &[(u64, Binding)], removals: Removals)
+        requires { Removes removals taken.now }
+        ensures { self.new ≡ without_entries self.old taken.now }
+    {
+        match removals {
+            Removals::One(key) => self.remove_one(&taken[0], key.as_slice()),
+            Removals::Several { keys, patterns } => {
+                remove_keys(&mut self.keys, keys);
+                remove_all(&mut self.patterns, patterns);
+            }
+        }
+    }
+
+    /// Removes one entry, which has this key.
+    #[tactic(auto, using(crate::proofs::IndexSteps::removals_of_one))]
+    fn remove_one(&mut self, entry: &(u64, Binding), key: &[u8])
+        requires { key.now ≡ binding_key entry.now.1 }
+        ensures { self.new ≡ without_entries self.old (entry.now ∷ []) }
+    {
+        let binding = entry.1.parts();
+        let kind = kind_in_tree(binding.pattern.kind);
+        self.keys.remove(key, kind, entry.0);
+        self.patterns
+            .remove(binding.resource, &binding.pattern, &[entry.0]);
+    }
 }
 
 /// The second step of insertions, one after another. Does not allocate.
@@ -103,7 +132,7 @@ pub fn put_all(index: &mut Index, leaves: Vec<Leaf>)
 
 /// Removes the serials of keys, one after another. Does not allocate.
 #[tactic(auto, using(std::proofs::lemmas::List::Sums::fold_push))]
-pub fn remove_keys(keys: &mut PrefixTree, removals: Vec<KeyRemoval>)
+fn remove_keys(keys: &mut PrefixTree, removals: Vec<KeyRemoval>)
     ensures { keys.new ≡ fold without_addition keys.old removals.items }
 {
     for removal in removals {

@@ -13,7 +13,7 @@ ghost use Rattle.kob_prefix_tree.specs.Held.{held};
 
 use crate::key::kind_in_tree;
 use crate::removal::Removal;
-use kob_names::{Binding, BindingFilter, FilterPattern, ResourceKind};
+use kob_names::{Binding, BindingFilter, FilterPattern, Pattern, ResourceKind};
 use kob_prefix_tree::{PatternKind, PrefixTree, Prepared, Walk};
 use std::alloc::{AllocError, Global};
 
@@ -174,13 +174,12 @@ impl Patterns {
     }
 
     /// Removes the serials of one place, in one pass. Does not allocate.
-    fn remove(&mut self, removal: Removal)
-        ensures { self.new ≡ without_removal self.old removal }
+    pub fn remove(&mut self, resource: ResourceKind, pattern: &Pattern, serials: &[u64])
+        ensures { self.new ≡ without_removal self.old
+            (record { resource = resource; pattern = pattern.now; serials = serials.now }) }
     {
-        let (resource, pattern, serials) = removal.into_parts();
         let name = pattern.name.as_str().as_bytes();
         let kind = kind_in_tree(pattern.kind);
-        let serials = serials.as_slice();
         let _found = match resource {
             ResourceKind::Topic => self.topics.remove_all(name, kind, serials),
             ResourceKind::Group => self.groups.remove_all(name, kind, serials),
@@ -227,6 +226,7 @@ pub fn remove_all(patterns: &mut Patterns, removals: Vec<Removal>)
     ensures { patterns.new ≡ fold without_removal patterns.old removals.items }
 {
     for removal in removals {
-        patterns.remove(removal);
+        let (resource, pattern, serials) = removal.into_parts();
+        patterns.remove(resource, &pattern, serials.as_slice());
     }
 }

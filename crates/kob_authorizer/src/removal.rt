@@ -2,8 +2,9 @@
 //! place at once. From that of the keys it removes one serial at a time, since few bindings have
 //! the same key.
 
-ghost use Rattle.std.specs.Prelude.{◌≡◌, ◌∷◌, IfOk, OnOk, [], map};
+ghost use Rattle.std.specs.Prelude.{◌≡◌, IfOk, OnOk, [], map};
 ghost use Rattle.std.specs.List.{fold};
+ghost use Rattle.kob_authorizer.specs.Deletion.{Removes};
 ghost use Rattle.kob_authorizer.specs.Index.{addition, key_place};
 ghost use Rattle.kob_authorizer.specs.Index.{is_first_there, removal_of, removals_of, with_removal};
 
@@ -13,6 +14,32 @@ use kob_names::{Binding, Pattern, PlainValue, ResourceKind};
 use kob_prefix_tree::PatternKind;
 use std::alloc::{AllocError, Global};
 use std::marker::Model;
+
+/// What is removed from the trees with some entries, allocated ahead. Of one alone its key is enough:
+/// all else is in the entry.
+#[derive(Drop)]
+pub enum Removals {
+    One(Vec<u8>),
+    Several {
+        keys: Vec<KeyRemoval>,
+        patterns: Vec<Removal>,
+    },
+}
+
+impl Removals {
+    /// What is removed with these entries.
+    pub fn of(alloc: Global, taken: &[(u64, Binding)]) -> Result<Removals, AllocError>
+        ensures { IfOk result (λ made. Removes made taken.now) }
+    {
+        if let [entry] = taken {
+            let key = binding_key(alloc, &entry.1)?;
+            return Ok(Removals::One(key));
+        }
+        let keys = key_removals(alloc, taken)?;
+        let patterns = removals_of(alloc, taken)?;
+        Ok(Removals::Several { keys, patterns })
+    }
+}
 
 /// A pattern on a kind of resource, and the serials to remove from its place. Contracts see its
 /// parts.
@@ -67,36 +94,14 @@ impl Removal {
 
 /// All that is removed from the trees of the patterns with these entries, each place once.
 ///
-/// Their patterns are put into trees of their own, which have the serials of each place together,
-/// unless there is one entry alone.
-pub fn removals_of(alloc: Global, taken: &[(u64, Binding)]) -> Result<Vec<Removal>, AllocError>
+/// Their patterns are put into trees of their own, which have the serials of each place together.
+fn removals_of(alloc: Global, taken: &[(u64, Binding)]) -> Result<Vec<Removal>, AllocError>
     ensures { IfOk result (λ made. made.items ≡ removals_of taken.now) }
 {
-    if let [entry] = taken {
-        return removals_of_one(alloc, entry);
-    }
     let patterns = Patterns::of(alloc, taken)?;
     let removals = removals_among(alloc, &patterns, taken);
     drop(patterns);
     removals
-}
-
-/// What is removed from the trees of the patterns with one entry.
-#[tactic(auto, using(crate::proofs::IndexSteps::removals_of_one))]
-fn removals_of_one(alloc: Global, entry: &(u64, Binding)) -> Result<Vec<Removal>, AllocError>
-    ensures { IfOk result (λ made. made.items ≡ removals_of (entry.now ∷ [])) }
-{
-    let binding = entry.1.parts();
-    let mut serials = Vec::with_capacity(alloc, 1)?;
-    serials.push(entry.0)?;
-    let pattern = binding.pattern.copy(alloc)?;
-    let mut removals = Vec::with_capacity(alloc, 1)?;
-    removals.push(Removal {
-        resource: binding.resource,
-        pattern,
-        serials,
-    })?;
-    Ok(removals)
 }
 
 /// All entries at the places of these among the patterns, each place once.
@@ -193,7 +198,7 @@ impl KeyRemoval {
 
 /// What is removed from the tree of the keys with these entries.
 #[tactic(auto, using(std::proofs::lemmas::List::map_more))]
-pub fn key_removals(alloc: Global, taken: &[(u64, Binding)]) -> Result<Vec<KeyRemoval>, AllocError>
+fn key_removals(alloc: Global, taken: &[(u64, Binding)]) -> Result<Vec<KeyRemoval>, AllocError>
     ensures { IfOk result (λ made. made.items ≡ map (addition key_place) taken.now) }
 {
     let mut removals = Vec::with_capacity(alloc, taken.len())?;
