@@ -1,5 +1,5 @@
 -- The first reason among lists of reasons.
-use Rattle.kob_broker.proofs.Words.{Bool, List, None, Reason, Some, [], arith, false, first_reason, nat_tests, refl, suc, zero, ℕ, ◌++◌, ◌∷◌, ◌≡◌, BatchOutcome, Broker, Event, IfOk, IfOk-weaker, Makes, MakesFor, Metadata, Option, Prepared, Produce, Refused, Request, Result, Unchanged, code_of, effect, metadata_request, prepared_for, refusal, retained_meaning, state_of, subst, sym}
+use Rattle.kob_broker.proofs.Words.{Bool, List, None, Reason, Some, [], arith, false, first_reason, nat_tests, refl, suc, zero, ℕ, ◌++◌, ◌∷◌, ◌≡◌, BatchOutcome, Broker, Event, IfOk, Makes, MakesFor, Option, Prepared, Produce, Refused, Request, Result, Unchanged, code_of, effect, metadata_request, prepared_for, refusal, retained_meaning, state_of, subst, sym}
 use Rattle.kob_rights.specs.declared.request.Request.TheVariants as requests
 use Rattle.std.specs.declared.alloc.AllocError.{AllocError}
 use Rattle.std.specs.Prelude.{Err, Ok, OnErr, OnOk, ◌≢◌}
@@ -9,7 +9,9 @@ use Rattle.kob_broker.specs.State.{create_fault}
 use Rattle.kob_broker.specs.Step.{NeedsMemory, event_left, event_left_by, request_left, step}
 use Rattle.kob_broker.specs.Denial.{Done, describes_topic}
 use Rattle.kob_catalog.specs.Topics.{listed_where}
-use Rattle.kob_rights.specs.declared.reply.Body.TheVariants.{Topics}
+use Rattle.kob_broker.specs.declared.batch_outcome.BatchOutcome.TheVariants.{Appended}
+use Rattle.kob_broker.specs.declared.prepared.Change.TheVariants.{Append}
+use Rattle.kob_rights.specs.declared.reply.Body.TheVariants.{Offset, Topics}
 use Rattle.kob_broker.proofs.Words.{Binding, Reply, Retained, State, ap, denial_of, ◌∙◌}
 
 pub first_some : (xs ys : List (Bool × Reason)) (reason : Reason) → first_reason xs ≡ Some reason
@@ -52,26 +54,20 @@ pub refused_makes : (broker : Broker) (request : Request) (prepared : Prepared) 
     → prepared.reply ≡ Refused (code_of reason) reason → prepared.change ≡ Unchanged → MakesFor request broker prepared
 refused_makes broker request prepared reason why reply change event = grind (arith, nat_tests)
 
--- what is prepared for the outcome of a batch
-pub prepared_makes : {E : Type 0} (broker : Broker) (produce : Produce) (outcome : BatchOutcome) (result : Result Prepared E)
-    → IfOk result (λ prepared. prepared ≡ prepared_for produce outcome)
+-- what is prepared for a batch that is appended
+pub appended_makes : (broker : Broker) (produce : Produce) (outcome : BatchOutcome) (offset : ℕ) (prepared : Prepared)
+    → outcome ≡ Appended offset → prepared.reply ≡ Done (Offset offset) → prepared.change ≡ Append produce
     → MakesFor (requests.Produce produce) broker (prepared_for produce outcome)
-    → IfOk result (MakesFor (requests.Produce produce) broker)
-prepared_makes broker produce outcome result is makes =
-    IfOk-weaker result (λ p. p ≡ prepared_for produce outcome) (MakesFor (requests.Produce produce) broker)
-    (λ prepared same. subst (MakesFor (requests.Produce produce) broker) (sym same) makes) is
+    → MakesFor (requests.Produce produce) broker prepared
+appended_makes broker produce outcome offset prepared is reply change makes =
+    subst (MakesFor (requests.Produce produce) broker)
+    (ap (prepared_for produce) is ∙ (λ i. record { reply = sym reply i; change = sym change i })) makes
 
 -- what makes the effect of a request for whoever asks makes it for the event that has it
 pub made_for_ok : {E : Type 0} (broker : Broker) (request : Request) (event : Event) (result : Result Prepared E)
     → event.request ≡ request → IfOk result (MakesFor request broker)
     → IfOk result (Makes (effect retained_meaning (state_of broker) event event.request) broker)
 made_for_ok broker request event result is makes = grind (arith, nat_tests)
-
-pub metadata_for : {E : Type 0} (broker : Broker) (topic : Option (List ℕ)) (asked : Metadata) (event : Event)
-    (result : Result Prepared E) → asked.topic ≡ topic
-    → IfOk result (MakesFor (metadata_request topic) broker)
-    → IfOk result (Makes (effect retained_meaning (state_of broker) event (requests.Metadata asked)) broker)
-metadata_for broker topic asked event result is makes = grind (arith, nat_tests)
 
 -- a METADATA of all topics tells those that the principal may describe
 pub topics_told : (s : State Retained) (event : Event) → event.request ≡ metadata_request None

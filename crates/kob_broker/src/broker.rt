@@ -7,7 +7,7 @@ use crate::stopped::Stopped;
 use kob_authorizer::{Authorizer, CreateFault};
 use kob_catalog::Catalog;
 use kob_groups::Groups;
-use kob_names::{Binding, Items, PlainValue, Settings, Text};
+use kob_names::{Binding, Items, PlainValue, Settings};
 use kob_rights::{Event, Produce, Reply, Request};
 use std::alloc::{AllocError, Global};
 
@@ -40,7 +40,6 @@ impl Broker {
     ghost use Rattle.kob_authorizer.specs.declared.fault.CreateFault.TheVariants as limits;
     ghost use Rattle.kob_broker.specs.Step.{IsReady, Makes, reply_of, state_of, state_with};
     ghost use Rattle.kob_broker.specs.Step.{MayRunOut, NeedsMemory, event_left, request_left};
-    ghost use Rattle.kob_broker.specs.Topics.{delete_topics_after};
     ghost use Rattle.kob_broker.specs.Step.{effect, step, replies_of, state_after};
     ghost use Rattle.kob_broker.specs.State.{open_state, settings_of};
     ghost use Rattle.kob_partition.specs.Retained.{retained_meaning};
@@ -48,6 +47,7 @@ impl Broker {
     /// A broker with no topics and no groups, with the opening bindings in force under serials from
     /// 1 on. `TooMany` is returned only if the opening list holds more than 100,000 different
     /// bindings, and then nothing else is but out of memory.
+    #[tactic(auto, using(crate::proofs::Decisions::serials_left))]
     pub fn open(alloc: Global, settings: Settings) -> Result<Broker, OpenFault>
         ensures ok { IfOk result (λ broker. state_of broker ≡ open_state settings) }
         ensures few { OnOk result (create_fault [] 1 settings.opening ≡ None) }
@@ -57,13 +57,23 @@ impl Broker {
             → IsErrOf result OpenFault.TooMany
             ⊎ IsErrOf result (OpenFault.Memory alloc_error) }
     {
-        let authorizer = opened_authorizer(alloc, settings)?;
-        Ok(Broker {
-            catalog: Catalog::new(alloc),
-            groups: Groups::new(alloc),
-            authorizer,
-            next_producer: 0,
-        })
+        let Settings {
+            supers,
+            opening,
+            everyone,
+        } = settings;
+        let mut authorizer = Authorizer::open(alloc, supers.into_vec(), everyone);
+        match authorizer.create(alloc, opening.as_slice()) {
+            Ok(_) => Ok(Broker {
+                catalog: Catalog::new(alloc),
+                groups: Groups::new(alloc),
+                authorizer,
+                next_producer: 0,
+            }),
+            Err(CreateFault::TooMany) => Err(OpenFault::TooMany),
+            Err(CreateFault::SerialsSpent) => unreachable!(),
+            Err(CreateFault::Memory(refused)) => Err(OpenFault::Memory(refused)),
+        }
     }
 
     /// The super users, the setting `everyone`, and the bindings in force now as the opening list,
@@ -177,6 +187,7 @@ impl Broker {
 
     /// The second step, if nothing has changed since the first: makes the change, and returns the
     /// reply. Does not allocate.
+    #[tactic(auto, using(kob_catalog::proofs::Topics::unknown_stays))]
     pub fn commit(&mut self, prepared: Prepared) -> Reply
         requires { IsReady prepared self.old }
         ensures reply { result ≡ reply_of prepared }
@@ -186,7 +197,10 @@ impl Broker {
         match change {
             Change::Unchanged => {}
             Change::AddTopic(made) => self.catalog.commit_create(made),
-            Change::RemoveTopic(name) => self.remove_topic(&name),
+            Change::RemoveTopic(name) => {
+                let _ = self.catalog.remove(&name);
+                self.groups.forget_topic(&name);
+            }
             Change::AddBindings(made) => {
                 self.authorizer.commit_create(made);
             }
@@ -286,65 +300,9 @@ impl Broker {
         }
         Ok(replies)
     }
-
-    /// Removes a topic, and the commits on it.
-    #[tactic(auto, using(kob_catalog::proofs::Topics::unknown_stays))]
-    fn remove_topic(&mut self, name: &Text)
-        ensures { state_of self.new ≡ delete_topics_after (state_of self.old) name.now }
-    {
-        let _ = self.catalog.remove(name);
-        self.groups.forget_topic(name);
-    }
 }
 
-ghost use Rattle.std.specs.Prelude.{◌≡◌, ◌++◌, ◌∷◌, [], IfOk, IsErrOf, OnOk, Some, None, map};
-ghost use Rattle.kob_authorizer.specs.Decide.{fresh_contents};
-ghost use Rattle.kob_authorizer.specs.Creation.{create_fault};
-ghost use Rattle.kob_authorizer.specs.declared.fault.CreateFault.TheVariants as limits;
-ghost use Rattle.kob_broker.specs.State.{with_bindings};
-
-/// An authorizer with these super users, and the opening bindings in force.
-fn opened_authorizer(alloc: Global, settings: Settings) -> Result<Authorizer, OpenFault>
-    ensures ok { IfOk result (λ authorizer. authorizer.contents ≡ with_bindings settings.opening
-        (fresh_contents settings.supers settings.everyone)) }
-    ensures few { OnOk result (create_fault [] 1 settings.opening ≡ None) }
-    ensures many { IsErrOf result OpenFault.TooMany → create_fault [] 1 settings.opening
-        ≡ Some limits.TooMany }
-{
-    let Settings {
-        supers,
-        opening,
-        everyone,
-    } = settings;
-    let mut authorizer = Authorizer::open(alloc, supers.into_vec(), everyone);
-    put_in_force(alloc, &mut authorizer, opening.as_slice())?;
-    Ok(authorizer)
-}
-
-/// Puts bindings in force where there are none, so that serials are left for all of them.
-#[tactic(auto, using(crate::proofs::Decisions::serials_left))]
-fn put_in_force(
-    alloc: Global,
-    authorizer: &mut Authorizer,
-    bindings: &[Binding],
-) -> Result<(), OpenFault>
-    requires none { authorizer.old.contents.entries ≡ [] }
-    requires first { authorizer.old.contents.next ≡ 1 }
-    ensures ok { OnOk result (authorizer.new.contents
-        ≡ with_bindings bindings.now authorizer.old.contents) }
-    ensures few { OnOk result (create_fault authorizer.old.contents.entries
-        authorizer.old.contents.next bindings.now ≡ None) }
-    ensures many { IsErrOf result OpenFault.TooMany → create_fault
-        authorizer.old.contents.entries authorizer.old.contents.next bindings.now
-        ≡ Some limits.TooMany }
-{
-    match authorizer.create(alloc, bindings) {
-        Ok(_) => Ok(()),
-        Err(CreateFault::TooMany) => Err(OpenFault::TooMany),
-        Err(CreateFault::SerialsSpent) => unreachable!(),
-        Err(CreateFault::Memory(refused)) => Err(OpenFault::Memory(refused)),
-    }
-}
+ghost use Rattle.std.specs.Prelude.{◌≡◌, IfOk, map};
 
 /// Copies of the bindings, without their serials.
 fn bindings_of(alloc: Global, entries: &[(u64, Binding)]) -> Result<Items<Binding>, AllocError>

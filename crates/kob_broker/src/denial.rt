@@ -7,7 +7,7 @@ ghost use Rattle.kob_rights.specs.Table.{check_view, clause_view};
 
 use crate::verdicts::Verdicts;
 use kob_authorizer::Authorizer;
-use kob_names::Verdict;
+use kob_names::{Items, Verdict};
 use kob_rights::{Check, Clause, Code, Event, Reply, Rights};
 use std::alloc::{AllocError, Global};
 
@@ -23,19 +23,6 @@ fn verdict(authorizer: &Authorizer, event: &Event, check: &Check<'_>) -> Verdict
     )
 }
 
-fn verdicts_of(authorizer: &Authorizer, event: &Event, clause: &Clause<'_>) -> Verdicts
-    ensures { verdicts_view result
-        ≡ map (verdict authorizer.now.contents event.now) (clause_view clause.now) }
-{
-    match clause {
-        Clause::Only(check) => Verdicts::Only(verdict(authorizer, event, check)),
-        Clause::Either(first, second) => Verdicts::Either(
-            verdict(authorizer, event, first),
-            verdict(authorizer, event, second),
-        ),
-    }
-}
-
 /// The verdicts of a clause of which no alternative is granted.
 fn blamed(authorizer: &Authorizer, event: &Event, clause: &Clause<'_>) -> Option<Verdicts>
     ensures met { is_met authorizer.now.contents event.now (clause_view clause.now)
@@ -43,11 +30,23 @@ fn blamed(authorizer: &Authorizer, event: &Event, clause: &Clause<'_>) -> Option
     ensures verdicts { IfSome result (λ verdicts. verdicts_view verdicts
         ≡ map (verdict authorizer.now.contents event.now) (clause_view clause.now)) }
 {
-    let verdicts = verdicts_of(authorizer, event, clause);
-    if verdicts.is_any_granted() {
-        return None;
+    match clause {
+        Clause::Only(check) => {
+            let verdict = verdict(authorizer, event, check);
+            if verdict.is_granted() {
+                return None;
+            }
+            Some(Verdicts::Only(verdict))
+        }
+        Clause::Either(first, second) => {
+            let first = verdict(authorizer, event, first);
+            let second = verdict(authorizer, event, second);
+            if first.is_granted() || second.is_granted() {
+                return None;
+            }
+            Some(Verdicts::Either(first, second))
+        }
     }
-    Some(verdicts)
 }
 
 /// The code and the verdicts of the first clause of which no alternative is granted.
@@ -83,6 +82,10 @@ pub(crate) fn denial_of(
     let Some((code, verdicts)) = first_blamed(authorizer, event) else {
         return Ok(None);
     };
-    let verdicts = verdicts.listed(alloc)?;
+    let verdicts = match verdicts {
+        Verdicts::Only(verdict) => Vec::from_array(alloc, [verdict])?,
+        Verdicts::Either(first, second) => Vec::from_array(alloc, [first, second])?,
+    };
+    let verdicts = Items::from_vec(verdicts);
     Ok(Some(Reply::Denied { code, verdicts }))
 }

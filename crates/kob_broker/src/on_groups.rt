@@ -1,9 +1,7 @@
 //! What is done about groups and their commits.
 
-ghost use Rattle.std.specs.List.{filter};
 ghost use Rattle.std.specs.Prelude.{◌≡◌, IfOk, OnErr, is_some};
 ghost use Rattle.kob_broker.specs.Step.{MakesFor, NeedsMemory, state_of, Makes, effect};
-ghost use Rattle.kob_broker.specs.Denial.{describes_group};
 ghost use Rattle.kob_broker.specs.Groups.{groups_shown};
 ghost use Rattle.kob_names.specs.TextRules.{group_fault};
 ghost use Rattle.kob_partition.specs.Retained.{retained_meaning};
@@ -110,15 +108,7 @@ fn shown_of(authorizer: &Authorizer, event: &Event, mut names: Vec<Text>) -> Vec
     ensures { result.items ≡ groups_shown authorizer.now.contents event.now names.items }
 {
     if !describes_cluster(authorizer, event) {
-        keep_described(authorizer, event, &mut names);
+        names.retain(|name| describes_group(authorizer, event, name));
     }
     names
-}
-
-/// Keeps the names that the principal may describe.
-fn keep_described(authorizer: &Authorizer, event: &Event, names: &mut Vec<Text>)
-    ensures { names.new.items
-        ≡ filter (describes_group authorizer.now.contents event.now) names.old.items }
-{
-    names.retain(|name| describes_group(authorizer, event, name));
 }

@@ -1,8 +1,7 @@
 //! What is done about topics.
 
-ghost use Rattle.std.specs.Prelude.{◌≡◌, IfOk, None, OnErr, Some};
+ghost use Rattle.std.specs.Prelude.{◌≡◌, IfOk, OnErr};
 ghost use Rattle.kob_broker.specs.Step.{AreLentTopics, MakesFor, NeedsMemory, state_of, Makes, effect};
-ghost use Rattle.kob_broker.specs.Topics.{metadata_request};
 ghost use Rattle.kob_partition.specs.Retained.{retained_meaning};
 ghost use Rattle.kob_rights.specs.declared.request.Request.TheVariants as requests;
 
@@ -10,7 +9,7 @@ use crate::broker::Broker;
 use crate::describing::TopicDescriber;
 use crate::prepared::{Change, Prepared};
 use kob_catalog::{CreateFault, GrantedTopics};
-use kob_names::{Items, PlainValue, Text, TopicNameFault};
+use kob_names::{Items, PlainValue, TopicNameFault};
 use kob_rights::{Body, CreateTopics, DeleteTopics, Event, Metadata, Reason, Request};
 use std::alloc::{AllocError, Global};
 
@@ -56,7 +55,6 @@ impl Broker {
         Ok(Prepared::done(Body::Deleted, Change::RemoveTopic(name)))
     }
 
-    #[tactic(auto, using(crate::proofs::Decisions::metadata_for))]
     pub(crate) fn prepare_metadata(
         &self,
         alloc: Global,
@@ -70,20 +68,20 @@ impl Broker {
             (requests.Metadata asked.now)) }
     {
         match &asked.topic {
-            None => self.prepare_metadata_of_all(alloc, event),
-            Some(topic) => self.prepare_metadata_of_one(alloc, topic),
+            None => {
+                let describer = TopicDescriber::new(&self.authorizer, event);
+                let topics = self.catalog.describable(alloc, describer)?;
+                Ok(Prepared::done(Body::Topics(topics), Change::Unchanged))
+            }
+            Some(topic) => {
+                let Some(partitions) = self.catalog.partitions(topic) else {
+                    return Ok(Prepared::refused(Reason::UnknownTopic));
+                };
+                let mut topics = Vec::new(alloc);
+                topics.push((topic.copy(alloc)?, partitions as u64))?;
+                Ok(Prepared::done(Body::Topics(Items::from_vec(topics)), Change::Unchanged))
+            }
         }
-    }
-
-    /// All topics that the principal may describe.
-    fn prepare_metadata_of_all(&self, alloc: Global, event: &Event) -> Result<Prepared, AllocError>
-        ensures { IfOk result
-            (Makes (effect retained_meaning (state_of self.now) event.now
-            (metadata_request None)) self.now) }
-    {
-        let describer = TopicDescriber::new(&self.authorizer, event);
-        let topics = self.catalog.describable(alloc, describer)?;
-        Ok(Prepared::done(Body::Topics(topics), Change::Unchanged))
     }
 
     /// The topics of the reply to a METADATA of all topics, lent one by one, where `serve` copies their
@@ -102,19 +100,5 @@ impl Broker {
             }
             _ => None,
         }
-    }
-
-    /// One topic with its number of partitions.
-    fn prepare_metadata_of_one(&self, alloc: Global, topic: &Text) -> Result<Prepared, AllocError>
-        ensures ok { IfOk result (MakesFor (metadata_request (Some topic.now)) self.now) }
-        ensures memory { OnErr result (NeedsMemory retained_meaning (state_of self.now)
-            (metadata_request (Some topic.now))) }
-    {
-        let Some(partitions) = self.catalog.partitions(topic) else {
-            return Ok(Prepared::refused(Reason::UnknownTopic));
-        };
-        let mut topics = Vec::new(alloc);
-        topics.push((topic.copy(alloc)?, partitions as u64))?;
-        Ok(Prepared::done(Body::Topics(Items::from_vec(topics)), Change::Unchanged))
     }
 }

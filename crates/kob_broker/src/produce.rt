@@ -2,23 +2,24 @@
 
 ghost use Rattle.std.specs.Prelude.{◌≡◌, IfOk, None, OnErr, OnOk};
 ghost use Rattle.kob_broker.specs.Step.{MakesFor, NeedsMemory, request_left, state_of};
-ghost use Rattle.kob_broker.specs.Batches.{IsBatchOutcome, left_by, outcome_told, prepared_for};
+ghost use Rattle.kob_broker.specs.Batches.{IsBatchOutcome, left_by, prepared_for};
 ghost use Rattle.kob_broker.specs.Batches.{TakesBatch, refusal_by};
-ghost use Rattle.kob_broker.specs.Records.{batch_reasons, is_bad_sequence, is_unknown_producer};
+ghost use Rattle.kob_broker.specs.Records.{batch_reasons};
 ghost use Rattle.kob_broker.specs.Denial.{first_reason};
 ghost use Rattle.kob_partition.specs.Retained.{retained_meaning};
 ghost use Rattle.kob_rights.specs.declared.request.Request.TheVariants as requests;
 
 use crate::batch_outcome::BatchOutcome;
-use crate::batch_size::is_within;
+use crate::batch_size::room_after_records;
 use crate::broker::Broker;
 use crate::limits::{BATCH_BYTE_LIMIT, EPOCH_LIMIT, PRODUCER_LIMIT, RECORD_LIMIT, SEQUENCE_LIMIT};
 use crate::prepared::{Change, Prepared};
 use kob_catalog::PartitionFault;
-use kob_names::{Batch, Idem};
+use kob_names::{Batch, Items, PlainValue, Text};
 use kob_partition::{AppendFault, PartitionLog, Placement};
 use kob_rights::{Body, Produce, Reason};
 use std::alloc::{AllocError, Global};
+use std::mem;
 
 impl Broker {
     pub(crate) fn prepare_produce(
@@ -31,8 +32,16 @@ impl Broker {
         ensures memory { OnErr result (NeedsMemory retained_meaning (state_of self.old)
             (requests.Produce produce.now)) }
     {
-        let outcome = self.outcome(produce)?;
-        outcome.with_copy(alloc, produce)
+        match self.outcome(produce)? {
+            BatchOutcome::Refused(reason) => Ok(Prepared::refused(reason)),
+            BatchOutcome::Repeated(offset) => {
+                Ok(Prepared::done(Body::Offset(offset), Change::Unchanged))
+            }
+            BatchOutcome::Appended(offset) => {
+                let copy = produce.copy(alloc)?;
+                Ok(Prepared::done(Body::Offset(offset), Change::Append(copy)))
+            }
+        }
     }
 
     /// The same, but a batch that is appended is moved out of the request.
@@ -49,8 +58,24 @@ impl Broker {
             ≡ request_left retained_meaning (state_of self.old) (requests.Produce produce.old)) }
         ensures same { OnErr result (produce.new ≡ produce.old) }
     {
-        let outcome = self.outcome(produce)?;
-        Ok(outcome.with_taken(alloc, produce))
+        match self.outcome(produce)? {
+            BatchOutcome::Refused(reason) => Ok(Prepared::refused(reason)),
+            BatchOutcome::Repeated(offset) => {
+                Ok(Prepared::done(Body::Offset(offset), Change::Unchanged))
+            }
+            BatchOutcome::Appended(offset) => {
+                let empty = Produce {
+                    topic: Text::from_string(String::new(alloc)),
+                    partition: 0,
+                    batch: Batch {
+                        idem: None,
+                        records: Items::from_vec(Vec::new(alloc)),
+                    },
+                };
+                let taken = mem::replace(produce, empty);
+                Ok(Prepared::done(Body::Offset(offset), Change::Append(taken)))
+            }
+        }
     }
 
     /// What becomes of the batch. Nothing is copied, and the topic is looked up once.
@@ -100,17 +125,10 @@ fn outcome_in(
     ensures ok { IfOk result (IsBatchOutcome next_producer log.new batch.now) }
     ensures memory { OnErr result (refusal_by next_producer log.new batch.now ≡ None) }
 {
-    match against_batch(batch, next_producer) {
-        Some(reason) => Ok(BatchOutcome::Refused(reason)),
-        None => outcome_told(log.prepare_append(batch)),
+    if let Some(reason) = against_batch(batch, next_producer) {
+        return Ok(BatchOutcome::Refused(reason));
     }
-}
-
-/// What becomes of a batch, by the answer of its partition.
-fn outcome_told(answer: Result<Placement, AppendFault>) -> Result<BatchOutcome, AllocError>
-    ensures { result ≡ outcome_told answer }
-{
-    match answer {
+    match log.prepare_append(batch) {
         Ok(Placement::New(offset)) => Ok(BatchOutcome::Appended(offset)),
         Ok(Placement::Repeated(offset)) => Ok(BatchOutcome::Repeated(offset)),
         Err(AppendFault::OldEpoch) => Ok(BatchOutcome::Refused(Reason::OldEpoch)),
@@ -131,34 +149,16 @@ fn against_batch(batch: &Batch, next_producer: u64) -> Option<Reason>
     if count > RECORD_LIMIT {
         return Some(Reason::TooManyRecords);
     }
-    if !is_within(batch.records.as_slice(), BATCH_BYTE_LIMIT) {
+    if room_after_records(batch.records.as_slice(), BATCH_BYTE_LIMIT).is_none() {
         return Some(Reason::TooLarge);
     }
-    if is_bad_sequence(&batch.idem) {
-        return Some(Reason::BadSequence);
-    }
-    if is_unknown_producer(next_producer, &batch.idem) {
-        return Some(Reason::UnknownProducer);
+    if let Some(idem) = &batch.idem {
+        if idem.epoch > EPOCH_LIMIT || idem.base > SEQUENCE_LIMIT {
+            return Some(Reason::BadSequence);
+        }
+        if idem.id >= next_producer {
+            return Some(Reason::UnknownProducer);
+        }
     }
     None
-}
-
-/// Whether the epoch or the base is beyond its limit.
-fn is_bad_sequence(idem: &Option<Idem>) -> bool
-    ensures { result ≡ is_bad_sequence idem.now }
-{
-    match idem {
-        None => false,
-        Some(idem) => idem.epoch > EPOCH_LIMIT || idem.base > SEQUENCE_LIMIT,
-    }
-}
-
-/// Whether the producer's id was never returned.
-fn is_unknown_producer(next_producer: u64, idem: &Option<Idem>) -> bool
-    ensures { result ≡ is_unknown_producer next_producer idem.now }
-{
-    match idem {
-        None => false,
-        Some(idem) => idem.id >= next_producer,
-    }
 }

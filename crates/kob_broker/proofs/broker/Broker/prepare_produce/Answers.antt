@@ -1,12 +1,10 @@
-use Rattle.kob_broker.proofs.BatchOutcomes.{needed_where_taken}
-use Rattle.kob_broker.proofs.Decisions.{prepared_makes}
+use Rattle.kob_broker.proofs.Words.{ap, ◌∙◌}
+use Rattle.kob_broker.proofs.Decisions.{appended_makes}
+use Rattle.kob_broker.specs.declared.prepared.Change.TheVariants.{Append}
 use Rattle.kob_broker.proofs.broker.Broker.prepare_produce.Goals as goal
 
-pub returns-clause-ok : goal.returns-clause-ok
-returns-clause-ok c =
-    prepared_makes c.outcome.new.self c.args.produce.now c.in_ok-outcome.outcome c.with_copy.result c.with_copy.ensures.prepared
-    c.in_ok-outcome.ensures.ok
-
-pub returns-clause-memory : goal.returns-clause-memory
-returns-clause-memory c =
-    needed_where_taken c.with_copy.result c.with_copy.ensures.memory c.in_ok-outcome.ensures.taken
+pub returns-in_ok-copy-in-Appended-clause-ok : goal.returns-in_ok-copy-in-Appended-clause-ok
+returns-in_ok-copy-in-Appended-clause-ok c =
+    let done = c.done-in-Appended in
+    appended_makes c.outcome.new.self c.args.produce.now _ c.in-Appended.offset done.result c.in-Appended.is
+    done.ensures.reply (done.ensures.change ∙ ap Append c.in_ok-copy-in-Appended.ensures) c.in_ok-reason.ensures.ok

@@ -1,7 +1,10 @@
-use Rattle.kob_broker.proofs.Words.{MakesFor, subst, sym}
-use Rattle.kob_rights.specs.declared.request.Request.TheVariants as requests
+use Rattle.kob_broker.proofs.Words.{ap, ◌∙◌}
+use Rattle.kob_broker.proofs.Decisions.{appended_makes}
+use Rattle.kob_broker.specs.declared.prepared.Change.TheVariants.{Append}
 use Rattle.kob_broker.proofs.broker.Broker.prepare_produce_taking.Goals as goal
 
-pub returns-clause-ok : goal.returns-clause-ok
-returns-clause-ok c =
-    subst (MakesFor (requests.Produce c.args.produce.now) c.outcome.new.self) (sym c.with_taken.ensures.prepared) c.in_ok-outcome.ensures.ok
+pub returns-in-Appended-clause-ok : goal.returns-in-Appended-clause-ok
+returns-in-Appended-clause-ok c =
+    let done = c.done-in-Appended in
+    appended_makes c.outcome.new.self c.args.produce.now _ c.in-Appended.offset done.result c.in-Appended.is
+    done.ensures.reply (done.ensures.change ∙ ap Append c.replace-taken.ensures.value) c.in_ok-reason.ensures.ok
