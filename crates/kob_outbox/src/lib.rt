@@ -12,7 +12,6 @@ mod mark_table;
 mod numbers;
 mod outbox;
 mod outbox_table;
-mod reads;
 mod rows;
 mod spent_table;
 mod writes;

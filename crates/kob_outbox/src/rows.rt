@@ -2,11 +2,15 @@
 
 ghost use Rattle.std.specs.Prelude.{◌≡◌, map, IfOk, IfErr, alloc_error};
 ghost use Rattle.std.specs.List.{AllByRecursion};
-ghost use Rattle.kob_outbox.specs.Contents.{stored_row};
+ghost use Rattle.kob_outbox.specs.Contents.{first_after, stored_row};
+ghost use Rattle.kob_outbox.specs.Database.{IsService, contents, database};
 ghost use Rattle.kob_outbox.specs.Layout.{IsShown, shown_event};
 
 use crate::event::{OutboxEvent, Row};
 use crate::fault::OutboxFault;
+use crate::numbers::number;
+use crate::outbox_table::select_after;
+use sqlite::{Connection, MemStore};
 use std::alloc::Global;
 use uuid::Uuid;
 
@@ -32,7 +36,7 @@ fn row_of(row: &sqlite::Row) -> Result<Row, OutboxFault>
 }
 
 /// The events in the rows, in their order.
-pub(crate) fn rows_of(alloc: Global, rows: &[sqlite::Row]) -> Result<Vec<Row>, OutboxFault>
+fn rows_of(alloc: Global, rows: &[sqlite::Row]) -> Result<Vec<Row>, OutboxFault>
     requires { AllByRecursion IsShown rows.now }
     ensures rows { IfOk result (λ out. map (λ r. shown_event (stored_row r)) out.items ≡ rows.now) }
     ensures memory { IfErr result (λ f. f ≡ OutboxFault.Memory alloc_error) }
@@ -44,4 +48,23 @@ pub(crate) fn rows_of(alloc: Global, rows: &[sqlite::Row]) -> Result<Vec<Row>, O
             .map_err(|failed| OutboxFault::Memory(failed.into()))?;
     }
     Ok(out)
+}
+
+/// The first events after this number.
+pub(crate) fn rows_after(
+    conn: &mut Connection<MemStore>,
+    alloc: Global,
+    seq: u64,
+    limit: u32,
+) -> Result<Vec<Row>, OutboxFault>
+    requires { IsService (database conn.old) }
+    ensures rows { IfOk result (λ rows.
+        map stored_row rows.items ≡ first_after seq limit (contents conn.old).events) }
+    ensures memory { IfErr result (λ f. f ≡ OutboxFault.Memory alloc_error) }
+    ensures service { IsService (database conn.new) }
+    ensures same { contents conn.new ≡ contents conn.old }
+{
+    // No event has a number that the database could not hold.
+    let seq = number(seq.min(i64::MAX as u64));
+    rows_of(alloc, &select_after(conn, &seq, &number(limit as u64))?)
 }

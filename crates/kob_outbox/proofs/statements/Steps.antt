@@ -1,6 +1,9 @@
 -- What a write does to the trees, where no foreign key and no AUTOINCREMENT is about, and what its text means.
-use Rattle.kob_outbox.proofs.statements.Words.{[], AllByRecursion, Answers, Applies, Chosen, Conflict, Counter, Counts, Deletes, Edit, Edited, Given, Gives, Inserts, InsertsOr, Int, Integer, IsJudged, IsSource, Judged, Keys, List, None, Null, Ok, Option, Program, Puts, Refusal, Row, Schema, Source, Table, Task, Term, Then, Trees, TriesEach, Updates, Upsert, Values, Written, ap, arith, cast, cast_row, count_of, edit_of, false, ids_of, last_id, length, mended, nat_tests, nothing, one_step, option_or, taken_by, value_rows, with_rowid, works, ℕ, ℤ, ◌++◌, ◌/◌, ◌∙◌, ◌∷◌, ◌≡◌, ◌≢◌, Command, Database, Does, Enforced, Executes, Insert, IsPlain, Mode, OnRows, OnTable, Runs, Some, State, Tally, Writes, WritesRows, command_of, edited, if◌then◌else◌, mode_of, put_row, runs_as, slice_get, statement_of, subst, sym, understood, CreateTable, Err, Error, HasCleanDisk, Held, IsBlank, KeepsRows, MemStore, OnOk, Result, all-append, created, database, lacks_sequence, memory_is_clean, next_tree, table_defined_by}
+use Rattle.kob_outbox.proofs.statements.Words.{[], AllByRecursion, Answers, Applies, Chosen, Conflict, Counter, Counts, Deletes, Edit, Edited, Given, Gives, Inserts, InsertsOr, Int, Integer, IsJudged, IsSource, Judged, Keys, List, None, Null, Ok, Option, Program, Puts, Refusal, Row, Schema, Source, Table, Task, Term, Then, Trees, TriesEach, Updates, Upsert, Values, Written, ap, arith, cast, cast_row, count_of, edit_of, false, ids_of, last_id, length, mended, nat_tests, nothing, one_step, option_or, taken_by, value_rows, with_rowid, works, ℕ, ℤ, ◌++◌, ◌/◌, ◌∙◌, ◌∷◌, ◌≡◌, ◌≢◌, Command, Database, Does, Enforced, Executes, Insert, IsPlain, Mode, OnRows, OnTable, Runs, Some, State, Tally, Writes, WritesRows, command_of, edited, if◌then◌else◌, mode_of, put_row, runs_as, slice_get, statement_of, subst, sym, understood, CreateTable, Err, Error, HasCleanDisk, Held, IsBlank, KeepsRows, MemStore, OnOk, Result, all-append, created, database, lacks_sequence, memory_is_clean, next_tree, IfOk, no_schema, table_defined_by}
+use Rattle.sqlite.specs.Held.{IsNew}
 use Rattle.sqlite.specs.Ops.{unary}
+use Rattle.sqlite.specs.Steps.{IsEmpty}
+use Rattle.std.specs.Result.{MatchResult, is_ok}
 use Rattle.kob_outbox.proofs.statements.Plain.{went, same_value}
 
 pub cast_null : cast Integer Null ≡ Null
@@ -183,6 +186,13 @@ still_empty : (tables : List Table) (old new : Trees) → AllByRecursion (λ t. 
     → KeepsRows tables old new → AllByRecursion (λ t. new t.tree ≡ []) tables
 still_empty [] old new none keeps = tt
 still_empty (t ∷ tables) old new none keeps = (keeps.0 ∙ none.0, still_empty tables old new none.1 keeps.1)
+
+-- a database in memory has no table when it is opened
+pub opened : {E D : Type 0} (Q : E → Type 0) (r : Result (Held MemStore) E) (m : Result (Held MemStore) D)
+    (conn : Held MemStore) → m ≡ Ok conn → IfOk r (λ c. IsEmpty (database c)) → IfOk r IsNew
+    → MatchResult r (λ c. m ≡ Ok c) Q → is_ok m ≡ is_ok r → IsBlank no_schema (database conn)
+opened Q (Ok c) m conn is empty fresh same ok = grind (arith, nat_tests)
+opened Q (Err e) m conn is empty fresh same ok = grind (arith, nat_tests)
 
 -- the table was made, and it has no row
 pub record Created (schema : Schema) (table : Table) (old new : State) : Type 0 where

@@ -1,5 +1,5 @@
 use Rattle.kob_outbox.proofs.statements.Words.{IsChanging, KeepsLast, contents, database, map, stored_row, take, ◌≡◌}
-use Rattle.kob_outbox.proofs.writes.put_rows.Given as goal
+use Rattle.kob_outbox.proofs.writes.replace_events.Given as goal
 
 abbrev pub invariant-loop-row : goal.invariant-loop-row
 invariant-loop-row l = record {

@@ -1,6 +1,6 @@
-use Rattle.kob_outbox.proofs.statements.Words.{IfOk-weaker, arith, common_steps, contents_of, database, first_after, map, map-map, min, shown_event, stored_row, ◌≡◌}
+use Rattle.kob_outbox.proofs.statements.Words.{IfOk-weaker, arith, common_steps, contents_of, database, first_after, map, map-map, shown_event, stored_row, ◌≡◌}
 use Rattle.kob_outbox.proofs.Reading.{first_shown, rows_as}
-use Rattle.kob_outbox.proofs.reads.rows_after.Goals as goal
+use Rattle.kob_outbox.proofs.rows.rows_after.Goals as goal
 
 pub rows_of-requires : goal.rows_of-requires
 rows_of-requires c = grind (arith, common_steps, first_shown)

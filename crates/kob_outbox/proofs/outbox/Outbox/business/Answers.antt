@@ -2,13 +2,13 @@ use Rattle.kob_outbox.proofs.statements.Words.{OutOfMemory, SqliteFailure, colum
 use Rattle.kob_outbox.proofs.Reading.{state_readable}
 use Rattle.kob_outbox.proofs.Business.{text_at}
 use Rattle.kob_outbox.proofs.statements.Plain.{readable_fails}
-use Rattle.kob_outbox.proofs.reads.state_of.Goals as goal
+use Rattle.kob_outbox.proofs.outbox.Outbox.business.Goals as goal
 
 pub returns-in_err-get-in-Some-clause-memory : goal.returns-in_err-get-in-Some-clause-memory
 returns-in_err-get-in-Some-clause-memory c =
-    let all = (contents c.args.conn.now).business in let row = c.in-Some.row.now in
+    let all = (contents c.self.inside.conn).business in let row = c.in-Some.row.now in
     let text = state_readable (state_at c.args.kind.now c.args.id.now all) _ row
-    (λ s. text_at c.args.kind.now c.args.id.now _ all s c.requires.holds.business)
+    (λ s. text_at c.args.kind.now c.args.id.now _ all s c.self.invariant.service.holds.business)
     c.in_ok-select_business.ensures.rows (search rules) in
     let is : c.in_err-get-in-Some.field-0.0 ≡ SqliteFailure OutOfMemory =
     readable_fails 0 (column row 0) c.in_err-get-in-Some.field-0.0 _ c.in_err-get-in-Some.ensures.named
