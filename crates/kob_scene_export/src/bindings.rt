@@ -2,10 +2,9 @@
 
 ghost use Rattle.std.specs.Prelude.{◌≡◌, ◌++◌, OnOk};
 ghost use Rattle.kob_scene_export.specs.Bindings.{add_text, binding_line, command_line, grant_text};
-ghost use Rattle.kob_scene_export.specs.Bindings.{host_option, host_text, is_taken, is_written};
+ghost use Rattle.kob_scene_export.specs.Bindings.{host_text, is_taken, is_written};
 ghost use Rattle.kob_scene_export.specs.Bindings.{named_text, pattern_text, principal_option};
 ghost use Rattle.kob_scene_export.specs.Bindings.{refused_note, removal_line, target_text};
-ghost use Rattle.kob_scene_export.specs.Bindings.{write_note};
 
 use crate::plain::{is_line, push_mark, push_word};
 use kob_names::{Draft, Operation, Pattern, PatternKind, Permission, ResourceKind};
@@ -22,7 +21,11 @@ use std::alloc::AllocError;
 pub fn export_binding(out: &mut Vec<u8>, binding: &Draft) -> Result<(), AllocError>
     ensures { OnOk result (out.new.items ≡ out.old.items ++ binding_line binding.now) }
 {
-    out.extend_from_slice(write_note(binding.operation == Operation::IdempotentWrite).as_bytes())?;
+    if binding.operation == Operation::IdempotentWrite {
+        out.extend_from_slice(
+            b"# Kafka 2.8 and later accept Write on any topic instead (KIP-679).\n",
+        )?;
+    }
     push_command(out, add_text().as_bytes(), binding)
 }
 
@@ -56,16 +59,6 @@ fn refused_note(is_taken: bool) -> &'static str
         ""
     } else {
         "# kafka-acls.sh refuses this operation on this kind of resource.\n"
-    }
-}
-
-fn write_note(is_of_producers: bool) -> &'static str
-    ensures { result.now ≡ write_note is_of_producers }
-{
-    if is_of_producers {
-        "# Kafka 2.8 and later accept Write on any topic instead (KIP-679).\n"
-    } else {
-        ""
     }
 }
 
@@ -151,17 +144,11 @@ fn push_host(
     if host == b"*".as_slice() {
         return Ok(());
     }
-    out.extend_from_slice(host_option(permission).as_bytes())?;
-    push_word(out, written, host)
-}
-
-fn host_option(permission: Permission) -> &'static str
-    ensures { result.now ≡ host_option permission }
-{
     match permission {
-        Permission::Allow => " --allow-host=",
-        Permission::Deny => " --deny-host=",
+        Permission::Allow => out.extend_from_slice(b" --allow-host=")?,
+        Permission::Deny => out.extend_from_slice(b" --deny-host=")?,
     }
+    push_word(out, written, host)
 }
 
 fn push_target(

@@ -2,32 +2,21 @@
 
 ghost use Rattle.std.specs.List.{list_all};
 ghost use Rattle.std.specs.Prelude.{◌≡◌, ◌++◌, OnOk, flat_map};
-ghost use Rattle.kob_scene_export.specs.Plain.{comment_unless, is_line, is_plain, is_sign};
+ghost use Rattle.kob_scene_export.specs.Plain.{comment_unless, is_line, is_plain};
 ghost use Rattle.kob_scene_export.specs.Plain.{is_value, is_value_byte, quoted_byte, word_text};
 
 use kob_words::push_bytes;
 use std::alloc::AllocError;
-
-fn is_sign(byte: u8) -> bool
-    ensures { result ≡ is_sign byte }
-{
-    byte == b'.'
-        || byte == b'_'
-        || byte == b'-'
-        || byte == b':'
-        || byte == b'/'
-        || byte == b'@'
-        || byte == b','
-        || byte == b'='
-}
 
 /// Whether a text has only letters, digits and `.`, `_`, `-`, `:`, `/`, `@`, `,`, `=`, which bash,
 /// dash and zsh read as they are.
 fn is_plain(text: &[u8]) -> bool
     ensures { result ≡ is_plain text.now }
 {
-    text.iter()
-        .all(|byte| byte.is_ascii_alphanumeric() || is_sign(*byte))
+    text.iter().all(|byte| {
+        byte.is_ascii_alphanumeric()
+            || matches!(*byte, b'.' | b'_' | b'-' | b':' | b'/' | b'@' | b',' | b'=')
+    })
 }
 
 /// Whether a text has no control character, so that it can be in a line.
