@@ -128,19 +128,6 @@ fn push_principals(
     Ok(())
 }
 
-fn is_near(
-    alloc: Global,
-    first: &Target,
-    resource: ResourceKind,
-    prefix: &Text,
-    entry: &(u64, Binding),
-) -> Result<bool, AllocError>
-    ensures { IfOk result (λ near. near ≡ is_near first.now resource prefix.now entry.now) }
-{
-    let target = first_of(alloc, first, entry)?;
-    Ok(is_below(resource, prefix, &target) && is_on(&target, entry))
-}
-
 /// Copies of the bindings that are on some of the names below the prefix.
 #[tactic(auto, using(std::proofs::lemmas::List::Elements::filter_more))]
 fn near_first(
@@ -155,7 +142,8 @@ fn near_first(
 {
     let mut made = Vec::new(alloc);
     for entry in entries {
-        let wanted = is_near(alloc, first, resource, prefix, entry)?;
+        let target = first_of(alloc, first, entry)?;
+        let wanted = is_below(resource, prefix, &target) && is_on(&target, entry);
         push_if(alloc, &mut made, entry, wanted)?;
     }
     Ok(made)
@@ -176,15 +164,21 @@ fn near_below(
     near_first(alloc, rules.entries(), &first, resource, prefix)
 }
 
+/// Who may do something on the names of a kind that begin with a prefix: on all of them, on some,
+/// or on none; the name that is the prefix itself is one of them. There is one entry for each
+/// principal and host that a binding on some of the names has, and for all others. Super users are
+/// left out, to whom all is granted.
 #[tactic(auto, using(crate::proofs::Shares::reaches_so))]
-fn reaches_below(
+pub fn who_below(
     alloc: Global,
     rules: &Authorizer,
     operation: Operation,
     resource: ResourceKind,
     prefix: &Text,
 ) -> Result<Vec<Reach>, AllocError>
-    ensures { IfOk result (λ found.
+    ensures exact { IfOk result (λ found.
+        ListsReaches rules.now.contents operation resource prefix.now found.items) }
+    ensures listed { IfOk result (λ found.
         found.items ≡ reaches_below rules.now.contents operation resource prefix.now) }
 {
     let near = near_below(alloc, rules, resource, prefix)?;
@@ -202,23 +196,4 @@ fn reaches_below(
         principals.as_slice(),
     )?;
     Ok(out)
-}
-
-/// Who may do something on the names of a kind that begin with a prefix: on all of them, on some,
-/// or on none; the name that is the prefix itself is one of them. There is one entry for each
-/// principal and host that a binding on some of the names has, and for all others. Super users are
-/// left out, to whom all is granted.
-pub fn who_below(
-    alloc: Global,
-    rules: &Authorizer,
-    operation: Operation,
-    resource: ResourceKind,
-    prefix: &Text,
-) -> Result<Vec<Reach>, AllocError>
-    ensures exact { IfOk result (λ found.
-        ListsReaches rules.now.contents operation resource prefix.now found.items) }
-    ensures listed { IfOk result (λ found.
-        found.items ≡ reaches_below rules.now.contents operation resource prefix.now) }
-{
-    reaches_below(alloc, rules, operation, resource, prefix)
 }

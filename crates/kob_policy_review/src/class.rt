@@ -31,21 +31,14 @@ pub struct Class {
     pub target: Target,
 }
 
-/// The same names.
-pub(crate) fn copied_names(alloc: Global, names: &Names) -> Result<Names, AllocError>
-    ensures { IfOk result (λ made. made ≡ names.now) }
-{
-    match names {
-        Names::Exactly(name) => Ok(Names::Exactly(name.copy(alloc)?)),
-        Names::Below(start) => Ok(Names::Below(start.copy(alloc)?)),
-    }
-}
-
 /// The same target.
 pub(crate) fn copied_target(alloc: Global, target: &Target) -> Result<Target, AllocError>
     ensures { IfOk result (λ made. made ≡ target.now) }
 {
-    let names = copied_names(alloc, &target.names)?;
+    let names = match &target.names {
+        Names::Exactly(name) => Names::Exactly(name.copy(alloc)?),
+        Names::Below(start) => Names::Below(start.copy(alloc)?),
+    };
     Ok(Target {
         resource: target.resource,
         names,

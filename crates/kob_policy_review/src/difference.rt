@@ -2,12 +2,12 @@
 
 ghost use Rattle.std.specs.Prelude.{◌≡◌, ◌++◌, IfOk, OnOk, flat_map};
 ghost use Rattle.kob_policy_review.specs.Classes.{operations};
-ghost use Rattle.kob_policy_review.specs.Difference.{ListsChanges, change_of, changes_by};
+ghost use Rattle.kob_policy_review.specs.Difference.{ListsChanges, changes_by};
 ghost use Rattle.kob_policy_review.specs.Difference.{changes_from, changes_of, changes_on};
 ghost use Rattle.kob_policy_review.specs.Difference.{changes_to, is_listed, names_all};
 ghost use Rattle.kob_policy_review.specs.Difference.{same_outcome, targets_in};
 
-use crate::class::{Class, Target, copied_names};
+use crate::class::{Class, Target, copied_target};
 use crate::finder::Finder;
 use crate::matching::OPERATIONS;
 use crate::needed::is_super_party;
@@ -76,33 +76,6 @@ pub fn names_all(all: &str, party: &Option<Text>) -> bool
     }
 }
 
-fn change_of(
-    alloc: Global,
-    target: &Target,
-    principal: &Option<Text>,
-    host: &Option<Text>,
-    operation: Operation,
-    outcome: Outcome,
-) -> Result<Change, AllocError>
-    ensures { IfOk result (λ made.
-        made ≡ change_of target.now principal.now host.now operation outcome) }
-{
-    let names = copied_names(alloc, &target.names)?;
-    let principal = principal.copy(alloc)?;
-    let host = host.copy(alloc)?;
-    let target = Target {
-        resource: target.resource,
-        names,
-    };
-    let class = Class {
-        principal,
-        host,
-        operation,
-        target,
-    };
-    Ok(Change { class, outcome })
-}
-
 #[tactic(auto, unfolding(crate::specs::Difference::changes_to))]
 fn push_to(
     alloc: Global,
@@ -121,9 +94,20 @@ fn push_to(
     let from_others = asked.outcome_to(&None, operation);
     let of_others = others.outcome_to(host, operation);
     let widest = others.outcome_to(&None, operation);
-    if is_listed(principal, host, own, from_others, of_others, widest) {
-        out.push(change_of(alloc, target, principal, host, operation, own)?)?;
+    if !is_listed(principal, host, own, from_others, of_others, widest) {
+        return Ok(());
     }
+    let target = copied_target(alloc, target)?;
+    let class = Class {
+        principal: principal.copy(alloc)?,
+        host: host.copy(alloc)?,
+        operation,
+        target,
+    };
+    out.push(Change {
+        class,
+        outcome: own,
+    })?;
     Ok(())
 }
 
@@ -300,27 +284,11 @@ fn push_all(
     Ok(())
 }
 
-#[tactic(auto, unfolding(crate::specs::Difference::changes_of))]
-fn all_changes(
-    alloc: Global,
-    before: &Authorizer,
-    after: &Authorizer,
-) -> Result<Vec<Change>, AllocError>
-    ensures { IfOk result (λ made.
-        made.items ≡ changes_of before.now.contents after.now.contents) }
-{
-    let targets = targets_in(alloc, before, after)?;
-    let earlier = Finder::of(alloc, before)?;
-    let later = Finder::of(alloc, after)?;
-    let mut out = Vec::new(alloc);
-    push_all(alloc, &mut out, &earlier, &later, targets.as_slice())?;
-    Ok(out)
-}
-
 /// What becomes of the answers from one set of rules to another, for principals that are super
 /// users neither before nor after. Empty exactly if no such answer changes. For an operation and a
 /// target a principal at a host takes the outcome that is listed for both, else for the principal
 /// at other hosts, else for other principals at the host, else for all others; else it stays.
+#[tactic(auto, unfolding(crate::specs::Difference::changes_of))]
 pub fn changes(
     alloc: Global,
     before: &Authorizer,
@@ -331,5 +299,10 @@ pub fn changes(
     ensures listed { IfOk result (λ found.
         found.items ≡ changes_of before.now.contents after.now.contents) }
 {
-    all_changes(alloc, before, after)
+    let targets = targets_in(alloc, before, after)?;
+    let earlier = Finder::of(alloc, before)?;
+    let later = Finder::of(alloc, after)?;
+    let mut out = Vec::new(alloc);
+    push_all(alloc, &mut out, &earlier, &later, targets.as_slice())?;
+    Ok(out)
 }

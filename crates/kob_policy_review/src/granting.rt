@@ -134,12 +134,6 @@ fn push_principals(
     Ok(())
 }
 
-fn is_opened(everyone: bool, matching: &[(u64, Binding)]) -> bool
-    ensures { result ≡ everyone && not (some_in matching.now) }
-{
-    everyone && is_nothing(matching)
-}
-
 fn answers_for(
     alloc: Global,
     rules: &Authorizer,
@@ -151,7 +145,7 @@ fn answers_for(
         (rules.now.contents.everyone && not (some_in matching.now)) matching.now operation)
         (principals_named matching.now)) }
 {
-    let opened = is_opened(rules.everyone(), matching);
+    let opened = rules.everyone() && is_nothing(matching);
     let askers = Askers::of(alloc, matching)?;
     let principals = principals_of(alloc, matching)?;
     let mut out = Vec::new(alloc);
@@ -165,19 +159,6 @@ fn answers_for(
         principals.as_slice(),
     )?;
     Ok(out)
-}
-
-fn answers_on(
-    alloc: Global,
-    rules: &Authorizer,
-    operation: Operation,
-    target: &Target,
-) -> Result<Vec<Answer>, AllocError>
-    ensures { IfOk result (λ found.
-        found.items ≡ answers_on rules.now.contents operation target.now) }
-{
-    let matching = matching(alloc, rules.entries(), target)?;
-    answers_for(alloc, rules, operation, matching.as_slice())
 }
 
 /// What each principal and host is answered on a target, with the binding that decides: those that
@@ -194,5 +175,6 @@ pub fn who(
     ensures listed { IfOk result (λ found.
         found.items ≡ answers_on rules.now.contents operation target.now) }
 {
-    answers_on(alloc, rules, operation, target)
+    let matching = matching(alloc, rules.entries(), target)?;
+    answers_for(alloc, rules, operation, matching.as_slice())
 }

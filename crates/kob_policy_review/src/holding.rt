@@ -4,7 +4,7 @@ ghost use Rattle.std.specs.Prelude.{◌≡◌, ◌++◌, IfOk, OnOk, Some, false
 ghost use Rattle.kob_policy_review.specs.Classes.{operations};
 ghost use Rattle.kob_policy_review.specs.Difference.{yes_to};
 ghost use Rattle.kob_policy_review.specs.Holding.{ListsHoldings, holding_from, holdings_of};
-ghost use Rattle.kob_policy_review.specs.Holding.{holdings_on, hosts_asked};
+ghost use Rattle.kob_policy_review.specs.Holding.{holdings_on};
 
 use crate::class::{Target, copied_target};
 use crate::finder::Finder;
@@ -80,24 +80,6 @@ fn push_from(
     Ok(())
 }
 
-/// The host that is asked about, or each that counts.
-fn hosts_asked(
-    alloc: Global,
-    host: &Option<Host>,
-    asking: &[(u64, Binding)],
-) -> Result<Vec<Option<Text>>, AllocError>
-    ensures { IfOk result (λ made. made.items ≡ hosts_asked host.now asking.now) }
-{
-    match host {
-        None => hosts_of(alloc, asking),
-        Some(host) => {
-            let mut made = Vec::new(alloc);
-            made.push(Some(Text::copied(alloc, host.as_str())?))?;
-            Ok(made)
-        }
-    }
-}
-
 fn party_of(alloc: Global, principal: &Principal) -> Result<Option<Text>, AllocError>
     ensures { IfOk result (λ made. made ≡ Some principal.now) }
 {
@@ -119,8 +101,17 @@ fn push_on(
     let matching = finder.matching(alloc, target)?;
     let party = party_of(alloc, principal)?;
     let asking = asking(alloc, matching.as_slice(), &party)?;
-    let hosts = hosts_asked(alloc, host, asking.as_slice())?;
-    push_from(alloc, out, target, asking.as_slice(), hosts.as_slice())
+    match host {
+        None => {
+            let hosts = hosts_of(alloc, asking.as_slice())?;
+            push_from(alloc, out, target, asking.as_slice(), hosts.as_slice())
+        }
+        Some(host) => {
+            let host = Some(Text::copied(alloc, host.as_str())?);
+            out.push(holding_from(alloc, target, asking.as_slice(), &host)?)?;
+            Ok(())
+        }
+    }
 }
 
 fn push_all(
@@ -140,14 +131,21 @@ fn push_all(
     Ok(())
 }
 
+/// What a principal that is no super user is granted from a host, or from each host that counts:
+/// one entry for each class of names that its bindings, and those for `User:*`, tell apart, and for
+/// each host that these have on the names. `Names::Below` a prefix speaks of the names below it
+/// that no longer prefix and no literal of these takes. Whether names are open that no binding
+/// matches is not listed.
 #[tactic(auto, unfolding(crate::specs::Holding::holdings_of))]
-fn all_rights(
+pub fn rights(
     alloc: Global,
     rules: &Authorizer,
     principal: &Principal,
     host: &Option<Host>,
 ) -> Result<Vec<Holding>, AllocError>
-    ensures { IfOk result (λ found.
+    ensures exact { IfOk result (λ found.
+        ListsHoldings rules.now.contents principal.now host.now found.items) }
+    ensures listed { IfOk result (λ found.
         found.items ≡ holdings_of rules.now.contents principal.now host.now) }
 {
     let party = party_of(alloc, principal)?;
@@ -164,23 +162,4 @@ fn all_rights(
         targets.as_slice(),
     )?;
     Ok(out)
-}
-
-/// What a principal that is no super user is granted from a host, or from each host that counts:
-/// one entry for each class of names that its bindings, and those for `User:*`, tell apart, and for
-/// each host that these have on the names. `Names::Below` a prefix speaks of the names below it
-/// that no longer prefix and no literal of these takes. Whether names are open that no binding
-/// matches is not listed.
-pub fn rights(
-    alloc: Global,
-    rules: &Authorizer,
-    principal: &Principal,
-    host: &Option<Host>,
-) -> Result<Vec<Holding>, AllocError>
-    ensures exact { IfOk result (λ found.
-        ListsHoldings rules.now.contents principal.now host.now found.items) }
-    ensures listed { IfOk result (λ found.
-        found.items ≡ holdings_of rules.now.contents principal.now host.now) }
-{
-    all_rights(alloc, rules, principal, host)
 }

@@ -71,19 +71,13 @@ pub fn asking(
     Ok(made)
 }
 
-fn is_party(text: &str, party: &Option<Text>) -> bool
-    ensures { result ≡ is_party text.now party.now }
-{
-    match party {
-        Some(party) => text == party.as_str(),
-        None => false,
-    }
-}
-
 fn is_among(parties: &[Option<Text>], text: &str) -> bool
     ensures { result ≡ list_any (is_party text.now) parties.now }
 {
-    parties.iter().any(|party| is_party(text, party))
+    parties.iter().any(|party| match party {
+        Some(party) => text == party.as_str(),
+        None => false,
+    })
 }
 
 #[tactic(auto, unfolding(crate::specs::Classes::with_host))]

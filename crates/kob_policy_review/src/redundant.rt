@@ -1,13 +1,11 @@
 //! Bindings without which, each taken alone, no answer at all changes.
 
 ghost use Rattle.std.specs.Prelude.{◌≡◌, ◌==◌, IfOk, ℕ, filter, map, nat_eq};
-ghost use Rattle.kob_policy_review.specs.Classes.{is_on};
 ghost use Rattle.std.specs.List.{list_any};
 ghost use Rattle.std.specs.HashSet.{contains};
-ghost use Rattle.kob_policy_review.specs.Redundancy.{ListsUnused, around, bears_on_all, binds_all};
+ghost use Rattle.kob_policy_review.specs.Redundancy.{ListsUnused, bears_on_all, binds_all};
 ghost use Rattle.kob_policy_review.specs.Redundancy.{first_wider, is_outside, reaches_all};
-ghost use Rattle.kob_policy_review.specs.Redundancy.{reason_by, reason_of};
-ghost use Rattle.kob_policy_review.specs.Redundancy.{unused_entry, unused_in};
+ghost use Rattle.kob_policy_review.specs.Redundancy.{reason_of, unused_entry, unused_in};
 
 use crate::class::{Names, Target};
 use crate::finder::Finder;
@@ -92,35 +90,6 @@ fn first_wider(
     Some(wider.0)
 }
 
-fn reason_by(permission: Permission, is_super: bool, same: Option<u64>, deny: Option<u64>) -> Reason
-    ensures { result ≡ reason_by permission is_super same deny }
-{
-    match (is_super, same, deny) {
-        (true, _, _) => Reason::Super,
-        (false, Some(serial), _) => Reason::CoveredBy(serial),
-        (false, None, Some(serial)) if permission == Permission::Allow => Reason::DeniedBy(serial),
-        (false, None, _) => Reason::Together,
-    }
-}
-
-/// Copies of the bindings that match all that this one's pattern takes, in order.
-fn around(
-    alloc: Global,
-    finder: &Finder<'_>,
-    entry: &(u64, Binding),
-) -> Result<Vec<(u64, Binding)>, AllocError>
-    ensures { IfOk result (λ made. made.items
-        ≡ filter (is_on (around entry.now)) finder.now.entries) }
-{
-    let binding = entry.1.parts();
-    let names = Names::Exactly(binding.pattern.name.copy(alloc)?);
-    let target = Target {
-        resource: binding.resource,
-        names,
-    };
-    finder.matching(alloc, &target)
-}
-
 #[tactic(auto, using(crate::proofs::Widening::first_around))]
 fn reason_of(
     alloc: Global,
@@ -130,11 +99,23 @@ fn reason_of(
     ensures { IfOk result (λ reason. reason ≡ reason_of finder.now entry.now) }
 {
     let binding = entry.1.parts();
-    let near = around(alloc, finder, entry)?;
+    let names = Names::Exactly(binding.pattern.name.copy(alloc)?);
+    let target = Target {
+        resource: binding.resource,
+        names,
+    };
+    let near = finder.matching(alloc, &target)?;
     let same = first_wider(near.as_slice(), binding.permission, entry);
     let deny = first_wider(near.as_slice(), Permission::Deny, entry);
     let is_super = is_super(finder.rules().supers(), binding.principal.as_str());
-    Ok(reason_by(binding.permission, is_super, same, deny))
+    Ok(match (is_super, same, deny) {
+        (true, _, _) => Reason::Super,
+        (false, Some(serial), _) => Reason::CoveredBy(serial),
+        (false, None, Some(serial)) if binding.permission == Permission::Allow => {
+            Reason::DeniedBy(serial)
+        }
+        (false, None, _) => Reason::Together,
+    })
 }
 
 /// The set of these serials.

@@ -138,13 +138,6 @@ fn bearing_set(alloc: Global, beaten: bool, finder: &Finder<'_>) -> Result<HashS
     set_of(alloc, serials.as_slice())
 }
 
-fn is_between(some: &HashSet<u64>, others: &HashSet<u64>, entry: &(u64, Binding)) -> bool
-    ensures { result
-        ≡ is_between (contains nat_eq some.now) (contains nat_eq others.now) entry.now }
-{
-    some.contains(&entry.0) && !others.contains(&entry.0)
-}
-
 /// The serials of the entries that are in the one set and not in the other.
 fn between(
     alloc: Global,
@@ -157,7 +150,7 @@ fn between(
 {
     entries
         .iter()
-        .filter(|entry| is_between(some, others, entry))
+        .filter(|entry| some.contains(&entry.0) && !others.contains(&entry.0))
         .map(|entry| entry.0)
         .collect(alloc)
 }

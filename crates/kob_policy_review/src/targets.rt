@@ -52,7 +52,7 @@ impl Targets {
     {
         match self.made.get(place as usize) {
             None => false,
-            Some(other) => same_target(target, other),
+            Some(other) => target == other,
         }
     }
 
@@ -128,22 +128,6 @@ impl Targets {
         Ok(made)
     }
 
-    /// The names that a set of rules and one more prefix distinguish, each once.
-    fn around(
-        alloc: Global,
-        entries: &[(u64, Binding)],
-        resource: ResourceKind,
-        prefix: &Text,
-    ) -> Result<Targets, AllocError>
-        ensures { IfOk result (λ made. made ≡ fold with_target_of
-            (with_target open_targets (at_prefix resource prefix.now)) entries.now) }
-    {
-        let mut made = Targets::open(alloc)?;
-        made.add(alloc, at_prefix(alloc, resource, prefix)?)?;
-        made.add_all(alloc, entries)?;
-        Ok(made)
-    }
-
     /// The targets. Does not allocate.
     pub fn into_vec(self) -> Vec<Target>
         ensures { result.items ≡ self }
@@ -202,17 +186,6 @@ pub fn target_of(alloc: Global, entry: &(u64, Binding)) -> Result<Target, AllocE
     }
 }
 
-fn same_target(one: &Target, other: &Target) -> bool
-    ensures { result ≡ same_target one.now other.now }
-{
-    one.resource == other.resource
-        && match (&one.names, &other.names) {
-            (Names::Exactly(one), Names::Exactly(other)) => one == other,
-            (Names::Below(one), Names::Below(other)) => one == other,
-            _ => false,
-        }
-}
-
 /// The names that a set of rules distinguishes, each once.
 pub fn targets_of(alloc: Global, entries: &[(u64, Binding)]) -> Result<Vec<Target>, AllocError>
     ensures { IfOk result (λ made. made.items ≡ targets_named entries.now) }
@@ -268,6 +241,9 @@ pub fn targets_below(
 ) -> Result<Vec<Target>, AllocError>
     ensures { IfOk result (λ made. made.items ≡ targets_below entries.now resource prefix.now) }
 {
-    let all = Targets::around(alloc, entries, resource, prefix)?.into_vec();
+    let mut made = Targets::open(alloc)?;
+    made.add(alloc, at_prefix(alloc, resource, prefix)?)?;
+    made.add_all(alloc, entries)?;
+    let all = made.into_vec();
     only_below(alloc, all.as_slice(), resource, prefix)
 }

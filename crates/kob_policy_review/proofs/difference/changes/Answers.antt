@@ -1,9 +1,11 @@
-use Rattle.std.proofs.lemmas.Result.{IfOk-weaker}
+use Rattle.std.proofs.Common.{arith}
+use Rattle.std.proofs.lemmas.Grind.{common_steps}
 use Rattle.kob_policy_review.proofs.Changing.{lists_changes}
+use Rattle.kob_policy_review.specs.Difference.{changes_of}
 use Rattle.kob_policy_review.proofs.difference.changes.Goals as goal
 
 pub returns-clause-exact : goal.returns-clause-exact
+unfolding changes_of
 returns-clause-exact c =
-    IfOk-weaker c.all_changes.result _ _
-    (λ found is. lists_changes c.args.before.now.contents c.args.after.now.contents found.items is)
-    c.all_changes.ensures
+    lists_changes c.args.before.now.contents c.args.after.now.contents c.push_all.new.out.items
+    (grind (arith, common_steps))

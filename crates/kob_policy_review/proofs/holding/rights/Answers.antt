@@ -1,9 +1,11 @@
-use Rattle.std.proofs.lemmas.Result.{IfOk-weaker}
+use Rattle.std.proofs.Common.{arith}
+use Rattle.std.proofs.lemmas.Grind.{common_steps}
 use Rattle.kob_policy_review.proofs.Granted.{lists_holdings}
+use Rattle.kob_policy_review.specs.Holding.{holdings_of}
 use Rattle.kob_policy_review.proofs.holding.rights.Goals as goal
 
 pub returns-clause-exact : goal.returns-clause-exact
+unfolding holdings_of
 returns-clause-exact c =
-    IfOk-weaker c.all_rights.result _ _
-    (λ found is. lists_holdings c.args.rules.now.contents c.args.principal.now c.args.host.now found.items is)
-    c.all_rights.ensures
+    lists_holdings c.args.rules.now.contents c.args.principal.now c.args.host.now c.push_all.new.out.items
+    (grind (arith, common_steps))
