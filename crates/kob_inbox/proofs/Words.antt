@@ -13,7 +13,7 @@ pub use Rattle.kob_inbox.specs.declared.inbox.TakeIn.TheVariants.{Seen, Taken}
 pub use Rattle.kob_inbox.specs.declared.tick.Tick.{Tick}
 pub use Rattle.kob_inbox.specs.declared.tick.Tick.TheVariants.{Committed, Repeat, Stopped}
 pub use Rattle.kob_names.specs.declared.record.Record.{Record}
-pub use Rattle.kob_outbox.proofs.statements.Steps.{IsCreation, creates, IsAlone, cast_int, cast_null, uncounted, IsWriting}
+pub use Rattle.kob_outbox.proofs.statements.Steps.{IsCreation, creates, opened, IsAlone, cast_int, cast_null, uncounted, IsWriting}
 pub use Rattle.kob_outbox.proofs.statements.Plain.{IsMemory, IsWhole, NeverFails, execute_stays, rests}
 pub use Rattle.kob_outbox.proofs.statements.Ignoring.{Ignored, IsSuited, ReferToNone, all_fine, ignores, stopped_by_memory, suits_by}
 pub use Rattle.kob_outbox.proofs.statements.Values.{rising, rows_back, alone_test, equal_texts, not_true, number_below, unequal_numbers}
@@ -33,7 +33,7 @@ pub use Rattle.kob_router.specs.Run.{same_place}
 pub use Rattle.kob_router.specs.declared.line.Call.{Call}
 pub use Rattle.kob_router.specs.declared.line.Delivery.TheVariants.{Lost}
 pub use Rattle.kob_router.specs.declared.place.Place.{Place}
-pub use Rattle.std.proofs.Common.{Bool, Err, IfErr, IfNone, IfOk, IfSome, IsErrAnd, IsErrOf, IsSome, IsTrue, List, None, Ok, OnErr, OnOk, Option, Result, Some, [], ap, append-nil, arith, bytes_eq, codes, drop, false, get_or, if◌then◌else◌, inl, inr, length, length-append, map, pos, refl, set, slice_get, subst, suc, sym, take, true, ℕ, ◌++◌, ◌+◌, ◌<◌, ◌^◌, ◌∙◌, ◌∷◌, ◌≡◌, ◌≢◌, ◌≤◌}
+pub use Rattle.std.proofs.Common.{Bool, Err, IfErr, IfNone, IfOk, IfSome, IsErrAnd, IsErrOf, IsSome, IsTrue, List, None, Ok, OnErr, OnOk, Option, Result, Some, [], ap, append-nil, arith, bytes_eq, codes, drop, false, get_or, if◌then◌else◌, inl, inr, length, length-append, map, pos, refl, rules, set, slice_get, subst, suc, sym, take, true, ℕ, ◌++◌, ◌+◌, ◌<◌, ◌^◌, ◌∙◌, ◌∷◌, ◌≡◌, ◌≢◌, ◌≤◌}
 pub use Rattle.std.proofs.lemmas.Bool.{and_parts, cases_Bool, cond-false, cond-true, eqb-true}
 pub use Rattle.std.proofs.lemmas.Bool.Decides.{nat_tests}
 pub use Rattle.std.proofs.lemmas.Grind.{common_steps}

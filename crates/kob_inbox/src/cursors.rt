@@ -1,6 +1,6 @@
 //! The progress of a consumer on each partition.
 
-ghost use Rattle.std.specs.Prelude.{◌≡◌, ◌<◌, IsSome, None, false, vec_len, vec_capacity};
+ghost use Rattle.std.specs.Prelude.{◌≡◌, IsSome};
 ghost use Rattle.kob_inbox.specs.Run.{cursor_of, with_cursor, standing};
 
 use kob_router::{Place, is_same_place};
@@ -35,21 +35,6 @@ pub(crate) fn standing_of(cursors: &[Cursor], place: &Place) -> Option<Standing>
         }
     }
     None
-}
-
-/// Adds the cursor of a partition that has none, in reserved capacity.
-#[tactic(auto, using(crate::proofs::Ticking::moved_new))]
-pub(crate) fn put(cursors: &mut Vec<Cursor>, place: Place, position: u64)
-    requires room { vec_len cursors.old < vec_capacity cursors.old }
-    requires unknown { standing (cursor_of cursors.old.items place) ≡ None }
-    ensures { cursors.new.items ≡ with_cursor cursors.old.items
-        (record { place = place; position = position; uncommitted = false }) }
-{
-    cursors.push_reserved(Cursor {
-        place,
-        position,
-        uncommitted: false,
-    });
 }
 
 /// Moves the cursor of a partition.

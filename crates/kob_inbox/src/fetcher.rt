@@ -2,7 +2,7 @@
 
 ghost use Rattle.std.specs.Prelude.{◌≡◌, ◌≤◌, IsSome, MatchOption, length, slice_get, Some};
 
-use crate::cursors::{Cursor, Standing, put, set, standing_of};
+use crate::cursors::{Cursor, Standing, set, standing_of};
 use crate::fault::InboxFault;
 use crate::inbox::Inbox;
 use crate::intake::{Passed, take_all};
@@ -158,6 +158,7 @@ impl Fetcher {
     }
 
     /// Handles the body of a reply that is done.
+    #[tactic(auto, using(crate::proofs::Ticking::moved_new))]
     pub(crate) fn hear(
         &mut self,
         inbox: &mut Inbox,
@@ -180,7 +181,11 @@ impl Fetcher {
             return match body {
                 Body::Commit(committed) => {
                     let position = committed.unwrap_or(0);
-                    put(&mut self.cursors, place, position);
+                    self.cursors.push_reserved(Cursor {
+                        place,
+                        position,
+                        uncommitted: false,
+                    });
                     Tick::Placed(position)
                 }
                 _ => unreachable!(),

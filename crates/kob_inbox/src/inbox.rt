@@ -10,9 +10,9 @@ ghost use Rattle.kob_inbox.specs.Contents.{placed_intake};
 
 use crate::fault::InboxFault;
 use crate::inbox_row::InboxRow;
-use crate::inbox_table::{create_inbox, insert_intake};
+use crate::inbox_table::{insert_intake, select_taken};
 use crate::origin::Origin;
-use crate::reads::all_rows;
+use crate::rows::rows_of;
 use kob_names::Record;
 use kob_outbox::number;
 use kob_router::event_id;
@@ -63,7 +63,10 @@ impl Inbox {
         ensures { IfOk result (λ inbox. inbox ≡ []) }
     {
         let mut conn = Connection::open_in_memory(alloc).map_err(InboxFault::Memory)?;
-        create_inbox(&mut conn)?;
+        conn.execute(
+            "CREATE TABLE inbox (place INTEGER PRIMARY KEY NOT NULL, id TEXT UNIQUE NOT NULL, topic TEXT NOT NULL, part INTEGER NOT NULL, off INTEGER NOT NULL, rkey BLOB, rvalue BLOB NOT NULL)",
+            &[],
+        )?;
         Ok(Inbox {
             conn,
             alloc,
@@ -124,6 +127,7 @@ impl Inbox {
     }
 
     /// All events, in the order of their intake. No event id comes twice.
+    #[tactic(auto, using(crate::proofs::Reading::all_shown))]
     pub fn taken(&mut self) -> Result<Vec<InboxRow>, InboxFault>
         ensures rows { IfOk result (λ rows.
             map placed_intake rows.items ≡ enumerate_from 1 self.old) }
@@ -131,6 +135,6 @@ impl Inbox {
         ensures memory { IfErr result (λ f. f ≡ InboxFault.Memory alloc_error) }
         ensures same { self.new ≡ self.old }
     {
-        all_rows(&mut self.conn, self.alloc)
+        rows_of(self.alloc, &select_taken(&mut self.conn)?)
     }
 }

@@ -1,11 +1,10 @@
-//! The one table of an inbox: the SQL that makes, reads and writes it.
+//! The one table of an inbox: the SQL that reads and writes it.
 
-ghost use Rattle.std.specs.Prelude.{◌≡◌, ◌≢◌, ◌<◌, ◌^◌, [], pos, map, false, IsTrue};
+ghost use Rattle.std.specs.Prelude.{◌≡◌, ◌≢◌, ◌<◌, ◌^◌, pos, map, false, IsTrue};
 ghost use Rattle.std.specs.Prelude.{IfOk, IfErr, OnOk, OnErr};
 ghost use Rattle.std.specs.List.{enumerate_from};
 ghost use Rattle.sqlite.specs.declared.types.Value.TheVariants.{Int};
-ghost use Rattle.std.specs.Option.{option_copied};
-ghost use Rattle.kob_outbox.specs.Database.{IsBlank, database, no_schema};
+ghost use Rattle.kob_outbox.specs.Database.{database};
 ghost use Rattle.kob_inbox.specs.Contents.{next_place, intake_of, is_there, with_intake};
 ghost use Rattle.kob_inbox.specs.Contents.{arrival_from};
 ghost use Rattle.kob_inbox.specs.Database.{IsInbox, contents, IsReadable, shown_intake};
@@ -15,17 +14,6 @@ use kob_names::Record;
 use kob_outbox::number;
 use sqlite::types::Value;
 use sqlite::{Connection, Error, ErrorCode, MemStore, Row, params};
-
-pub(crate) fn create_inbox(conn: &mut Connection<MemStore>) -> Result<usize, Error>
-    requires { IsBlank no_schema (database conn.old) }
-    ensures inbox { OnOk result (IsInbox (database conn.new)) }
-    ensures empty { OnOk result (contents conn.new ≡ []) }
-{
-    conn.execute(
-        "CREATE TABLE inbox (place INTEGER PRIMARY KEY NOT NULL, id TEXT UNIQUE NOT NULL, topic TEXT NOT NULL, part INTEGER NOT NULL, off INTEGER NOT NULL, rkey BLOB, rvalue BLOB NOT NULL)",
-        &[],
-    )
-}
 
 /// Adds an event at the next place. Returns 0 if its id is there already.
 pub(crate) fn insert_intake<'a>(
@@ -50,19 +38,12 @@ pub(crate) fn insert_intake<'a>(
 {
     let partition = number(origin.partition);
     let offset = number(origin.offset);
-    let key = key_of(message);
+    let key = message.key.as_ref().map(|key| key.as_slice());
     let value = message.value.as_slice();
     conn.execute(
         "INSERT OR IGNORE INTO inbox (place, id, topic, part, off, rkey, rvalue) VALUES (?1, ?2, ?3, ?4, ?5, ?6, ?7)",
         params![place, id, origin.topic, &partition, &offset, key, value,],
     )
-}
-
-/// The bytes of a record's key, if it has one.
-fn key_of(message: &Record) -> Option<&[u8]>
-    ensures { option_copied result ≡ message.now.key }
-{
-    message.key.as_ref().map(|key| key.as_slice())
 }
 
 /// All events, in the order of their places.

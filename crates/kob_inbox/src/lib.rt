@@ -11,7 +11,6 @@ mod inbox_table;
 mod intake;
 mod laws;
 mod origin;
-mod reads;
 mod rows;
 mod tick;
 

@@ -1,4 +1,4 @@
-use Rattle.kob_inbox.proofs.Words.{arrival_from, database, intake_of, memory_is_clean, refl}
+use Rattle.kob_inbox.proofs.Words.{arrival_from, database, intake_of, memory_is_clean, option_copied, refl, rules, ◌≡◌}
 use Rattle.kob_inbox.proofs.Intakes.{takes, takes_again, bound_key, lent_key}
 use Rattle.kob_inbox.proofs.inbox_table.insert_intake.Goals as goal
 
@@ -6,6 +6,7 @@ pub returns : goal.returns
 returns c =
     let old = database c.args.conn.now in let new = database c.execute.new.self in let was = c.requires.inbox in
     let e = intake_of c.args.id.now (arrival_from c.args.origin.now c.args.message.now) in
+    let key_is : option_copied c.map-key.result ≡ c.args.message.now.key = search rules in
     let ran =
     rw (
       c.params-to_sql.ensures,
@@ -15,8 +16,8 @@ returns c =
       c.params-to_sql-5.ensures,
       c.params-to_sql-6.ensures,
       c.params-to_sql-7.ensures,
-      lent_key c.key_of-key.result,
-      c.key_of-key.ensures,
+      lent_key c.map-key.result,
+      key_is,
       bound_key c.args.message.now.key,
       c.as_slice-value.ensures,
       c.number-partition.ensures,
