@@ -9,7 +9,7 @@ use Rattle.kob_names.specs.declared.kinds.ResourceKind.TheVariants.{Topic}
 use Rattle.kob_names.specs.declared.verdict.Verdict.{Verdict}
 use Rattle.kob_script.specs.Printed.{verdict_text}
 use Rattle.kob_words.specs.Words.{operation_name, resource_name, bytes_text}
-use Rattle.kob_policy_text.specs.AtHand.{principals_at_hand, topics_named}
+use Rattle.kob_policy_text.specs.AtHand.{topics_named}
 use Rattle.kob_policy_text.specs.declared.item.LeftOut.{LeftOut}
 use Rattle.kob_policy_text.specs.declared.item.LeftOut.TheVariants as left_out
 use Rattle.kob_policy_text.specs.declared.origin.Omission.{Omission}
@@ -87,11 +87,6 @@ who_line policy right host principal =
     codes "  " ++ name_text principal ++ codes " " ++ reason_text policy
     (may policy (question_of principal host right.operation right.resource right.name))
     ++ codes "\n"
-
--- the answer from a host to each principal at hand
-abbrev pub from_text : Policy → Right → List ℕ → List ℕ
-from_text policy right host =
-    flat_map (who_line policy right host) (principals_at_hand policy.bindings)
 
 -- a principal may describe a topic
 abbrev pub is_seen : Policy → Asker → List ℕ → Bool

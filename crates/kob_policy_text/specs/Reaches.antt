@@ -30,11 +30,8 @@ unfoldable pub reach_text : Reach → List ℕ
 reach_text one = if asks_as_others one then [] else by_share one.share one
 
 -- super users first, and then all principals and hosts to which it is granted on some of the names
-abbrev pub reached_text : Policy → Right → List ℕ
-reached_text policy right =
-    flat_map super_grant (each_once policy.supers)
-    ++ flat_map reach_text
-    (reaches_below (contents_of policy) right.operation right.resource right.name)
-
 abbrev pub reaches_text : Policy → Right → List ℕ
-reaches_text policy right = or_none (reached_text policy right)
+reaches_text policy right =
+    or_none (flat_map super_grant (each_once policy.supers)
+    ++ flat_map reach_text
+    (reaches_below (contents_of policy) right.operation right.resource right.name))

@@ -24,8 +24,8 @@ use Rattle.kob_policy_review.specs.declared.redundant.Reason.{Reason}
 use Rattle.kob_policy_review.specs.declared.redundant.Reason.TheVariants.{CoveredBy, DeniedBy, Super, Together}
 use Rattle.kob_policy_review.specs.declared.redundant.Unneeded.{Unneeded}
 use Rattle.kob_policy_text.specs.Access.{access_text, expect_text}
-use Rattle.kob_policy_text.specs.Answers.{from_text, line_at, line_by, reason_text, sees_text}
-use Rattle.kob_policy_text.specs.AtHand.{each_once}
+use Rattle.kob_policy_text.specs.Answers.{line_at, line_by, reason_text, sees_text, who_line}
+use Rattle.kob_policy_text.specs.AtHand.{each_once, principals_at_hand}
 use Rattle.kob_policy_text.specs.Holdings.{holdings_text}
 use Rattle.kob_policy_text.specs.Parties.{names_text, party_text, super_grant}
 use Rattle.kob_policy_text.specs.Numbered.{numbered}
@@ -123,17 +123,16 @@ told_text policy answers = flat_map (grant_if_told policy answers) answers
 
 -- super users first, then all principals and hosts to which the right is granted, each with those
 -- from which a deny takes it away
-abbrev pub granted_text : Policy → Right → List ℕ
-granted_text policy right =
-    flat_map super_grant (each_once policy.supers)
-    ++ told_text policy (answers_on (contents_of policy) right.operation (target_at right))
-
 abbrev pub who_list : Policy → Right → List ℕ
-who_list policy right = on_right policy right (granted_text policy right)
+who_list policy right =
+    on_right policy right (flat_map super_grant (each_once policy.supers)
+    ++ told_text policy (answers_on (contents_of policy) right.operation (target_at right)))
 
--- the answer from one host, or from every host
+-- the answer from one host to each principal at hand, or who is granted it from every host
 abbrev pub who_text : Policy → Right → Option (List ℕ) → List ℕ
-who_text policy right (Some host) = from_text policy right host ++ taking_text policy right
+who_text policy right (Some host) =
+    flat_map (who_line policy right host) (principals_at_hand policy.bindings)
+    ++ taking_text policy right
 who_text policy right None = who_list policy right
 
 -- OPERATION RESOURCE NAME, above those who may
@@ -149,12 +148,6 @@ grants_text policy right = right_line right ++ who_list policy right
 abbrev pub consumers_text : Policy → Right → Right → List ℕ
 consumers_text policy topic group = grants_text policy topic ++ grants_text policy group
 
--- who asks, and from where
-unfoldable pub asker_text : Class → List ℕ
-asker_text class =
-    party_text (codes "User:* (others)") class.principal ++ codes " "
-    ++ party_text (codes "* (others)") class.host ++ codes " "
-
 -- OPERATION RESOURCE NAME
 unfoldable pub target_text : Class → List ℕ
 target_text class =
@@ -166,9 +159,12 @@ outcome_text Gained = codes " no -> yes\n"
 outcome_text Lost = codes " yes -> no\n"
 outcome_text Same = codes " unchanged\n"
 
+-- who asks, from where, for what, and what becomes of the answer
 unfoldable pub change_line : Change → List ℕ
 change_line change =
-    asker_text change.class ++ target_text change.class ++ outcome_text change.outcome
+    party_text (codes "User:* (others)") change.class.principal ++ codes " "
+    ++ party_text (codes "* (others)") change.class.host ++ codes " "
+    ++ target_text change.class ++ outcome_text change.outcome
 
 -- a super user on one side alone
 unfoldable pub super_line : List ℕ → List (List ℕ) → List ℕ → List ℕ

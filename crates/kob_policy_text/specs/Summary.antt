@@ -32,14 +32,10 @@ patterns_text policy =
     ++ count_line (codes "groups") (length (names_named Group policy.bindings))
     ++ count_line (codes "transactional-ids") (length (names_named TransactionalId policy.bindings))
 
--- what does nothing
-unfoldable pub idle_text : Policy → List ℕ
-idle_text policy =
-    count_line (codes "unused") (unused_count policy)
-    ++ count_line (codes "shadowed") (length (shadowed_in (contents_of policy)))
-
 unfoldable pub summary_text : Policy → List ℕ
 summary_text policy =
     count_line (codes "bindings") (length policy.bindings) ++ parties_text policy
     ++ patterns_text policy ++ count_line (codes "left-out") (length policy.omissions)
-    ++ count_line (codes "skipped-lines") (length policy.skipped) ++ idle_text policy
+    ++ count_line (codes "skipped-lines") (length policy.skipped)
+    ++ count_line (codes "unused") (unused_count policy)
+    ++ count_line (codes "shadowed") (length (shadowed_in (contents_of policy)))

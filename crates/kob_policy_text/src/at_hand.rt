@@ -3,7 +3,7 @@
 ghost use Rattle.std.specs.Prelude.{◌≡◌, [], IfOk, OnOk};
 ghost use Rattle.kob_policy_text.specs.AtHand.{each_once, hosts_named};
 ghost use Rattle.kob_policy_text.specs.AtHand.{names_named, principals_at_hand, principals_named};
-ghost use Rattle.kob_policy_text.specs.AtHand.{topics_named, with_text, with_topic};
+ghost use Rattle.kob_policy_text.specs.AtHand.{topics_named, with_text};
 
 use crate::texts::Texts;
 use kob_names::{Binding, PatternKind, PlainValue, Principal, PrincipalFault, ResourceKind};
@@ -133,20 +133,6 @@ pub fn names_named(
     Ok(made)
 }
 
-/// Puts the name last, if the pattern takes one topic alone.
-fn add_topic(alloc: Global, topics: &mut Texts, binding: &Binding) -> Result<(), AllocError>
-    ensures { OnOk result (topics.new ≡ with_topic topics.old binding.now) }
-{
-    let parts = binding.parts();
-    if parts.resource == ResourceKind::Topic
-        && parts.pattern.kind == PatternKind::Literal
-        && parts.pattern.name.as_str() != "*"
-    {
-        topics.add(alloc, parts.pattern.name.as_str())?;
-    }
-    Ok(())
-}
-
 /// The topics that literal patterns name.
 #[tactic(auto, using(std::proofs::lemmas::List::Sums::fold_more))]
 pub fn topics_named(alloc: Global, bindings: &[Binding]) -> Result<Texts, AllocError>
@@ -154,7 +140,13 @@ pub fn topics_named(alloc: Global, bindings: &[Binding]) -> Result<Texts, AllocE
 {
     let mut made = Texts::new(alloc);
     for binding in bindings {
-        add_topic(alloc, &mut made, binding)?;
+        let parts = binding.parts();
+        if parts.resource == ResourceKind::Topic
+            && parts.pattern.kind == PatternKind::Literal
+            && parts.pattern.name.as_str() != "*"
+        {
+            made.add(alloc, parts.pattern.name.as_str())?;
+        }
     }
     Ok(made)
 }

@@ -1,7 +1,7 @@
 //! What changes from one policy to another, over all principals, hosts, operations and names.
 
 ghost use Rattle.std.specs.Prelude.{◌≡◌, ◌++◌, OnOk, flat_map};
-ghost use Rattle.kob_policy_text.specs.Review.{asker_text, change_line, changes_text, everyone_text};
+ghost use Rattle.kob_policy_text.specs.Review.{change_line, changes_text, everyone_text};
 ghost use Rattle.kob_policy_text.specs.Review.{outcome_text, super_line, target_text};
 
 use crate::judge::Judge;
@@ -10,16 +10,6 @@ use kob_names::Principal;
 use kob_policy_review::{Change, Class, Outcome, changes, is_super};
 use kob_words::{operation_name, resource_name};
 use std::alloc::{AllocError, Global};
-
-#[tactic(auto, using(kob_words::proofs::Appending::appending), unfolding(crate::specs::Review::asker_text))]
-fn push_asker(out: &mut Vec<u8>, class: &Class) -> Result<(), AllocError>
-    ensures { OnOk result (out.new.items ≡ out.old.items ++ asker_text class.now) }
-{
-    push_party(out, "User:* (others)", &class.principal)?;
-    out.extend_from_slice(b" ")?;
-    push_party(out, "* (others)", &class.host)?;
-    out.extend_from_slice(b" ")
-}
 
 #[tactic(auto, using(kob_words::proofs::Appending::appending), unfolding(crate::specs::Review::target_text))]
 fn push_target(out: &mut Vec<u8>, class: &Class) -> Result<(), AllocError>
@@ -51,7 +41,10 @@ fn outcome_text(outcome: Outcome) -> &'static str
 fn push_change(out: &mut Vec<u8>, change: &Change) -> Result<(), AllocError>
     ensures { OnOk result (out.new.items ≡ out.old.items ++ change_line change.now) }
 {
-    push_asker(out, &change.class)?;
+    push_party(out, "User:* (others)", &change.class.principal)?;
+    out.extend_from_slice(b" ")?;
+    push_party(out, "* (others)", &change.class.host)?;
+    out.extend_from_slice(b" ")?;
     push_target(out, &change.class)?;
     out.extend_from_slice(outcome_text(change.outcome).as_bytes())
 }
@@ -65,30 +58,8 @@ fn push_each(out: &mut Vec<u8>, found: &[Change]) -> Result<(), AllocError>
     Ok(())
 }
 
-#[tactic(auto, using(kob_words::proofs::Appending::appending), unfolding(crate::specs::Review::super_line))]
-fn push_super<'a>(
-    out: &mut Vec<u8>,
-    what: &'a str,
-    others: &[Principal],
-    user: &'a Principal,
-) -> Result<(), AllocError>
-    ensures { OnOk result (out.new.items
-        ≡ out.old.items ++ super_line what.now others.now user.now) }
-{
-    if is_super(others, user.as_str()) {
-        return Ok(());
-    }
-    push_parts(
-        out,
-        &[
-            Part::Words("super "),
-            Part::Name(user.as_str()),
-            Part::Words(what),
-        ],
-    )
-}
-
 /// The super users that are not among the others.
+#[tactic(auto, using(kob_words::proofs::Appending::appending), unfolding(crate::specs::Review::super_line))]
 fn push_supers<'a>(
     out: &mut Vec<u8>,
     what: &'a str,
@@ -99,7 +70,16 @@ fn push_supers<'a>(
         ≡ out.old.items ++ flat_map (super_line what.now others.now) supers.now) }
 {
     for user in supers {
-        push_super(out, what, others, user)?;
+        if !is_super(others, user.as_str()) {
+            push_parts(
+                out,
+                &[
+                    Part::Words("super "),
+                    Part::Name(user.as_str()),
+                    Part::Words(what),
+                ],
+            )?;
+        }
     }
     Ok(())
 }

@@ -4,7 +4,7 @@ ghost use Rattle.std.specs.Prelude.{◌≡◌, ◌==◌, ◌++◌, IfOk, OnOk, f
 ghost use Rattle.kob_authorizer.specs.Decide.{Contents};
 ghost use Rattle.kob_policy_text.specs.Policy.{contents_of};
 ghost use Rattle.kob_policy_text.specs.Steps.{HaveSameSettings, KeepAnswers, exactly, is_among};
-ghost use Rattle.kob_policy_text.specs.Steps.{pattern_of, step_on, steps};
+ghost use Rattle.kob_policy_text.specs.Steps.{step_on, steps};
 
 use crate::judge::Judge;
 use kob_authorizer::Authorizer;
@@ -28,15 +28,6 @@ pub fn steps_keep_answers()
     // The contract is the law.
 }
 
-fn pattern_of(kind: PatternKind) -> FilterPattern
-    ensures { result ≡ pattern_of kind }
-{
-    match kind {
-        PatternKind::Literal => FilterPattern::Literal,
-        PatternKind::Prefixed => FilterPattern::Prefixed,
-    }
-}
-
 /// A filter that takes equal bindings alone.
 fn exactly(alloc: Global, binding: &Binding) -> Result<BindingFilter, AllocError>
     ensures { IfOk result (λ filter. filter ≡ exactly binding.now) }
@@ -45,7 +36,10 @@ fn exactly(alloc: Global, binding: &Binding) -> Result<BindingFilter, AllocError
     Ok(BindingFilter {
         resource: Some(parts.resource),
         name: Some(parts.pattern.name.copy(alloc)?),
-        pattern: pattern_of(parts.pattern.kind),
+        pattern: match parts.pattern.kind {
+            PatternKind::Literal => FilterPattern::Literal,
+            PatternKind::Prefixed => FilterPattern::Prefixed,
+        },
         principal: Some(parts.principal.copy(alloc)?),
         host: Some(parts.host.copy(alloc)?),
         operation: Some(parts.operation),
@@ -69,33 +63,8 @@ pub fn equals_of(
     Ok(found)
 }
 
-#[tactic(auto, unfolding(crate::specs::Steps::step_on))]
-fn push_step(
-    alloc: Global,
-    found: &mut Vec<Step>,
-    adds: bool,
-    permission: Permission,
-    others: &Authorizer,
-    entry: &(u64, Binding),
-) -> Result<(), AllocError>
-    ensures { OnOk result (found.new.items ≡ found.old.items
-        ++ step_on adds permission others.now.contents.entries entry.now) }
-{
-    if entry.1.parts().permission != permission {
-        return Ok(());
-    }
-    if equals_of(alloc, others, &entry.1)?.is_empty() {
-        let binding = entry.1.copy(alloc)?;
-        if adds {
-            found.push(Step::Add(binding))?;
-        } else {
-            found.push(Step::Remove(binding))?;
-        }
-    }
-    Ok(())
-}
-
 /// The commands on the entries that the others lack.
+#[tactic(auto, unfolding(crate::specs::Steps::step_on))]
 fn push_steps(
     alloc: Global,
     found: &mut Vec<Step>,
@@ -108,7 +77,17 @@ fn push_steps(
         ++ flat_map (step_on adds permission others.now.contents.entries) entries.now) }
 {
     for entry in entries {
-        push_step(alloc, found, adds, permission, others, entry)?;
+        if entry.1.parts().permission != permission {
+            continue;
+        }
+        if equals_of(alloc, others, &entry.1)?.is_empty() {
+            let binding = entry.1.copy(alloc)?;
+            if adds {
+                found.push(Step::Add(binding))?;
+            } else {
+                found.push(Step::Remove(binding))?;
+            }
+        }
     }
     Ok(())
 }

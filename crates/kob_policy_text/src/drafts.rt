@@ -27,25 +27,15 @@ pub fn binding_of(alloc: Global, draft: &Draft) -> Result<Binding, LineError>
 pub fn closing_binding(alloc: Global, draft: &Draft) -> Result<Binding, LineError>
     ensures { Gives result (binding_of (closing_of draft.now)) }
 {
-    let closing = closing_of(alloc, draft)?;
-    binding_of(alloc, &closing)
-}
-
-/// A binding that covers nobody, on the pattern of another.
-fn closing_of(alloc: Global, draft: &Draft) -> Result<Draft, AllocError>
-    ensures { IfOk result (λ made. made ≡ closing_of draft.now) }
-{
-    let principal = nobody(alloc)?;
-    let host = nowhere(alloc)?;
-    let pattern = draft.pattern.copy(alloc)?;
-    Ok(Draft {
+    let closing = Draft {
         permission: Permission::Deny,
-        principal,
-        host,
+        principal: nobody(alloc)?,
+        host: nowhere(alloc)?,
         operation: Operation::ClusterAction,
         resource: draft.resource,
-        pattern,
-    })
+        pattern: draft.pattern.copy(alloc)?,
+    };
+    binding_of(alloc, &closing)
 }
 
 fn nobody(alloc: Global) -> Result<Principal, AllocError>

@@ -1,7 +1,7 @@
 //! What is granted to a principal.
 
 ghost use Rattle.std.specs.Prelude.{◌≡◌, ◌++◌, OnOk, flat_map};
-ghost use Rattle.kob_policy_text.specs.Holdings.{behind_comma, from_host, held_text, holding_line};
+ghost use Rattle.kob_policy_text.specs.Holdings.{behind_comma, from_host, held_text};
 ghost use Rattle.kob_policy_text.specs.Holdings.{holding_text, holdings_text, is_repeated};
 ghost use Rattle.kob_policy_text.specs.Holdings.{operations_text};
 
@@ -55,25 +55,6 @@ fn push_from(out: &mut Vec<u8>, host: &Option<Host>, one: &Holding) -> Result<()
     }
 }
 
-#[tactic(auto, using(kob_words::proofs::Appending::appending), unfolding(crate::specs::Holdings::holding_line))]
-fn push_line(out: &mut Vec<u8>, host: &Option<Host>, one: &Holding) -> Result<(), AllocError>
-    ensures { OnOk result (out.new.items ≡ out.old.items ++ holding_line host.now one.now) }
-{
-    out.extend_from_slice(b"  ")?;
-    push_from(out, host, one)?;
-    push_operations(out, one.operations.as_slice())?;
-    push_parts(
-        out,
-        &[
-            Part::Words(" "),
-            Part::Words(resource_name(one.target.resource)),
-            Part::Words(" "),
-            Part::Names(&one.target.names),
-            Part::Words("\n"),
-        ],
-    )
-}
-
 /// Whether a holding is at the word for all hosts, which asks as all others do, where each host is
 /// listed.
 pub fn is_repeated(host: &Option<Host>, one: &Holding) -> bool
@@ -85,14 +66,28 @@ pub fn is_repeated(host: &Option<Host>, one: &Holding) -> bool
     }
 }
 
+#[tactic(auto, using(kob_words::proofs::Appending::appending), unfolding(crate::specs::Holdings::holding_line))]
 fn push_each(out: &mut Vec<u8>, host: &Option<Host>, found: &[Holding]) -> Result<(), AllocError>
     ensures { OnOk result
         (out.new.items ≡ out.old.items ++ flat_map (holding_text host.now) found.now) }
 {
     for one in found {
-        if !(one.operations.as_slice().is_empty() || is_repeated(host, one)) {
-            push_line(out, host, one)?;
+        if one.operations.as_slice().is_empty() || is_repeated(host, one) {
+            continue;
         }
+        out.extend_from_slice(b"  ")?;
+        push_from(out, host, one)?;
+        push_operations(out, one.operations.as_slice())?;
+        push_parts(
+            out,
+            &[
+                Part::Words(" "),
+                Part::Words(resource_name(one.target.resource)),
+                Part::Words(" "),
+                Part::Names(&one.target.names),
+                Part::Words("\n"),
+            ],
+        )?;
     }
     Ok(())
 }

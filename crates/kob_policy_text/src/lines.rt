@@ -2,7 +2,7 @@
 
 ghost use Rattle.std.specs.Prelude.{◌≡◌, IfOk, Ok};
 ghost use Rattle.kob_acl_cli.specs.Lines.{texts};
-ghost use Rattle.kob_policy_text.specs.Lines.{SaysAt, SaysTrimmed, acl_texts};
+ghost use Rattle.kob_policy_text.specs.Lines.{SaysAt, acl_texts};
 ghost use Rattle.kob_policy_text.specs.Lines.{held_words, is_creation};
 ghost use Rattle.kob_policy_text.specs.Lines.{is_for_other_kind, is_heading};
 ghost use Rattle.kob_policy_text.specs.Lines.{is_heading_line, is_listed, is_release, is_skipped};
@@ -219,24 +219,6 @@ fn asks_by_acl(words: &[Word<'_>]) -> bool
     }
 }
 
-#[tactic(auto, unfolding(crate::specs::Lines::SaysTrimmed))]
-fn trimmed_items(alloc: Global, line: &[u8]) -> Result<Vec<Item>, LineError>
-    ensures { MayGive (λ items. items.items) result (SaysTrimmed line.now) }
-{
-    if is_listed(line) {
-        return listed_items(alloc, line);
-    }
-    if let Some(arguments) = tool_arguments(line) {
-        return tool_items(alloc, arguments);
-    }
-    let words = words_of(alloc, line)?;
-    if asks_by_acl(&words) {
-        let texts = acl_texts(alloc, &words)?;
-        return added(alloc, &texts);
-    }
-    words_items(alloc, words)
-}
-
 /// Whether the words create bindings.
 fn is_creation(words: &[Word<'_>]) -> bool
     ensures { result ≡ is_creation words.now }
@@ -273,6 +255,7 @@ fn is_skipped(alloc: Global, has_list: bool, line: &[u8]) -> Result<bool, AllocE
 
 /// What a line says, above every heading of its file or not. The options of `kafka-acls` and of
 /// `acl` are read by `clap`.
+#[tactic(auto, unfolding(crate::specs::Lines::SaysTrimmed))]
 pub fn items_of(
     alloc: Global,
     above: bool,
@@ -285,5 +268,16 @@ pub fn items_of(
     if above && is_skipped(alloc, has_list, line)? {
         return one(alloc, Item::Skipped);
     }
-    trimmed_items(alloc, line)
+    if is_listed(line) {
+        return listed_items(alloc, line);
+    }
+    if let Some(arguments) = tool_arguments(line) {
+        return tool_items(alloc, arguments);
+    }
+    let words = words_of(alloc, line)?;
+    if asks_by_acl(&words) {
+        let texts = acl_texts(alloc, &words)?;
+        return added(alloc, &texts);
+    }
+    words_items(alloc, words)
 }

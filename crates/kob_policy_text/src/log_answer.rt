@@ -1,10 +1,10 @@
 //! What rules have to do with the accesses that a broker recorded.
 
-ghost use Rattle.std.specs.Prelude.{◌≡◌, ◌++◌, ◌||◌, ℕ, IfOk, OnOk, filter, flat_map, length, nat_eq};
+ghost use Rattle.std.specs.Prelude.{◌≡◌, ◌++◌, ℕ, IfOk, OnOk, filter, flat_map, length, nat_eq};
 ghost use Rattle.std.specs.HashSet.{contains};
 ghost use Rattle.std.specs.List.{list_any};
 ghost use Rattle.kob_authorizer.specs.Decide as authorizer;
-ghost use Rattle.kob_policy_text.specs.LogAnswers.{accesses_text, asked_in, decides, differs};
+ghost use Rattle.kob_policy_text.specs.LogAnswers.{accesses_text, asked_in, differs};
 ghost use Rattle.kob_policy_text.specs.LogAnswers.{idle_in, idle_line, is_decider};
 ghost use Rattle.kob_policy_text.specs.LogAnswers.{is_otherwise, log_text, otherwise_line};
 ghost use Rattle.kob_policy_text.specs.LogAnswers.{otherwise_text, place_text, skipped_lines, verdict_on, was_text};
@@ -104,19 +104,6 @@ fn push_otherwise(out: &mut Vec<u8>, judge: &Judge, accesses: &[Entry]) -> Resul
     Ok(())
 }
 
-fn add_decider(set: &mut HashSet<u64>, judge: &Judge, entry: &Entry) -> Result<(), AllocError>
-    ensures { OnOk result ((serial : ℕ) → contains nat_eq set.new serial
-        ≡ (contains nat_eq set.old serial || decides judge.now serial entry.now)) }
-{
-    match deciding(verdict_on(judge, entry)) {
-        None => Ok(()),
-        Some(serial) => {
-            set.insert(serial)?;
-            Ok(())
-        }
-    }
-}
-
 /// The serials of the bindings that decide accesses. The error is out of memory.
 pub fn deciders(
     alloc: Global,
@@ -128,7 +115,9 @@ pub fn deciders(
 {
     let mut set = HashSet::new(alloc);
     for entry in accesses {
-        add_decider(&mut set, judge, entry)?;
+        if let Some(serial) = deciding(verdict_on(judge, entry)) {
+            set.insert(serial)?;
+        }
     }
     Ok(set)
 }

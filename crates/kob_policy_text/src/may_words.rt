@@ -4,7 +4,7 @@ ghost use Rattle.std.specs.Prelude.{◌≡◌};
 ghost use Rattle.kob_policy_text.specs.Questions.{may_consume, may_produce};
 ghost use Rattle.kob_policy_text.specs.Questions.{may_request};
 ghost use Rattle.kob_policy_text.specs.Questions.{may_words};
-ghost use Rattle.kob_policy_text.specs.Questions.{may_by, may_repeat, may_right, may_six, may_transact};
+ghost use Rattle.kob_policy_text.specs.Questions.{may_by, may_six};
 ghost use Rattle.kob_script.specs.Words.{Gives};
 
 use crate::lines::only_event;
@@ -84,61 +84,7 @@ fn may_request(alloc: Global, words: &[Word<'_>]) -> Result<Access, LineError>
     })
 }
 
-#[tactic(auto, unfolding(crate::specs::Questions::may_right))]
-fn may_right(
-    alloc: Global,
-    principal: &Word<'_>,
-    host: &Word<'_>,
-    operation: &Word<'_>,
-    resource: &Word<'_>,
-    name: &Word<'_>,
-) -> Result<Access, LineError>
-    ensures { Gives result (may_right principal.now host.now operation.now resource.now name.now) }
-{
-    let asker = asker_of(alloc, principal, host)?;
-    let right = right_of(alloc, operation, resource, name)?;
-    Ok(Access {
-        asker,
-        act: Act::Right(right),
-    })
-}
-
-#[tactic(auto, unfolding(crate::specs::Questions::may_repeat))]
-fn may_repeat(
-    alloc: Global,
-    principal: &Word<'_>,
-    host: &Word<'_>,
-    topic: &Word<'_>,
-) -> Result<Access, LineError>
-    ensures { Gives result (may_repeat principal.now host.now topic.now) }
-{
-    let asker = asker_of(alloc, principal, host)?;
-    let name = text_of(alloc, topic)?;
-    Ok(Access {
-        asker,
-        act: Act::Idempotent(name),
-    })
-}
-
-#[tactic(auto, unfolding(crate::specs::Questions::may_transact))]
-fn may_transact(
-    alloc: Global,
-    principal: &Word<'_>,
-    host: &Word<'_>,
-    topic: &Word<'_>,
-    id: &Word<'_>,
-) -> Result<Access, LineError>
-    ensures { Gives result (may_transact principal.now host.now topic.now id.now) }
-{
-    let asker = asker_of(alloc, principal, host)?;
-    let (name, transaction) = two_texts(alloc, topic, id)?;
-    Ok(Access {
-        asker,
-        act: Act::Transactional(name, transaction),
-    })
-}
-
-#[tactic(auto, unfolding(crate::specs::Questions::may_by))]
+#[tactic(auto, unfolding(crate::specs::Questions::may_by, crate::specs::Questions::may_right, crate::specs::Questions::may_repeat))]
 fn may_by(
     alloc: Global,
     words: &[Word<'_>],
@@ -152,19 +98,23 @@ fn may_by(
         (may_by words.now principal.now host.now command.now one.now other.now) }
 {
     if known_operation(command.decoded()).is_some() {
-        may_right(alloc, principal, host, command, one, other)
+        let asker = asker_of(alloc, principal, host)?;
+        let act = Act::Right(right_of(alloc, command, one, other)?);
+        Ok(Access { asker, act })
     } else if is_word(command, b"consume") {
         may_consume(alloc, principal, host, one, other)
     } else if !is_word(command, b"produce") {
         may_request(alloc, words)
     } else if is_word(other, b"idempotent") {
-        may_repeat(alloc, principal, host, one)
+        let asker = asker_of(alloc, principal, host)?;
+        let act = Act::Idempotent(text_of(alloc, one)?);
+        Ok(Access { asker, act })
     } else {
         Err(LineError::Fault(FaultKind::BadLine))
     }
 }
 
-#[tactic(auto, unfolding(crate::specs::Questions::may_six))]
+#[tactic(auto, unfolding(crate::specs::Questions::may_six, crate::specs::Questions::may_transact))]
 fn may_six(
     alloc: Global,
     words: &[Word<'_>],
@@ -179,7 +129,12 @@ fn may_six(
         (may_six words.now principal.now host.now command.now topic.now how.now id.now) }
 {
     if is_word(command, b"produce") && is_word(how, b"transactional") {
-        may_transact(alloc, principal, host, topic, id)
+        let asker = asker_of(alloc, principal, host)?;
+        let (name, transaction) = two_texts(alloc, topic, id)?;
+        Ok(Access {
+            asker,
+            act: Act::Transactional(name, transaction),
+        })
     } else {
         may_request(alloc, words)
     }

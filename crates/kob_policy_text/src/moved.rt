@@ -52,28 +52,7 @@ fn place_among(
     Ok(Some(place_of(others.entries(), found.as_slice())))
 }
 
-/// The line of a binding, unless the others have an equal one. Returns where the next one may be.
 #[tactic(auto, unfolding(crate::specs::Moved::moved_line))]
-fn push_moved(
-    alloc: Global,
-    out: &mut Vec<u8>,
-    judge: &Judge,
-    others: &Authorizer,
-    first: usize,
-    entry: &(u64, Binding),
-) -> Result<usize, AllocError>
-    ensures { OnOk result (out.new.items ≡ out.old.items
-        ++ moved_line judge.now others.now.contents.entries entry.now) }
-{
-    match place_among(alloc, others, first, &entry.1)? {
-        Some(place) => Ok(place.saturating_add(1)),
-        None => {
-            push_line_by(out, judge, entry.0)?;
-            Ok(first)
-        }
-    }
-}
-
 fn push_lines(
     alloc: Global,
     out: &mut Vec<u8>,
@@ -86,7 +65,10 @@ fn push_lines(
 {
     let mut next = 0;
     for entry in entries {
-        next = push_moved(alloc, out, judge, others, next, entry)?;
+        match place_among(alloc, others, next, &entry.1)? {
+            Some(place) => next = place.saturating_add(1),
+            None => push_line_by(out, judge, entry.0)?,
+        }
     }
     Ok(())
 }

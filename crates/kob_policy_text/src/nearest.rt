@@ -1,7 +1,7 @@
 //! The nearest of the names of patterns to a name that no pattern takes.
 
 ghost use Rattle.std.specs.Prelude.{◌≡◌, IfOk, OnOk};
-ghost use Rattle.kob_policy_text.specs.Nearest.{is_compared, nearest_of, none_near};
+ghost use Rattle.kob_policy_text.specs.Nearest.{is_compared, nearest_of};
 ghost use Rattle.kob_policy_text.specs.Nearest.{with_nearer};
 
 use kob_names::{PlainValue, Text};
@@ -23,16 +23,6 @@ fn is_compared(name: &str) -> bool
 }
 
 impl Nearest {
-    /// None yet.
-    fn new(name: &str) -> Nearest
-        ensures { result ≡ none_near name.now }
-    {
-        Nearest {
-            found: None,
-            least: (name.len() / 3).max(1) + 1,
-        }
-    }
-
     /// Takes another name into account.
     #[tactic(auto, unfolding(crate::specs::Nearest::distance))]
     fn add(&mut self, alloc: Global, name: &str, other: &Text) -> Result<(), AllocError>
@@ -60,7 +50,10 @@ pub fn nearest_of(alloc: Global, name: &str, others: &[Text]) -> Result<Option<T
     if !is_compared(name) {
         return Ok(None);
     }
-    let mut nearest = Nearest::new(name);
+    let mut nearest = Nearest {
+        found: None,
+        least: (name.len() / 3).max(1) + 1,
+    };
     for other in others {
         nearest.add(alloc, name, other)?;
     }

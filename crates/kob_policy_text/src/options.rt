@@ -6,8 +6,8 @@ ghost use Rattle.kob_acl_cli.specs.Lines.{texts};
 ghost use Rattle.kob_policy_text.specs.Options.{Adds, added_by, added_from};
 ghost use Rattle.kob_policy_text.specs.Options.{held_at, held_options, is_ignored};
 ghost use Rattle.kob_policy_text.specs.Options.{is_ignored_whole, is_other, is_other_whole};
-ghost use Rattle.kob_policy_text.specs.Options.{added_in_parts, ids_alone};
-ghost use Rattle.kob_policy_text.specs.Options.{next_place, only_command, rule_items, then_added};
+ghost use Rattle.kob_policy_text.specs.Options.{ids_alone};
+ghost use Rattle.kob_policy_text.specs.Options.{next_place, rule_items, then_added};
 ghost use Rattle.kob_policy_text.specs.Options.{without_ids, drafts_from, with_other_operations};
 ghost use Rattle.kob_policy_text.specs.Options.{added_on_both};
 ghost use Rattle.kob_policy_text.specs.Options.{left_out_from};
@@ -149,20 +149,15 @@ pub fn rule_items(alloc: Global, drafts: Vec<Draft>) -> Result<Vec<Item>, AllocE
     Ok(items)
 }
 
-fn only_command(mut commands: Vec<AclCommand>) -> Option<AclCommand>
-    ensures { result ≡ only_command commands.items }
-{
-    if commands.len() != 1 {
-        return None;
-    }
-    commands.pop()
-}
-
 /// What the only command adds. Commands that remove or list are a fault.
 fn drafts_from(alloc: Global, args: &CliArgs) -> Result<Vec<Draft>, LineError>
     ensures { GivesSeen (λ drafts. drafts.items) result (drafts_from args.now) }
 {
-    match only_command(acl_commands(alloc, Some(args))?) {
+    let mut commands = acl_commands(alloc, Some(args))?;
+    if commands.len() != 1 {
+        return Err(LineError::Fault(FaultKind::BadLine));
+    }
+    match commands.pop() {
         Some(AclCommand::Create(drafts)) => Ok(drafts.into_vec()),
         _ => Err(LineError::Fault(FaultKind::BadLine)),
     }
@@ -198,22 +193,6 @@ fn added_on_both(alloc: Global, args: &mut CliArgs) -> Result<Vec<Item>, LineErr
     Ok(items)
 }
 
-/// Leaves the transactional ids alone, for `Write` and `Describe`.
-fn leave_ids(alloc: Global, args: &mut CliArgs) -> Result<(), AllocError>
-    ensures { OnOk result (args.new ≡ ids_alone args.old) }
-{
-    let mut made = Vec::new(alloc);
-    push_text(alloc, &mut made, "Write")?;
-    push_text(alloc, &mut made, "Describe")?;
-    args.operations = Items::from_vec(made);
-    args.topics = Items::from_vec(Vec::new(alloc));
-    args.groups = Items::from_vec(Vec::new(alloc));
-    args.producer = false;
-    args.consumer = false;
-    args.idempotent = false;
-    Ok(())
-}
-
 /// What a producer needs, and then what it needs for its transactional ids.
 fn added_for_ids(alloc: Global, args: &mut CliArgs) -> Result<Vec<Item>, LineError>
     ensures { GivesSeen (λ items. items.items) result
@@ -223,16 +202,29 @@ fn added_for_ids(alloc: Global, args: &mut CliArgs) -> Result<Vec<Item>, LineErr
     let ids = mem::replace(&mut args.transactional_ids, none);
     let mut items = added_from(alloc, args)?;
     args.transactional_ids = ids;
-    leave_ids(alloc, args)?;
+    let mut made = Vec::new(alloc);
+    push_text(alloc, &mut made, "Write")?;
+    push_text(alloc, &mut made, "Describe")?;
+    args.operations = Items::from_vec(made);
+    args.topics = Items::from_vec(Vec::new(alloc));
+    args.groups = Items::from_vec(Vec::new(alloc));
+    args.producer = false;
+    args.consumer = false;
+    args.idempotent = false;
     items.append(&mut added_from(alloc, args)?)?;
     Ok(items)
 }
 
 /// What options add, for a producer with transactional ids as by two lines, and with single bindings
 /// left out for operations that are.
-fn added_in_parts(alloc: Global, args: &mut CliArgs) -> Result<Vec<Item>, LineError>
-    ensures { GivesSeen (λ items. items.items) result (added_in_parts args.old) }
+fn added_by(alloc: Global, answer: &mut Option<CliArgs>) -> Result<Vec<Item>, LineError>
+    ensures { GivesSeen (λ items. items.items) result (added_by answer.old) }
 {
+    let Some(args) = answer else {
+        return Err(LineError::Fault(FaultKind::Usage));
+    };
+    args.allow_principals = held_names(alloc, &args.allow_principals)?;
+    args.deny_principals = held_names(alloc, &args.deny_principals)?;
     if args.producer && !args.transactional_ids.as_slice().is_empty() {
         added_for_ids(alloc, args)
     } else if !has_other_operation(args) {
@@ -241,19 +233,6 @@ fn added_in_parts(alloc: Global, args: &mut CliArgs) -> Result<Vec<Item>, LineEr
         left_out_from(alloc, args)
     } else {
         added_on_both(alloc, args)
-    }
-}
-
-fn added_by(alloc: Global, answer: &mut Option<CliArgs>) -> Result<Vec<Item>, LineError>
-    ensures { GivesSeen (λ items. items.items) result (added_by answer.old) }
-{
-    match answer {
-        None => Err(LineError::Fault(FaultKind::Usage)),
-        Some(args) => {
-            args.allow_principals = held_names(alloc, &args.allow_principals)?;
-            args.deny_principals = held_names(alloc, &args.deny_principals)?;
-            added_in_parts(alloc, args)
-        }
     }
 }
 

@@ -39,32 +39,24 @@ pub fn push_party(out: &mut Vec<u8>, all: &str, party: &Option<Text>) -> Result<
     }
 }
 
-fn push_part(out: &mut Vec<u8>, part: Part<'_>) -> Result<(), AllocError>
-    ensures { OnOk result (out.new.items ≡ out.old.items ++ part_text part.entry) }
-{
-    match part {
-        Part::Words(text) => out.extend_from_slice(text.as_bytes()),
-        Part::Name(name) => push_name(out, name),
-        Part::Number(number) => push_number(out, number),
-        Part::Party(all, party) => push_party(out, all, party),
-        Part::Names(names) => match names {
-            Names::Exactly(name) => push_name(out, name.as_str()),
-            Names::Below(start) => {
-                push_name(out, start.as_str())?;
-                out.extend_from_slice(b"* (others)")
-            }
-        },
-        Part::Answer(verdict) => push_answer(out, verdict),
-        Part::Origin(origin) => push_origin_behind(out, origin),
-    }
-}
-
 /// Prints the parts of a line, one behind the other.
 pub fn push_parts(out: &mut Vec<u8>, parts: &[Part<'_>]) -> Result<(), AllocError>
     ensures { OnOk result (out.new.items ≡ out.old.items ++ flat_map part_text parts.now) }
 {
     for part in parts {
-        push_part(out, *part)?;
+        match *part {
+            Part::Words(text) => out.extend_from_slice(text.as_bytes())?,
+            Part::Name(name) => push_name(out, name)?,
+            Part::Number(number) => push_number(out, number)?,
+            Part::Party(all, party) => push_party(out, all, party)?,
+            Part::Names(Names::Exactly(name)) => push_name(out, name.as_str())?,
+            Part::Names(Names::Below(start)) => {
+                push_name(out, start.as_str())?;
+                out.extend_from_slice(b"* (others)")?;
+            }
+            Part::Answer(verdict) => push_answer(out, verdict)?,
+            Part::Origin(origin) => push_origin_behind(out, origin)?,
+        }
     }
     Ok(())
 }

@@ -1,7 +1,7 @@
 //! How answers are printed: origins, verdicts, bindings and rights.
 
 ghost use Rattle.std.specs.Prelude.{◌≡◌, ◌++◌, OnOk, Some};
-ghost use Rattle.kob_policy_text.specs.Answers.{answer_text, denial_text, left_out_word};
+ghost use Rattle.kob_policy_text.specs.Answers.{answer_text, left_out_word};
 ghost use Rattle.kob_policy_text.specs.Answers.{line_at, line_by, may_text, omission_line};
 ghost use Rattle.kob_policy_text.specs.Answers.{origin_behind, origin_by, right_text, yes_or_no};
 ghost use Rattle.kob_policy_text.specs.Answers.{binding_line};
@@ -146,16 +146,6 @@ pub fn left_out_word(what: LeftOut) -> &'static str
     }
 }
 
-fn denial_text(denies: bool) -> &'static str
-    ensures { result.now ≡ denial_text denies }
-{
-    if denies {
-        ", a deny: a yes may be wrong\n"
-    } else {
-        "\n"
-    }
-}
-
 /// What was left out, on a line of its own.
 #[tactic(auto, using(kob_words::proofs::Appending::appending), unfolding(crate::specs::Answers::omission_line))]
 pub fn push_omission(out: &mut Vec<u8>, omission: &Omission) -> Result<(), AllocError>
@@ -168,7 +158,11 @@ pub fn push_omission(out: &mut Vec<u8>, omission: &Omission) -> Result<(), Alloc
             Part::Origin(Some(&omission.origin)),
             Part::Words(" "),
             Part::Words(left_out_word(omission.what)),
-            Part::Words(denial_text(omission.denies)),
         ],
-    )
+    )?;
+    if omission.denies {
+        out.extend_from_slice(b", a deny: a yes may be wrong\n")
+    } else {
+        out.extend_from_slice(b"\n")
+    }
 }

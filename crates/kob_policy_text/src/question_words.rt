@@ -1,9 +1,9 @@
 //! What the words of a question ask.
 
 ghost use Rattle.std.specs.Prelude.{◌≡◌};
-ghost use Rattle.kob_policy_text.specs.Questions.{asker_of, expect_words, expected_by};
-ghost use Rattle.kob_policy_text.specs.Questions.{full_name, host_in, is_word};
-ghost use Rattle.kob_policy_text.specs.Questions.{lone_words, question_by, right_of};
+ghost use Rattle.kob_policy_text.specs.Questions.{asker_of, expect_words};
+ghost use Rattle.kob_policy_text.specs.Questions.{host_in, is_word};
+ghost use Rattle.kob_policy_text.specs.Questions.{question_by, right_of};
 ghost use Rattle.kob_policy_text.specs.Questions.{rights_words};
 ghost use Rattle.kob_policy_text.specs.Questions.{two_texts};
 ghost use Rattle.kob_script.specs.Words.{Gives};
@@ -55,17 +55,7 @@ pub fn two_texts(alloc: Global, one: &Word<'_>, other: &Word<'_>) -> Result<(Tex
     Ok((first, second))
 }
 
-/// The name, which for the cluster may be `cluster`.
-fn full_name(resource: ResourceKind, name: &str) -> &str
-    ensures { result.now ≡ full_name resource name.entry.now }
-{
-    if resource == ResourceKind::Cluster && name == "cluster" {
-        "kafka-cluster"
-    } else {
-        name
-    }
-}
-
+/// The right; the name of the cluster may be `cluster`.
 #[tactic(auto, unfolding(crate::specs::Questions::right_of))]
 pub fn right_of(
     alloc: Global,
@@ -78,24 +68,16 @@ pub fn right_of(
     let operation = known(known_operation(operation.decoded()))?;
     let resource = known(known_resource(resource.decoded()))?;
     let text = lent_text_of(name)?;
+    let name = if resource == ResourceKind::Cluster && text == "cluster" {
+        "kafka-cluster"
+    } else {
+        text
+    };
     Ok(Right {
         operation,
         resource,
-        name: Text::copied(alloc, full_name(resource, text))?,
+        name: Text::copied(alloc, name)?,
     })
-}
-
-/// `yes` or `no`
-fn expected_by(word: &Word<'_>) -> Result<bool, LineError>
-    ensures { Gives result (expected_by word.now) }
-{
-    if is_word(word, b"yes") {
-        Ok(true)
-    } else if is_word(word, b"no") {
-        Ok(false)
-    } else {
-        Err(LineError::Fault(FaultKind::BadWord))
-    }
 }
 
 #[tactic(auto, unfolding(crate::specs::Questions::expects))]
@@ -104,7 +86,13 @@ fn expect_words(alloc: Global, words: &[Word<'_>]) -> Result<Question, LineError
 {
     match words {
         [answer, may, arguments @ ..] if is_word(may, b"may") => {
-            let expected = expected_by(answer)?;
+            let expected = if is_word(answer, b"yes") {
+                true
+            } else if is_word(answer, b"no") {
+                false
+            } else {
+                return Err(LineError::Fault(FaultKind::BadWord));
+            };
             Ok(Question::Expect(expected, may_words(alloc, arguments)?))
         }
         _ => Err(LineError::Fault(FaultKind::BadLine)),
@@ -123,19 +111,6 @@ fn rights_words(alloc: Global, words: &[Word<'_>]) -> Result<Question, LineError
             let Asker { principal, host } = asker_of(alloc, principal, host)?;
             Ok(Question::Rights(principal, Some(host)))
         }
-        _ => Err(LineError::Fault(FaultKind::BadLine)),
-    }
-}
-
-/// A question of one word.
-fn lone_words(first: &Word<'_>, words: &[Word<'_>]) -> Result<Question, LineError>
-    ensures { Gives result (lone_words first.now words.now) }
-{
-    match words {
-        [] if is_word(first, b"summary") => Ok(Question::Summary),
-        [] if is_word(first, b"unused") => Ok(Question::Unused),
-        [] if is_word(first, b"shadowed") => Ok(Question::Shadowed),
-        [] if is_word(first, b"removable") => Ok(Question::Removable),
         _ => Err(LineError::Fault(FaultKind::BadLine)),
     }
 }
@@ -163,6 +138,12 @@ pub fn question_by(
             _ => Err(LineError::Fault(FaultKind::BadLine)),
         }
     } else {
-        lone_words(first, words)
+        match words {
+            [] if is_word(first, b"summary") => Ok(Question::Summary),
+            [] if is_word(first, b"unused") => Ok(Question::Unused),
+            [] if is_word(first, b"shadowed") => Ok(Question::Shadowed),
+            [] if is_word(first, b"removable") => Ok(Question::Removable),
+            _ => Err(LineError::Fault(FaultKind::BadLine)),
+        }
     }
 }

@@ -1,7 +1,7 @@
 //! Who may do something on the names that begin with a prefix.
 
 ghost use Rattle.std.specs.Prelude.{◌≡◌, ◌++◌, OnOk, flat_map};
-ghost use Rattle.kob_policy_text.specs.Reaches.{asks_as_others, reach_line, reach_text, reached_text};
+ghost use Rattle.kob_policy_text.specs.Reaches.{asks_as_others, reach_line, reach_text};
 ghost use Rattle.kob_policy_text.specs.Reaches.{reaches_text};
 
 use crate::at_hand::each_once;
@@ -38,51 +38,24 @@ pub fn asks_as_others(one: &Reach) -> bool
 }
 
 #[tactic(auto, unfolding(crate::specs::Reaches::reach_text))]
-fn push_reach(out: &mut Vec<u8>, one: &Reach) -> Result<(), AllocError>
-    ensures { OnOk result (out.new.items ≡ out.old.items ++ reach_text one.now) }
-{
-    if asks_as_others(one) {
-        return Ok(());
-    }
-    match one.share {
-        Share::Nothing => Ok(()),
-        Share::Part => push_line(out, " some", one),
-        Share::Everything => push_line(out, " all", one),
-    }
-}
-
 fn push_each(out: &mut Vec<u8>, found: &[Reach]) -> Result<(), AllocError>
     ensures { OnOk result (out.new.items ≡ out.old.items ++ flat_map reach_text found.now) }
 {
     for one in found {
-        push_reach(out, one)?;
+        if asks_as_others(one) {
+            continue;
+        }
+        match one.share {
+            Share::Nothing => {}
+            Share::Part => push_line(out, " some", one)?,
+            Share::Everything => push_line(out, " all", one)?,
+        }
     }
     Ok(())
 }
 
-/// Super users, and then each principal and host that may do this on all names, or on some, that
-/// begin with the name of the right.
-fn push_reached(
-    alloc: Global,
-    out: &mut Vec<u8>,
-    judge: &Judge,
-    right: &Right,
-) -> Result<(), AllocError>
-    ensures { OnOk result (out.new.items ≡ out.old.items ++ reached_text judge.now right.now) }
-{
-    let found = who_below(
-        alloc,
-        judge.authorizer(),
-        right.operation,
-        right.resource,
-        &right.name,
-    )?;
-    let supers = each_once(alloc, judge.policy().supers())?;
-    push_supers(out, supers.as_slice())?;
-    push_each(out, found.as_slice())
-}
-
-/// Prints them, or that there are none.
+/// Prints super users, and then each principal and host that may do this on all names, or on some,
+/// that begin with the name of the right, or that there are none.
 #[tactic(auto, using(kob_words::proofs::Appending::appending, crate::proofs::Remarking::empty_since))]
 pub fn push_reaches(
     alloc: Global,
@@ -92,8 +65,17 @@ pub fn push_reaches(
 ) -> Result<(), AllocError>
     ensures { OnOk result (out.new.items ≡ out.old.items ++ reaches_text judge.now right.now) }
 {
+    let found = who_below(
+        alloc,
+        judge.authorizer(),
+        right.operation,
+        right.resource,
+        &right.name,
+    )?;
+    let supers = each_once(alloc, judge.policy().supers())?;
     let start = out.len();
-    push_reached(alloc, out, judge, right)?;
+    push_supers(out, supers.as_slice())?;
+    push_each(out, found.as_slice())?;
     let is_empty = out.len() == start;
     push_none(out, is_empty)
 }

@@ -1,7 +1,7 @@
 //! Releases of Kafka.
 
 ghost use Rattle.std.specs.Prelude.{◌≡◌};
-ghost use Rattle.kob_policy_text.specs.Releases.{are_digits, around_dot, is_below_8};
+ghost use Rattle.kob_policy_text.specs.Releases.{are_digits, around_dot};
 ghost use Rattle.kob_policy_text.specs.Releases.{release_named};
 
 use crate::pieces::first_parts;
@@ -30,16 +30,6 @@ fn around_dot(text: &[u8]) -> (&[u8], &[u8])
     }
 }
 
-fn is_below_8(minor: &[u8]) -> bool
-    ensures { result ≡ is_below_8 minor.now }
-{
-    match minor {
-        [] => true,
-        [digit] => *digit < b'8',
-        [_, _, ..] => false,
-    }
-}
-
 /// The release that a text such as `2.7` or `3.9.1` names.
 #[tactic(auto, unfolding(crate::specs::Releases::release_named))]
 pub fn release_named(text: &[u8]) -> Option<Release>
@@ -51,7 +41,7 @@ pub fn release_named(text: &[u8]) -> Option<Release>
         None
     } else if major == b"0".as_slice()
         || major == b"1".as_slice()
-        || major == b"2".as_slice() && is_below_8(minor)
+        || major == b"2".as_slice() && matches!(minor, [] | [b'0'..=b'7'])
     {
         Some(Release::Before28)
     } else {

@@ -1,9 +1,9 @@
 //! Bindings in seven parts: rows of a table, and objects of JSON.
 
-ghost use Rattle.std.specs.Prelude.{◌≡◌, codes};
+ghost use Rattle.std.specs.Prelude.{◌≡◌};
 ghost use Rattle.json.specs.Find.{get};
 ghost use Rattle.json.specs.Value.{value_view};
-ghost use Rattle.kob_policy_text.specs.Rows.{grant_in, host_by, is_columns};
+ghost use Rattle.kob_policy_text.specs.Rows.{grant_in, is_columns};
 ghost use Rattle.kob_policy_text.specs.Rows.{is_row, is_tabular, member_in};
 ghost use Rattle.kob_policy_text.specs.Rows.{object_item, row_item, row_of};
 ghost use Rattle.kob_policy_text.specs.Rows.{tabular_item, target_in};
@@ -115,24 +115,16 @@ fn member_in<'a>(object: &Value<'a>, name: &str) -> Result<&'a [u8], LineError>
     }
 }
 
-/// The host, or `*` where none is given.
-fn host_in<'a>(object: &Value<'a>) -> Result<&'a [u8], LineError>
-    ensures { GivesSeen (λ text. text.now) result
-        (host_by (get (codes "host") (value_view object.now))) }
-{
-    if object.get("host").is_none() {
-        return Ok(b"*");
-    }
-    member_in(object, "host")
-}
-
 #[tactic(auto, unfolding(crate::specs::Rows::grant_in))]
 fn grant_in<'a>(object: &Value<'a>) -> Result<GrantWords<'a>, LineError>
     ensures { Gives result (grant_in (value_view object.now)) }
 {
     let permission = member_in(object, "permission")?;
     let principal = member_in(object, "principal")?;
-    let host = host_in(object)?;
+    let host = match object.get("host") {
+        Some(_) => member_in(object, "host")?,
+        None => b"*",
+    };
     let operation = member_in(object, "operation")?;
     Ok(GrantWords {
         principal,

@@ -4,7 +4,7 @@ ghost use Rattle.std.specs.Prelude.{◌≡◌, ◌++◌, IfOk, OnOk, codes, leng
 ghost use Rattle.kob_policy_text.specs.AtHand.{each_once};
 ghost use Rattle.kob_policy_text.specs.Summary.{count_line};
 ghost use Rattle.kob_policy_text.specs.Summary.{summary_text, unused_count};
-ghost use Rattle.kob_policy_text.specs.Summary.{idle_text, parties_text, patterns_text};
+ghost use Rattle.kob_policy_text.specs.Summary.{parties_text, patterns_text};
 
 use crate::at_hand::{each_once, hosts_named, names_named, principals_named};
 use crate::judge::Judge;
@@ -81,16 +81,6 @@ fn push_patterns(alloc: Global, out: &mut Vec<u8>, judge: &Judge) -> Result<(), 
     push_texts(out, "transactional-ids", ids)
 }
 
-#[tactic(auto, using(kob_words::proofs::Appending::appending), unfolding(crate::specs::Summary::idle_text))]
-fn push_idle(alloc: Global, out: &mut Vec<u8>, judge: &Judge) -> Result<(), AllocError>
-    ensures { OnOk result (out.new.items ≡ out.old.items ++ idle_text judge.now) }
-{
-    let idle = unused_count(alloc, judge)?;
-    let beaten = shadowed(alloc, judge.authorizer())?;
-    push_count(out, "unused", idle)?;
-    push_count(out, "shadowed", beaten.len())
-}
-
 /// Prints how many bindings there are, whom and what they name, and how many do nothing.
 #[tactic(auto, using(kob_words::proofs::Appending::appending), unfolding(crate::specs::Summary::summary_text))]
 pub fn push_summary(alloc: Global, out: &mut Vec<u8>, judge: &Judge) -> Result<(), AllocError>
@@ -102,5 +92,8 @@ pub fn push_summary(alloc: Global, out: &mut Vec<u8>, judge: &Judge) -> Result<(
     push_patterns(alloc, out, judge)?;
     push_count(out, "left-out", policy.omissions().len())?;
     push_count(out, "skipped-lines", policy.skipped().len())?;
-    push_idle(alloc, out, judge)
+    let idle = unused_count(alloc, judge)?;
+    let beaten = shadowed(alloc, judge.authorizer())?;
+    push_count(out, "unused", idle)?;
+    push_count(out, "shadowed", beaten.len())
 }

@@ -2,7 +2,7 @@
 
 ghost use Rattle.std.specs.Prelude.{◌≡◌, option_map};
 ghost use Rattle.kob_acl_cli.specs.Lines.{texts};
-ghost use Rattle.kob_policy_text.specs.Lines.{base_name, is_tool, tool_arguments, tool_texts};
+ghost use Rattle.kob_policy_text.specs.Lines.{is_tool, tool_arguments, tool_texts};
 ghost use Rattle.kob_policy_text.specs.Options.{SaysOptions};
 ghost use Rattle.kob_policy_text.specs.Outcomes.{MayGive};
 ghost use Rattle.kob_script.specs.Words.{GivesSeen, each, text_in};
@@ -16,22 +16,15 @@ use kob_names::Bytes;
 use kob_script::LineError;
 use std::alloc::Global;
 
-/// The part after the last slash of a path.
-fn base_name(path: &[u8]) -> &[u8]
-    ensures { result.now ≡ base_name path.entry.now }
-{
-    match last_parts(path, b"/") {
-        Some((_, base)) => base,
-        None => path,
-    }
-}
-
 /// Whether the command is Kafka's tool, with any path, and not a principal.
 #[tactic(auto, unfolding(crate::specs::Lines::is_tool))]
 fn is_tool(command: &[u8]) -> bool
     ensures { result ≡ is_tool command.now }
 {
-    let base = base_name(command);
+    let base = match last_parts(command, b"/") {
+        Some((_, base)) => base,
+        None => command,
+    };
     !command.starts_with(b"User:")
         && (base == b"kafka-acls".as_slice() || base == b"kafka-acls.sh".as_slice())
 }

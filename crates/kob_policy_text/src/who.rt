@@ -2,10 +2,10 @@
 
 ghost use Rattle.std.specs.Prelude.{◌≡◌, ◌++◌, IfOk, OnOk, flat_map};
 ghost use Rattle.std.specs.List.{list_any};
-ghost use Rattle.kob_policy_text.specs.Answers.{from_text, is_seen, seen_text, seen_texts};
+ghost use Rattle.kob_policy_text.specs.Answers.{is_seen, seen_text, seen_texts};
 ghost use Rattle.kob_policy_text.specs.Answers.{sees_text, who_line};
 ghost use Rattle.kob_policy_text.specs.Parties.{super_grant};
-ghost use Rattle.kob_policy_text.specs.Review.{consumers_text, grant_line, granted_text, grants_text};
+ghost use Rattle.kob_policy_text.specs.Review.{consumers_text, grants_text};
 ghost use Rattle.kob_policy_text.specs.Review.{is_taken_away, is_told, is_yes_for, speaks_for};
 ghost use Rattle.kob_policy_text.specs.Review.{target_at, told_text, who_list, who_text};
 
@@ -22,64 +22,37 @@ use kob_words::{operation_name, resource_name};
 use std::alloc::{AllocError, Global};
 
 #[tactic(auto, using(kob_words::proofs::Appending::appending), unfolding(crate::specs::Answers::who_line))]
-fn push_who_line<'a>(
+fn push_who_lines<'a>(
     out: &mut Vec<u8>,
     judge: &'a Judge,
-    right: &Right,
-    host: &Host,
-    principal: &'a Principal,
-) -> Result<(), AllocError>
-    ensures { OnOk result (out.new.items ≡ out.old.items
-        ++ who_line judge.now right.now host.now principal.now) }
-{
-    let verdict = judge.verdict(&Asked {
-        principal,
-        host,
-        operation: right.operation,
-        resource: right.resource,
-        name: right.name.as_str(),
-    });
-    push_parts(
-        out,
-        &[
-            Part::Words("  "),
-            Part::Name(principal.as_str()),
-            Part::Words(" "),
-            Part::Answer(verdict),
-            Part::Origin(origin_by(judge, deciding(verdict))),
-            Part::Words("\n"),
-        ],
-    )
-}
-
-fn push_who_lines(
-    out: &mut Vec<u8>,
-    judge: &Judge,
-    right: &Right,
-    host: &Host,
-    principals: &[Principal],
+    right: &'a Right,
+    host: &'a Host,
+    principals: &'a [Principal],
 ) -> Result<(), AllocError>
     ensures { OnOk result (out.new.items ≡ out.old.items
         ++ flat_map (who_line judge.now right.now host.now) principals.now) }
 {
     for principal in principals {
-        push_who_line(out, judge, right, host, principal)?;
+        let verdict = judge.verdict(&Asked {
+            principal,
+            host,
+            operation: right.operation,
+            resource: right.resource,
+            name: right.name.as_str(),
+        });
+        push_parts(
+            out,
+            &[
+                Part::Words("  "),
+                Part::Name(principal.as_str()),
+                Part::Words(" "),
+                Part::Answer(verdict),
+                Part::Origin(origin_by(judge, deciding(verdict))),
+                Part::Words("\n"),
+            ],
+        )?;
     }
     Ok(())
-}
-
-fn push_from(
-    alloc: Global,
-    out: &mut Vec<u8>,
-    judge: &Judge,
-    right: &Right,
-    host: &Host,
-) -> Result<(), AllocError>
-    ensures { OnOk result
-        (out.new.items ≡ out.old.items ++ from_text judge.now right.now host.now) }
-{
-    let principals = principals_at_hand(alloc, judge.policy().bindings())?;
-    push_who_lines(out, judge, right, host, principals.as_slice())
 }
 
 #[tactic(auto, unfolding(crate::specs::Parties::super_grant))]
@@ -162,54 +135,36 @@ pub fn is_told(answers: &[Answer], answer: &Answer) -> bool
 }
 
 #[tactic(auto, using(kob_words::proofs::Appending::appending), unfolding(crate::specs::Review::grant_line))]
-fn push_grant<'a>(out: &mut Vec<u8>, judge: &'a Judge, answer: &'a Answer) -> Result<(), AllocError>
-    ensures { OnOk result (out.new.items ≡ out.old.items ++ grant_line judge.now answer.now) }
-{
-    push_parts(
-        out,
-        &[
-            Part::Words("  "),
-            Part::Party("User:* (others)", &answer.principal),
-            Part::Words(" "),
-            Part::Party("* (others)", &answer.host),
-            Part::Words(" "),
-            Part::Answer(answer.verdict),
-            Part::Origin(origin_by(judge, deciding(answer.verdict))),
-            Part::Words("\n"),
-        ],
-    )
-}
-
-fn push_grants(out: &mut Vec<u8>, judge: &Judge, answers: &[Answer]) -> Result<(), AllocError>
+fn push_grants<'a>(
+    out: &mut Vec<u8>,
+    judge: &'a Judge,
+    answers: &'a [Answer],
+) -> Result<(), AllocError>
     ensures { OnOk result (out.new.items
         ≡ out.old.items ++ told_text judge.now answers.now) }
 {
     for answer in answers {
         if is_told(answers, answer) {
-            push_grant(out, judge, answer)?;
+            push_parts(
+                out,
+                &[
+                    Part::Words("  "),
+                    Part::Party("User:* (others)", &answer.principal),
+                    Part::Words(" "),
+                    Part::Party("* (others)", &answer.host),
+                    Part::Words(" "),
+                    Part::Answer(answer.verdict),
+                    Part::Origin(origin_by(judge, deciding(answer.verdict))),
+                    Part::Words("\n"),
+                ],
+            )?;
         }
     }
     Ok(())
 }
 
 /// Super users, and then each principal and host to which the right is granted, or from which a
-/// deny takes it away.
-fn push_granted(
-    alloc: Global,
-    out: &mut Vec<u8>,
-    judge: &Judge,
-    right: &Right,
-) -> Result<(), AllocError>
-    ensures { OnOk result (out.new.items ≡ out.old.items ++ granted_text judge.now right.now) }
-{
-    let target = target_at(alloc, right)?;
-    let found = who(alloc, judge.authorizer(), right.operation, &target)?;
-    let supers = each_once(alloc, judge.policy().supers())?;
-    push_supers(out, supers.as_slice())?;
-    push_grants(out, judge, found.as_slice())
-}
-
-/// The same, and what is remarked below it.
+/// deny takes it away, and what is remarked below them.
 #[tactic(auto, using(kob_words::proofs::Appending::appending, crate::proofs::Remarking::empty_since))]
 fn push_who_list(
     alloc: Global,
@@ -220,7 +175,11 @@ fn push_who_list(
     ensures { OnOk result (out.new.items ≡ out.old.items ++ who_list judge.now right.now) }
 {
     let start = out.len();
-    push_granted(alloc, out, judge, right)?;
+    let target = target_at(alloc, right)?;
+    let found = who(alloc, judge.authorizer(), right.operation, &target)?;
+    let supers = each_once(alloc, judge.policy().supers())?;
+    push_supers(out, supers.as_slice())?;
+    push_grants(out, judge, found.as_slice())?;
     if judge.is_name_taken(right.resource, right.name.as_str()) {
         let is_empty = out.len() == start;
         return push_none(out, is_empty);
@@ -241,7 +200,8 @@ pub fn push_who(
 {
     match host {
         Some(host) => {
-            push_from(alloc, out, judge, right, host)?;
+            let principals = principals_at_hand(alloc, judge.policy().bindings())?;
+            push_who_lines(out, judge, right, host, principals.as_slice())?;
             push_taking(alloc, out, judge, right)
         }
         None => push_who_list(alloc, out, judge, right),

@@ -2,7 +2,7 @@
 
 ghost use Rattle.std.specs.Prelude.{◌≡◌};
 ghost use Rattle.kob_policy_text.specs.Questions.{right_to_read};
-ghost use Rattle.kob_policy_text.specs.Questions.{who_below, who_words};
+ghost use Rattle.kob_policy_text.specs.Questions.{who_words};
 ghost use Rattle.kob_script.specs.Words.{Gives};
 
 use crate::question::{Question, Right};
@@ -19,22 +19,6 @@ fn read_of(resource: ResourceKind, name: Text) -> Right
         resource,
         name,
     }
-}
-
-/// The cluster has one name, and no names that begin with a prefix.
-fn who_below(
-    alloc: Global,
-    operation: &Word<'_>,
-    resource: &Word<'_>,
-    name: &Word<'_>,
-) -> Result<Question, LineError>
-    ensures { Gives result (who_below operation.now resource.now name.now) }
-{
-    let right = right_of(alloc, operation, resource, name)?;
-    if right.resource == ResourceKind::Cluster {
-        return Err(LineError::Fault(FaultKind::BadWord));
-    }
-    Ok(Question::WhoBelow(right))
 }
 
 /// The question that the words after `who` ask.
@@ -61,7 +45,11 @@ pub fn who_words(alloc: Global, words: &[Word<'_>]) -> Result<Question, LineErro
             Ok(Question::Who(right, None))
         }
         [operation, resource, prefix, name] if is_word(prefix, b"prefix") => {
-            who_below(alloc, operation, resource, name)
+            let right = right_of(alloc, operation, resource, name)?;
+            if right.resource == ResourceKind::Cluster {
+                return Err(LineError::Fault(FaultKind::BadWord));
+            }
+            Ok(Question::WhoBelow(right))
         }
         [operation, resource, name, host] => {
             let right = right_of(alloc, operation, resource, name)?;
