@@ -13,34 +13,8 @@ use kob_policy_text::{Judge, Omission, left_out_word};
 use kob_words::operation_name;
 use std::alloc::{AllocError, Global};
 
-#[tactic(auto, using(kob_words::proofs::Appending::appending), unfolding(crate::specs::Changes::super_row))]
-fn push_super(
-    alloc: Global,
-    rows: &mut Vec<Items<Cell>>,
-    what: &str,
-    others: &[Principal],
-    user: &Principal,
-) -> Result<(), AllocError>
-    ensures { OnOk result
-        (rows.new.items ≡ rows.old.items ++ super_rows what.now others.now user.now) }
-{
-    if is_super(others, user.as_str()) {
-        return Ok(());
-    }
-    let mut row = Vec::new(alloc);
-    push_words(alloc, &mut row, "super")?;
-    push_words(alloc, &mut row, user.as_str())?;
-    push_nothing(&mut row)?;
-    push_nothing(&mut row)?;
-    push_nothing(&mut row)?;
-    push_nothing(&mut row)?;
-    push_nothing(&mut row)?;
-    push_words(alloc, &mut row, what)?;
-    push_row(rows, row)
-}
-
 /// The super users that are not among the others.
-#[tactic(auto, using(kob_words::proofs::Appending::appending))]
+#[tactic(auto, using(kob_words::proofs::Appending::appending), unfolding(crate::specs::Changes::super_row))]
 fn push_supers(
     alloc: Global,
     rows: &mut Vec<Items<Cell>>,
@@ -52,7 +26,19 @@ fn push_supers(
         ≡ rows.old.items ++ flat_map (super_rows what.now others.now) supers.now) }
 {
     for user in supers {
-        push_super(alloc, rows, what, others, user)?;
+        if is_super(others, user.as_str()) {
+            continue;
+        }
+        let mut row = Vec::new(alloc);
+        push_words(alloc, &mut row, "super")?;
+        push_words(alloc, &mut row, user.as_str())?;
+        push_nothing(&mut row)?;
+        push_nothing(&mut row)?;
+        push_nothing(&mut row)?;
+        push_nothing(&mut row)?;
+        push_nothing(&mut row)?;
+        push_words(alloc, &mut row, what)?;
+        push_row(rows, row)?;
     }
     Ok(())
 }
@@ -103,53 +89,26 @@ fn outcome_word(outcome: Outcome) -> &'static str
 }
 
 #[tactic(auto, using(kob_words::proofs::Appending::appending), unfolding(crate::specs::Changes::change_row))]
-fn push_change(
-    alloc: Global,
-    rows: &mut Vec<Items<Cell>>,
-    change: &Change,
-) -> Result<(), AllocError>
-    ensures { OnOk result (rows.new.items ≡ rows.old.items ++ change_row change.now ∷ []) }
-{
-    let mut row = Vec::new(alloc);
-    let class = &change.class;
-    push_words(alloc, &mut row, "answer")?;
-    push_words(alloc, &mut row, party_name("User:*", &class.principal))?;
-    push_words(alloc, &mut row, party_name("*", &class.host))?;
-    push_words(alloc, &mut row, operation_name(class.operation))?;
-    push_target(alloc, &mut row, &class.target)?;
-    push_words(alloc, &mut row, outcome_word(change.outcome))?;
-    push_row(rows, row)
-}
-
-#[tactic(auto, using(kob_words::proofs::Appending::appending))]
 fn push_each(alloc: Global, rows: &mut Vec<Items<Cell>>, found: &[Change]) -> Result<(), AllocError>
     ensures { OnOk result (rows.new.items ≡ rows.old.items ++ map change_row found.now) }
 {
     for change in found {
-        push_change(alloc, rows, change)?;
+        let mut row = Vec::new(alloc);
+        let class = &change.class;
+        push_words(alloc, &mut row, "answer")?;
+        push_words(alloc, &mut row, party_name("User:*", &class.principal))?;
+        push_words(alloc, &mut row, party_name("*", &class.host))?;
+        push_words(alloc, &mut row, operation_name(class.operation))?;
+        push_target(alloc, &mut row, &class.target)?;
+        push_words(alloc, &mut row, outcome_word(change.outcome))?;
+        push_row(rows, row)?;
     }
     Ok(())
 }
 
-#[tactic(auto, using(kob_words::proofs::Appending::appending))]
-fn push_changes(
-    alloc: Global,
-    rows: &mut Vec<Items<Cell>>,
-    before: &Judge,
-    after: &Judge,
-) -> Result<(), AllocError>
-    ensures { OnOk result (rows.new.items ≡ rows.old.items ++ change_rows before.now after.now) }
-{
-    let (old, new) = (before.policy(), after.policy());
-    push_supers(alloc, rows, "removed", new.supers(), old.supers())?;
-    push_supers(alloc, rows, "added", old.supers(), new.supers())?;
-    push_everyone(alloc, rows, old.everyone(), new.everyone())?;
-    let found = changes(alloc, before.authorizer(), after.authorizer())?;
-    push_each(alloc, rows, &found)
-}
-
 /// What changes: super users, `everyone`, and each class of questions. There is no row exactly if
 /// no answer at all changes, super users apart. The error is out of memory.
+#[tactic(auto, using(kob_words::proofs::Appending::appending))]
 pub fn change_rows(
     alloc: Global,
     before: &Judge,
@@ -158,35 +117,29 @@ pub fn change_rows(
     ensures { IfOk result (λ rows. rows.items ≡ change_rows before.now after.now) }
 {
     let mut rows = Vec::new(alloc);
-    push_changes(alloc, &mut rows, before, after)?;
+    let (old, new) = (before.policy(), after.policy());
+    push_supers(alloc, &mut rows, "removed", new.supers(), old.supers())?;
+    push_supers(alloc, &mut rows, "added", old.supers(), new.supers())?;
+    push_everyone(alloc, &mut rows, old.everyone(), new.everyone())?;
+    let found = changes(alloc, before.authorizer(), after.authorizer())?;
+    push_each(alloc, &mut rows, &found)?;
     Ok(rows)
 }
 
-#[tactic(auto, using(kob_words::proofs::Appending::appending), unfolding(crate::specs::Changes::omission_row))]
-fn push_omission(
-    alloc: Global,
-    rows: &mut Vec<Items<Cell>>,
-    omission: &Omission,
-) -> Result<(), AllocError>
-    ensures { OnOk result (rows.new.items ≡ rows.old.items ++ omission_row omission.now ∷ []) }
-{
-    let mut row = Vec::new(alloc);
-    push_words(alloc, &mut row, "left-out")?;
-    push_words(alloc, &mut row, omission.origin.file.as_str())?;
-    push_number(&mut row, omission.origin.line)?;
-    push_words(alloc, &mut row, left_out_word(omission.what))?;
-    push_flag(&mut row, omission.denies)?;
-    push_row(rows, row)
-}
-
 /// What is left out.
-#[tactic(auto, using(kob_words::proofs::Appending::appending))]
+#[tactic(auto, using(kob_words::proofs::Appending::appending), unfolding(crate::specs::Changes::omission_row))]
 pub fn omission_rows(alloc: Global, omissions: &[Omission]) -> Result<Vec<Items<Cell>>, AllocError>
     ensures { IfOk result (λ rows. rows.items ≡ map omission_row omissions.now) }
 {
     let mut rows = Vec::new(alloc);
     for omission in omissions {
-        push_omission(alloc, &mut rows, omission)?;
+        let mut row = Vec::new(alloc);
+        push_words(alloc, &mut row, "left-out")?;
+        push_words(alloc, &mut row, omission.origin.file.as_str())?;
+        push_number(&mut row, omission.origin.line)?;
+        push_words(alloc, &mut row, left_out_word(omission.what))?;
+        push_flag(&mut row, omission.denies)?;
+        push_row(&mut rows, row)?;
     }
     Ok(rows)
 }

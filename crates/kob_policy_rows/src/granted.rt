@@ -2,7 +2,7 @@
 //! from which a deny takes it away.
 
 ghost use Rattle.std.specs.Prelude.{◌≡◌, ◌++◌, ◌∷◌, [], OnOk, map};
-ghost use Rattle.kob_policy_rows.specs.Answers.{from_row, grant_row, granted_rows};
+ghost use Rattle.kob_policy_rows.specs.Answers.{from_row, granted_rows};
 ghost use Rattle.kob_policy_rows.specs.Answers.{right_cells, super_row, told_rows, who_row, who_rows};
 
 use crate::cell::{Cell, push_row, push_words};
@@ -69,23 +69,6 @@ fn push_supers(
     Ok(())
 }
 
-fn push_answer(
-    alloc: Global,
-    rows: &mut Vec<Items<Cell>>,
-    judge: &Judge,
-    right: &Right,
-    answer: &Answer,
-) -> Result<(), AllocError>
-    ensures { OnOk result
-        (rows.new.items ≡ rows.old.items ++ grant_row judge.now right.now answer.now ∷ []) }
-{
-    let party = Party {
-        principal: party_name("User:*", &answer.principal),
-        host: party_name("*", &answer.host),
-    };
-    push_decided(alloc, rows, judge, right, party, answer.verdict)
-}
-
 #[tactic(auto, using(kob_words::proofs::Appending::appending))]
 fn push_answers(
     alloc: Global,
@@ -99,7 +82,11 @@ fn push_answers(
 {
     for answer in answers {
         if is_told(answers, answer) {
-            push_answer(alloc, rows, judge, right, answer)?;
+            let party = Party {
+                principal: party_name("User:*", &answer.principal),
+                host: party_name("*", &answer.host),
+            };
+            push_decided(alloc, rows, judge, right, party, answer.verdict)?;
         }
     }
     Ok(())
@@ -123,31 +110,6 @@ pub fn push_granted(
     push_answers(alloc, rows, judge, right, found.as_slice())
 }
 
-fn push_one(
-    alloc: Global,
-    rows: &mut Vec<Items<Cell>>,
-    judge: &Judge,
-    right: &Right,
-    host: &Host,
-    principal: &Principal,
-) -> Result<(), AllocError>
-    ensures { OnOk result (rows.new.items
-        ≡ rows.old.items ++ from_row judge.now right.now host.now principal.now ∷ []) }
-{
-    let asked = Asked {
-        principal,
-        host,
-        operation: right.operation,
-        resource: right.resource,
-        name: right.name.as_str(),
-    };
-    let party = Party {
-        principal: principal.as_str(),
-        host: host.as_str(),
-    };
-    push_decided(alloc, rows, judge, right, party, judge.verdict(&asked))
-}
-
 #[tactic(auto, using(kob_words::proofs::Appending::appending))]
 fn push_each(
     alloc: Global,
@@ -161,7 +123,18 @@ fn push_each(
         ≡ rows.old.items ++ map (from_row judge.now right.now host.now) principals.now) }
 {
     for principal in principals {
-        push_one(alloc, rows, judge, right, host, principal)?;
+        let asked = Asked {
+            principal,
+            host,
+            operation: right.operation,
+            resource: right.resource,
+            name: right.name.as_str(),
+        };
+        let party = Party {
+            principal: principal.as_str(),
+            host: host.as_str(),
+        };
+        push_decided(alloc, rows, judge, right, party, judge.verdict(&asked))?;
     }
     Ok(())
 }

@@ -2,7 +2,7 @@
 
 ghost use Rattle.std.specs.Prelude.{◌≡◌, ◌++◌, ◌∷◌, [], OnOk, flat_map, map};
 ghost use Rattle.kob_policy_rows.specs.Answers.{all_row, held_row, held_rows};
-ghost use Rattle.kob_policy_rows.specs.Answers.{operations_told, rights_rows};
+ghost use Rattle.kob_policy_rows.specs.Answers.{rights_rows};
 
 use crate::cell::{Cell, push_nothing, push_row, push_words};
 use crate::verdict::{party_name, push_target};
@@ -13,37 +13,6 @@ use kob_words::operation_name;
 use std::alloc::{AllocError, Global};
 
 #[tactic(auto, using(kob_words::proofs::Appending::appending), unfolding(crate::specs::Answers::held_row))]
-fn push_held_row(
-    alloc: Global,
-    rows: &mut Vec<Items<Cell>>,
-    principal: &Principal,
-    one: &Holding,
-    operation: Operation,
-) -> Result<(), AllocError>
-    ensures { OnOk result
-        (rows.new.items ≡ rows.old.items ++ held_row principal.now one.now operation ∷ []) }
-{
-    let mut row = Vec::new(alloc);
-    push_words(alloc, &mut row, principal.as_str())?;
-    push_words(alloc, &mut row, party_name("*", &one.host))?;
-    push_words(alloc, &mut row, operation_name(operation))?;
-    push_target(alloc, &mut row, &one.target)?;
-    push_words(alloc, &mut row, "binding")?;
-    push_row(rows, row)
-}
-
-/// `All` for the ten operations of a request.
-fn operations_told(operations: &[Operation]) -> &[Operation]
-    ensures { result.now ≡ operations_told operations.entry.now }
-{
-    if operations.len() == 10 {
-        &[Operation::All]
-    } else {
-        operations
-    }
-}
-
-#[tactic(auto, using(kob_words::proofs::Appending::appending))]
 fn push_operations(
     alloc: Global,
     rows: &mut Vec<Items<Cell>>,
@@ -55,11 +24,18 @@ fn push_operations(
         ≡ rows.old.items ++ map (held_row principal.now one.now) operations.now) }
 {
     for operation in operations {
-        push_held_row(alloc, rows, principal, one, *operation)?;
+        let mut row = Vec::new(alloc);
+        push_words(alloc, &mut row, principal.as_str())?;
+        push_words(alloc, &mut row, party_name("*", &one.host))?;
+        push_words(alloc, &mut row, operation_name(*operation))?;
+        push_target(alloc, &mut row, &one.target)?;
+        push_words(alloc, &mut row, "binding")?;
+        push_row(rows, row)?;
     }
     Ok(())
 }
 
+/// `All` for the ten operations of a request.
 fn push_holding(
     alloc: Global,
     rows: &mut Vec<Items<Cell>>,
@@ -73,7 +49,10 @@ fn push_holding(
     if is_repeated(host, one) {
         return Ok(());
     }
-    let operations = operations_told(one.operations.as_slice());
+    let operations = one.operations.as_slice();
+    if operations.len() == 10 {
+        return push_operations(alloc, rows, principal, one, &[Operation::All]);
+    }
     push_operations(alloc, rows, principal, one, operations)
 }
 

@@ -1,8 +1,8 @@
 //! The answer about a broker's log as JSON.
 
 ghost use Rattle.std.specs.Prelude.{◌≡◌, ◌++◌, IfOk, OnOk};
-ghost use Rattle.kob_policy_rows.specs.Logs.{array_tokens, asked_tokens, count_tokens};
-ghost use Rattle.kob_policy_rows.specs.Logs.{counts_tokens, listed_tokens, log_line, log_tokens};
+ghost use Rattle.kob_policy_rows.specs.Logs.{array_tokens, count_tokens};
+ghost use Rattle.kob_policy_rows.specs.Logs.{listed_tokens, log_line};
 ghost use Rattle.kob_policy_text.specs.LogAnswers.{differs};
 
 use crate::cell::Cell;
@@ -11,7 +11,7 @@ use crate::log_rows::{push_idle_in, push_otherwise};
 use crate::objects::{push_each, push_line, push_number, push_question};
 use json::Writer;
 use kob_names::Items;
-use kob_policy_text::{Entry, Judge, Log, any_otherwise, otherwise_count, read_log, skipped_lines};
+use kob_policy_text::{Entry, Judge, any_otherwise, otherwise_count, read_log, skipped_lines};
 use std::alloc::{AllocError, Global};
 
 #[tactic(auto, using(kob_words::proofs::Appending::appending), unfolding(crate::specs::Logs::array_tokens))]
@@ -41,22 +41,6 @@ fn push_count(writer: &mut Writer, column: Column, count: usize) -> Result<(), A
     writer.u64(count as u64)
 }
 
-#[tactic(auto, using(kob_words::proofs::Appending::appending), unfolding(crate::specs::Logs::counts_tokens))]
-fn push_counts(writer: &mut Writer, judge: &Judge, log: &Log) -> Result<(), AllocError>
-    ensures tokens { OnOk result
-        (writer.new.tokens ≡ writer.old.tokens ++ counts_tokens judge.now log.now) }
-    ensures before { writer.new.before ≡ writer.old.before }
-{
-    push_count(writer, Column::Accesses, log.accesses.len())?;
-    push_count(
-        writer,
-        Column::Otherwise,
-        otherwise_count(judge, &log.accesses),
-    )?;
-    push_count(writer, Column::LeftOut, log.others.len())?;
-    push_count(writer, Column::SkippedLines, skipped_lines(log))
-}
-
 #[tactic(auto, using(kob_words::proofs::Appending::appending), unfolding(crate::specs::Logs::listed_tokens))]
 fn push_listed(
     alloc: Global,
@@ -76,44 +60,10 @@ fn push_listed(
     push_array(writer, "idle", binding_columns(), &idle)
 }
 
-#[tactic(auto, using(kob_words::proofs::Appending::appending), unfolding(crate::specs::Logs::asked_tokens))]
-fn push_asked(alloc: Global, writer: &mut Writer, number: u64, file: &str) -> Result<(), AllocError>
-    ensures tokens { OnOk result
-        (writer.new.tokens ≡ writer.old.tokens ++ asked_tokens number file.now) }
-    ensures before { writer.new.before ≡ writer.old.before }
-{
-    let mut question = Vec::new(alloc);
-    question.extend_from_slice(b"log ")?;
-    question.extend_from_slice(file.as_bytes())?;
-    push_number(writer, number)?;
-    push_question(alloc, writer, &question)?;
-    writer.key("kind")?;
-    writer.string("log")
-}
-
-#[tactic(auto, using(kob_words::proofs::Appending::appending))]
-fn push_log(
-    alloc: Global,
-    writer: &mut Writer,
-    judge: &Judge,
-    number: u64,
-    file: &str,
-    log: &Log,
-) -> Result<(), AllocError>
-    ensures tokens { OnOk result
-        (writer.new.tokens ≡ writer.old.tokens ++ log_tokens judge.now number file.now log.now) }
-    ensures before { writer.new.before ≡ writer.old.before }
-{
-    writer.begin_object()?;
-    push_asked(alloc, writer, number, file)?;
-    push_counts(writer, judge, log)?;
-    push_listed(alloc, writer, judge, &log.accesses)?;
-    writer.end_object()
-}
-
 /// Prints the answer about the text of a broker's log as an object on a line. Returns whether some
 /// access is decided otherwise than is recorded. The error is out of memory; `out` has then grown
 /// by a part of the line.
+#[tactic(auto, using(kob_words::proofs::Appending::appending), unfolding(crate::specs::Logs::asked_tokens, crate::specs::Logs::counts_tokens))]
 pub fn print_json_log(
     alloc: Global,
     out: &mut Vec<u8>,
@@ -128,7 +78,24 @@ pub fn print_json_log(
 {
     let log = read_log(alloc, text)?;
     let mut writer = Writer::new(Vec::new(alloc));
-    push_log(alloc, &mut writer, judge, number, file, &log)?;
+    writer.begin_object()?;
+    let mut question = Vec::new(alloc);
+    question.extend_from_slice(b"log ")?;
+    question.extend_from_slice(file.as_bytes())?;
+    push_number(&mut writer, number)?;
+    push_question(alloc, &mut writer, &question)?;
+    writer.key("kind")?;
+    writer.string("log")?;
+    push_count(&mut writer, Column::Accesses, log.accesses.len())?;
+    push_count(
+        &mut writer,
+        Column::Otherwise,
+        otherwise_count(judge, &log.accesses),
+    )?;
+    push_count(&mut writer, Column::LeftOut, log.others.len())?;
+    push_count(&mut writer, Column::SkippedLines, skipped_lines(&log))?;
+    push_listed(alloc, &mut writer, judge, &log.accesses)?;
+    writer.end_object()?;
     push_line(out, writer)?;
     Ok(any_otherwise(judge, &log.accesses))
 }

@@ -2,7 +2,7 @@
 
 ghost use Rattle.std.specs.Prelude.{◌≡◌, ◌++◌, OnOk, flat_map, nat_eq};
 ghost use Rattle.std.specs.HashSet.{contains};
-ghost use Rattle.kob_policy_rows.specs.Logs.{idle_in, idle_row, otherwise_row, otherwise_rows};
+ghost use Rattle.kob_policy_rows.specs.Logs.{idle_in, idle_row, otherwise_rows};
 ghost use Rattle.kob_policy_text.specs.Numbered.{numbered};
 ghost use Rattle.kob_policy_text.specs.Policy.{serials_of};
 
@@ -15,31 +15,8 @@ use kob_policy_text::{Entry, Judge, deciders, is_otherwise, verdict_on};
 use std::alloc::{AllocError, Global};
 use std::collections::HashSet;
 
-#[tactic(auto, using(kob_words::proofs::Appending::appending), unfolding(crate::specs::Logs::entry_row, crate::specs::Logs::recorded_cells))]
-fn push_entry(
-    alloc: Global,
-    rows: &mut Vec<Items<Cell>>,
-    judge: &Judge,
-    entry: &Entry,
-) -> Result<(), AllocError>
-    ensures { OnOk result (rows.new.items ≡ rows.old.items ++ otherwise_row judge.now entry.now) }
-{
-    if !is_otherwise(judge, entry) {
-        return Ok(());
-    }
-    let mut row = Vec::new(alloc);
-    let recorded = &entry.recorded;
-    push_number(&mut row, entry.line)?;
-    push_words(alloc, &mut row, recorded.asker.principal.as_str())?;
-    push_words(alloc, &mut row, recorded.asker.host.as_str())?;
-    push_right(alloc, &mut row, &recorded.right)?;
-    push_flag(&mut row, recorded.allowed)?;
-    push_verdict(alloc, &mut row, judge, verdict_on(judge, entry))?;
-    push_row(rows, row)
-}
-
 /// The accesses that the rules decide otherwise than the broker did.
-#[tactic(auto, using(kob_words::proofs::Appending::appending))]
+#[tactic(auto, using(kob_words::proofs::Appending::appending), unfolding(crate::specs::Logs::entry_row, crate::specs::Logs::recorded_cells))]
 pub fn push_otherwise(
     alloc: Global,
     rows: &mut Vec<Items<Cell>>,
@@ -50,7 +27,18 @@ pub fn push_otherwise(
         (rows.new.items ≡ rows.old.items ++ otherwise_rows judge.now accesses.now) }
 {
     for entry in accesses {
-        push_entry(alloc, rows, judge, entry)?;
+        if !is_otherwise(judge, entry) {
+            continue;
+        }
+        let mut row = Vec::new(alloc);
+        let recorded = &entry.recorded;
+        push_number(&mut row, entry.line)?;
+        push_words(alloc, &mut row, recorded.asker.principal.as_str())?;
+        push_words(alloc, &mut row, recorded.asker.host.as_str())?;
+        push_right(alloc, &mut row, &recorded.right)?;
+        push_flag(&mut row, recorded.allowed)?;
+        push_verdict(alloc, &mut row, judge, verdict_on(judge, entry))?;
+        push_row(rows, row)?;
     }
     Ok(())
 }

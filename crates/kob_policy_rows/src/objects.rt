@@ -3,9 +3,9 @@
 ghost use Rattle.std.specs.Prelude.{◌≡◌, ◌++◌, ◌∷◌, [], OnOk, codes, flat_map, zip};
 ghost use Rattle.json.specs.Print.{print};
 ghost use Rattle.json.specs.Token.{string};
-ghost use Rattle.kob_policy_rows.specs.Json.{access_tokens, answer_line, answer_tokens, answers_json};
+ghost use Rattle.kob_policy_rows.specs.Json.{access_tokens, answer_line, answers_json};
 ghost use Rattle.kob_policy_rows.specs.Json.{cell_token, file_tokens, files_line, lines_text};
-ghost use Rattle.kob_policy_rows.specs.Json.{member_tokens, number_tokens, query_tokens};
+ghost use Rattle.kob_policy_rows.specs.Json.{member_tokens, number_tokens};
 ghost use Rattle.kob_policy_rows.specs.Json.{question_tokens, row_tokens, rows_tokens, shown_text};
 ghost use Rattle.kob_policy_rows.specs.Json.{verdict_tokens};
 ghost use Rattle.kob_words.specs.Words.{bytes_text};
@@ -146,23 +146,6 @@ pub(crate) fn push_question(
     push_shown(alloc, writer, text)
 }
 
-#[tactic(auto, using(kob_words::proofs::Appending::appending), unfolding(crate::specs::Json::query_tokens, crate::specs::Json::kind_tokens))]
-fn push_query(
-    alloc: Global,
-    writer: &mut Writer,
-    number: u64,
-    query: &Query,
-) -> Result<(), AllocError>
-    ensures tokens { OnOk result
-        (writer.new.tokens ≡ writer.old.tokens ++ query_tokens number query.now) }
-    ensures before { writer.new.before ≡ writer.old.before }
-{
-    push_number(writer, number)?;
-    push_question(alloc, writer, query.text.as_slice())?;
-    writer.key("kind")?;
-    writer.string(kind_of(&query.question))
-}
-
 #[tactic(auto, using(kob_words::proofs::Appending::appending))]
 fn push_access(writer: &mut Writer, judge: &Judge, access: &Access) -> Result<(), AllocError>
     ensures tokens { OnOk result
@@ -237,27 +220,7 @@ fn push_rows(
     writer.end_array()
 }
 
-#[tactic(auto, using(kob_words::proofs::Appending::appending))]
-fn push_answer(
-    alloc: Global,
-    writer: &mut Writer,
-    judge: &Judge,
-    topics: &[Text],
-    number: u64,
-    query: &Query,
-) -> Result<(), AllocError>
-    ensures tokens { OnOk result (writer.new.tokens
-        ≡ writer.old.tokens ++ answer_tokens judge.now topics.now number query.now) }
-    ensures before { writer.new.before ≡ writer.old.before }
-{
-    writer.begin_object()?;
-    push_query(alloc, writer, number, query)?;
-    push_verdict(writer, judge, &query.question)?;
-    push_rows(alloc, writer, judge, topics, &query.question)?;
-    writer.end_object()
-}
-
-#[tactic(auto, unfolding(crate::specs::Json::answer_line))]
+#[tactic(auto, using(kob_words::proofs::Appending::appending), unfolding(crate::specs::Json::query_tokens, crate::specs::Json::kind_tokens, crate::specs::Json::answer_line))]
 fn push_answer_line(
     alloc: Global,
     out: &mut Vec<u8>,
@@ -270,7 +233,14 @@ fn push_answer_line(
         ++ answer_line judge.now topics.now number query.now) }
 {
     let mut writer = Writer::new(Vec::new(alloc));
-    push_answer(alloc, &mut writer, judge, topics, number, query)?;
+    writer.begin_object()?;
+    push_number(&mut writer, number)?;
+    push_question(alloc, &mut writer, query.text.as_slice())?;
+    writer.key("kind")?;
+    writer.string(kind_of(&query.question))?;
+    push_verdict(&mut writer, judge, &query.question)?;
+    push_rows(alloc, &mut writer, judge, topics, &query.question)?;
+    writer.end_object()?;
     push_line(out, writer)
 }
 

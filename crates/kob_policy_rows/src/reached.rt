@@ -48,26 +48,6 @@ fn push_supers(
     Ok(())
 }
 
-fn push_reach(
-    alloc: Global,
-    rows: &mut Vec<Items<Cell>>,
-    right: &Right,
-    one: &Reach,
-) -> Result<(), AllocError>
-    ensures { OnOk result (rows.new.items ≡ rows.old.items ++ reach_rows right.now one.now) }
-{
-    if asks_as_others(one) {
-        return Ok(());
-    }
-    let principal = party_name("User:*", &one.principal);
-    let host = party_name("*", &one.host);
-    match one.share {
-        Share::Nothing => Ok(()),
-        Share::Part => push_one(alloc, rows, right, principal, host, "some"),
-        Share::Everything => push_one(alloc, rows, right, principal, host, "all"),
-    }
-}
-
 #[tactic(auto, using(kob_words::proofs::Appending::appending))]
 fn push_each(
     alloc: Global,
@@ -79,7 +59,16 @@ fn push_each(
         (rows.new.items ≡ rows.old.items ++ flat_map (reach_rows right.now) found.now) }
 {
     for one in found {
-        push_reach(alloc, rows, right, one)?;
+        if asks_as_others(one) {
+            continue;
+        }
+        let principal = party_name("User:*", &one.principal);
+        let host = party_name("*", &one.host);
+        match one.share {
+            Share::Nothing => {}
+            Share::Part => push_one(alloc, rows, right, principal, host, "some")?,
+            Share::Everything => push_one(alloc, rows, right, principal, host, "all")?,
+        }
     }
     Ok(())
 }

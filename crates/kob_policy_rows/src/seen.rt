@@ -1,21 +1,12 @@
 //! The rows of `sees`: the topics that a principal may describe.
 
-ghost use Rattle.std.specs.Prelude.{◌≡◌, ◌++◌, ◌∷◌, [], OnOk, flat_map};
+ghost use Rattle.std.specs.Prelude.{◌≡◌, ◌++◌, OnOk, flat_map};
 ghost use Rattle.kob_policy_rows.specs.Answers.{seen_rows, sees_rows};
 
 use crate::cell::{Cell, push_row, push_words};
 use kob_names::{Items, Text};
 use kob_policy_text::{Asker, Judge, is_seen, topics_named};
 use std::alloc::{AllocError, Global};
-
-fn push_topic(alloc: Global, rows: &mut Vec<Items<Cell>>, topic: &Text) -> Result<(), AllocError>
-    ensures { OnOk result
-        (rows.new.items ≡ rows.old.items ++ (Cell.Words topic.now ∷ []) ∷ []) }
-{
-    let mut row = Vec::new(alloc);
-    push_words(alloc, &mut row, topic.as_str())?;
-    push_row(rows, row)
-}
 
 #[tactic(auto, using(kob_words::proofs::Appending::appending))]
 fn push_topics(
@@ -30,7 +21,9 @@ fn push_topics(
 {
     for topic in topics {
         if is_seen(judge, asker, topic) {
-            push_topic(alloc, rows, topic)?;
+            let mut row = Vec::new(alloc);
+            push_words(alloc, &mut row, topic.as_str())?;
+            push_row(rows, row)?;
         }
     }
     Ok(())

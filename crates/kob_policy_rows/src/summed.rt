@@ -1,7 +1,7 @@
 //! The row of `summary`: how many there are of what a policy has.
 
 ghost use Rattle.std.specs.Prelude.{◌≡◌, ◌++◌, ◌∷◌, [], OnOk};
-ghost use Rattle.kob_policy_rows.specs.Answers.{count_of, named_cells, other_cells, parties_cells};
+ghost use Rattle.kob_policy_rows.specs.Answers.{count_of, named_cells};
 ghost use Rattle.kob_policy_rows.specs.Answers.{summary_row};
 ghost use Rattle.kob_policy_text.specs.AtHand.{names_named};
 
@@ -10,19 +10,6 @@ use kob_names::{Items, ResourceKind};
 use kob_policy_review::shadowed;
 use kob_policy_text::{Judge, each_once, hosts_named, names_named, principals_named, unused_count};
 use std::alloc::{AllocError, Global};
-
-#[tactic(auto, using(kob_words::proofs::Appending::appending))]
-fn push_parties(alloc: Global, row: &mut Vec<Cell>, judge: &Judge) -> Result<(), AllocError>
-    ensures { OnOk result (row.new.items ≡ row.old.items ++ parties_cells judge.now) }
-{
-    let policy = judge.policy();
-    let supers = each_once(alloc, policy.supers())?.len() as u64;
-    let principals = principals_named(alloc, policy.bindings())?.len() as u64;
-    let hosts = hosts_named(alloc, policy.bindings())?.len() as u64;
-    push_number(row, supers)?;
-    push_number(row, principals)?;
-    push_number(row, hosts)
-}
 
 fn push_names(
     alloc: Global,
@@ -41,27 +28,21 @@ fn push_names(
 fn push_named(alloc: Global, row: &mut Vec<Cell>, judge: &Judge) -> Result<(), AllocError>
     ensures { OnOk result (row.new.items ≡ row.old.items ++ named_cells judge.now) }
 {
-    push_number(row, judge.policy().bindings().len() as u64)?;
-    push_parties(alloc, row, judge)?;
+    let policy = judge.policy();
+    let supers = each_once(alloc, policy.supers())?.len() as u64;
+    let principals = principals_named(alloc, policy.bindings())?.len() as u64;
+    let hosts = hosts_named(alloc, policy.bindings())?.len() as u64;
+    push_number(row, policy.bindings().len() as u64)?;
+    push_number(row, supers)?;
+    push_number(row, principals)?;
+    push_number(row, hosts)?;
     push_names(alloc, row, ResourceKind::Topic, judge)?;
     push_names(alloc, row, ResourceKind::Group, judge)?;
     push_names(alloc, row, ResourceKind::TransactionalId, judge)
 }
 
-#[tactic(auto, using(kob_words::proofs::Appending::appending), unfolding(crate::specs::Answers::other_cells))]
-fn push_others(alloc: Global, row: &mut Vec<Cell>, judge: &Judge) -> Result<(), AllocError>
-    ensures { OnOk result (row.new.items ≡ row.old.items ++ other_cells judge.now) }
-{
-    let idle = unused_count(alloc, judge)?;
-    let beaten = shadowed(alloc, judge.authorizer())?.len();
-    push_number(row, judge.policy().omissions().len() as u64)?;
-    push_number(row, judge.policy().skipped().len() as u64)?;
-    push_number(row, idle as u64)?;
-    push_number(row, beaten as u64)
-}
-
 /// How many bindings there are, whom and what they name, and how many do nothing.
-#[tactic(auto, using(kob_words::proofs::Appending::appending), unfolding(crate::specs::Answers::summary_row))]
+#[tactic(auto, using(kob_words::proofs::Appending::appending), unfolding(crate::specs::Answers::other_cells, crate::specs::Answers::summary_row))]
 pub fn push_summary(
     alloc: Global,
     rows: &mut Vec<Items<Cell>>,
@@ -71,6 +52,11 @@ pub fn push_summary(
 {
     let mut row = Vec::new(alloc);
     push_named(alloc, &mut row, judge)?;
-    push_others(alloc, &mut row, judge)?;
+    let idle = unused_count(alloc, judge)?;
+    let beaten = shadowed(alloc, judge.authorizer())?.len();
+    push_number(&mut row, judge.policy().omissions().len() as u64)?;
+    push_number(&mut row, judge.policy().skipped().len() as u64)?;
+    push_number(&mut row, idle as u64)?;
+    push_number(&mut row, beaten as u64)?;
     push_row(rows, row)
 }

@@ -2,7 +2,7 @@
 
 ghost use Rattle.std.specs.Prelude.{◌≡◌, ◌++◌, OnOk, flat_map};
 ghost use Rattle.std.specs.List.{list_any};
-ghost use Rattle.kob_policy_rows.specs.Csv.{answer_text, answers_csv};
+ghost use Rattle.kob_policy_rows.specs.Csv.{answers_csv};
 ghost use Rattle.kob_policy_rows.specs.Csv.{behind_comma, cell_text, cells_text};
 ghost use Rattle.kob_policy_rows.specs.Csv.{is_special, name_behind_comma, names_text};
 ghost use Rattle.kob_policy_rows.specs.Csv.{quoted_byte, row_line, table_text, words_text};
@@ -22,22 +22,16 @@ fn has_special(text: &[u8]) -> bool
         .any(|byte| matches!(*byte, b',' | b'"' | b'\r' | b'\n'))
 }
 
-fn push_byte(out: &mut Vec<u8>, byte: u8) -> Result<(), AllocError>
-    ensures { OnOk result (out.new.items ≡ out.old.items ++ quoted_byte byte) }
-{
-    if byte == b'"' {
-        out.extend_from_slice(b"\"\"")
-    } else {
-        out.extend_from_slice(&[byte])
-    }
-}
-
 #[tactic(auto, using(kob_words::proofs::Appending::appending))]
 fn push_bytes(out: &mut Vec<u8>, text: &[u8]) -> Result<(), AllocError>
     ensures { OnOk result (out.new.items ≡ out.old.items ++ flat_map quoted_byte text.now) }
 {
     for byte in text {
-        push_byte(out, *byte)?;
+        if *byte == b'"' {
+            out.extend_from_slice(b"\"\"")?;
+        } else {
+            out.extend_from_slice(&[*byte])?;
+        }
     }
     Ok(())
 }
@@ -142,24 +136,9 @@ pub fn print_csv(
     push_rows(out, rows)
 }
 
-#[tactic(auto, unfolding(crate::specs::Csv::answer_text))]
-fn print_answer(
-    alloc: Global,
-    out: &mut Vec<u8>,
-    judge: &Judge,
-    topics: &[Text],
-    query: &Query,
-) -> Result<(), AllocError>
-    ensures { OnOk result
-        (out.new.items ≡ out.old.items ++ answer_text judge.now topics.now query.now) }
-{
-    let rows = rows_of(alloc, judge, topics, &query.question)?;
-    print_csv(out, columns_of(&query.question), &rows)
-}
-
 /// Prints the table of each answer, with the names of its columns. The error is out of memory;
 /// `out` has then grown by a part of them.
-#[tactic(auto, using(kob_words::proofs::Appending::appending))]
+#[tactic(auto, using(kob_words::proofs::Appending::appending), unfolding(crate::specs::Csv::answer_text))]
 pub fn print_csv_answers(
     alloc: Global,
     out: &mut Vec<u8>,
@@ -171,7 +150,8 @@ pub fn print_csv_answers(
         (out.new.items ≡ out.old.items ++ answers_csv judge.now topics.now queries.now) }
 {
     for query in queries {
-        print_answer(alloc, out, judge, topics, query)?;
+        let rows = rows_of(alloc, judge, topics, &query.question)?;
+        print_csv(out, columns_of(&query.question), &rows)?;
     }
     Ok(())
 }
