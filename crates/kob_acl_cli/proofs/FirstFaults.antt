@@ -1,13 +1,13 @@
 -- The first fault that stands is answered.
 use Rattle.std.specs.Prelude.{alloc_error}
-use Rattle.std.proofs.Common.{◌≡◌, ◌+◌, ◌<◌, ℕ, Bool, true, List, [], ◌∷◌, ◌++◌, length, get_or, take, drop, filter, sym, inr}
+use Rattle.std.proofs.Common.{◌≡◌, ◌+◌, ◌<◌, ℕ, Bool, true, List, [], ◌∷◌, ◌++◌, length, get_or, take, drop, filter, sym, inl, inr, refl}
 use Rattle.std.proofs.lemmas.List.{take-append-drop, drop_more}
 use Rattle.std.proofs.lemmas.List.Elements.{filter-append}
 use Rattle.kob_acl_cli.specs.Commands.{faults, IsFirstFault, bad_names, misread_words}
 use Rattle.kob_acl_cli.specs.Mixes.{has_one_action, refusals}
 use Rattle.kob_acl_cli.specs.declared.args.CliArgs.{CliArgs}
 use Rattle.kob_acl_cli.specs.declared.fault.CommandFault.{CommandFault}
-use Rattle.kob_acl_cli.specs.declared.fault.CommandFault.TheVariants.{Memory}
+use Rattle.kob_acl_cli.specs.declared.fault.CommandFault.TheVariants.{BadName, Memory}
 
 pub first_or_memory : (faults : List CommandFault) (fault : CommandFault) → fault ≡ Memory alloc_error → IsFirstFault faults fault
 first_or_memory [] fault is = is
@@ -26,7 +26,7 @@ first_before_words [] others fault first_is = first_or_memory (bad_names others)
 first_before_words (first ∷ more) others fault first_is = first_is
 
 -- words that were read stand before the one that was not
-pub first_at : (test : List ℕ → Bool) (words : List (List ℕ)) (i : ℕ) (d : List ℕ) (fault : CommandFault)
+first_at : (test : List ℕ → Bool) (words : List (List ℕ)) (i : ℕ) (d : List ℕ) (fault : CommandFault)
     → filter test (take i words) ≡ [] → i < length words
     → IsFirstFault (bad_names (filter test (get_or words i d ∷ []))) fault
     → IsFirstFault (bad_names (filter test words)) fault
@@ -39,6 +39,13 @@ first_at test words i d fault before below first_is =
       filter-append test (get_or words i d ∷ []) (drop (i + 1) words),
     )
     (first_before_words (filter test (get_or words i d ∷ [])) (filter test (drop (i + 1) words)) fault first_is)
+
+-- the same of a word that is not read
+pub first_misread : (test : List ℕ → Bool) (words : List (List ℕ)) (i : ℕ) (word copy : List ℕ)
+    → filter test (take i words) ≡ [] → i < length words → word ≡ get_or words i word → test word ≡ true
+    → copy ≡ word → IsFirstFault (bad_names (filter test words)) (BadName copy)
+first_misread test words i word copy before below is misread copied =
+    first_at test words i word (BadName copy) before below (rw (sym is, misread, copied) (inl refl))
 
 -- with one action, the words are looked at first
 pub first_of_words : (args : CliArgs) (fault : CommandFault) → has_one_action args ≡ true

@@ -1,9 +1,9 @@
 //! Reading the words of options, up to the first that is not valid.
 
-ghost use Rattle.std.specs.Prelude.{◌≡◌, [], ◌∷◌, filter, IfOk, IfErr};
+ghost use Rattle.std.specs.Prelude.{filter};
 ghost use Rattle.std.specs.Option.{option_to_list};
-ghost use Rattle.kob_acl_cli.specs.Commands.{Reads, IsFirstFault, bad_names, is_no_principal};
-ghost use Rattle.kob_acl_cli.specs.Commands.{is_no_host, is_no_operation, is_no_pattern_type};
+ghost use Rattle.kob_acl_cli.specs.Commands.{Reads, is_no_principal, is_no_host};
+ghost use Rattle.kob_acl_cli.specs.Commands.{is_no_operation, is_no_pattern_type};
 ghost use Rattle.kob_acl_cli.specs.Commands.{operations_named, pattern_type};
 
 use crate::fault::CommandFault;
@@ -19,19 +19,13 @@ pub fn read_principals(alloc: Global, words: &Items<Text>) -> Result<Items<Princ
 {
     let mut principals = Vec::new(alloc);
     for word in words.as_slice() {
-        principals.push(read_principal(alloc, word)?)?;
+        match Principal::parse(alloc, word.as_str()) {
+            Ok(principal) => principals.push(principal)?,
+            Err(PrincipalFault::Memory(error)) => return Err(CommandFault::Memory(error)),
+            Err(_) => return Err(CommandFault::BadName(word.copy(alloc)?)),
+        }
     }
     Ok(Items::from_vec(principals))
-}
-
-fn read_principal(alloc: Global, word: &Text) -> Result<Principal, CommandFault>
-    ensures { Reads (filter is_no_principal (word.now ∷ [])) word.now result }
-{
-    match Principal::parse(alloc, word.as_str()) {
-        Ok(principal) => Ok(principal),
-        Err(PrincipalFault::Memory(error)) => Err(CommandFault::Memory(error)),
-        Err(_) => Err(CommandFault::BadName(word.copy(alloc)?)),
-    }
 }
 
 /// The hosts that the words name.
@@ -40,19 +34,13 @@ pub fn read_hosts(alloc: Global, words: &Items<Text>) -> Result<Items<Host>, Com
 {
     let mut hosts = Vec::new(alloc);
     for word in words.as_slice() {
-        hosts.push(read_host(alloc, word)?)?;
+        match Host::parse(alloc, word.as_str()) {
+            Ok(host) => hosts.push(host)?,
+            Err(HostFault::Memory(error)) => return Err(CommandFault::Memory(error)),
+            Err(_) => return Err(CommandFault::BadName(word.copy(alloc)?)),
+        }
     }
     Ok(Items::from_vec(hosts))
-}
-
-fn read_host(alloc: Global, word: &Text) -> Result<Host, CommandFault>
-    ensures { Reads (filter is_no_host (word.now ∷ [])) word.now result }
-{
-    match Host::parse(alloc, word.as_str()) {
-        Ok(host) => Ok(host),
-        Err(HostFault::Memory(error)) => Err(CommandFault::Memory(error)),
-        Err(_) => Err(CommandFault::BadName(word.copy(alloc)?)),
-    }
 }
 
 /// The operations that the words name.
@@ -61,21 +49,12 @@ pub fn read_operations(alloc: Global, words: &Items<Text>) -> Result<Items<Opera
 {
     let mut operations = Vec::new(alloc);
     for word in words.as_slice() {
-        operations.push(read_operation(alloc, word)?)?;
+        let Some(operation) = operation_named(word.as_str().as_bytes()) else {
+            return Err(CommandFault::BadName(word.copy(alloc)?));
+        };
+        operations.push(operation)?;
     }
     Ok(Items::from_vec(operations))
-}
-
-fn read_operation(alloc: Global, word: &Text) -> Result<Operation, CommandFault>
-    ensures misread { IfErr result (λ fault.
-        IsFirstFault (bad_names (filter is_no_operation (word.now ∷ []))) fault) }
-    ensures named { IfOk result (λ made. filter is_no_operation (word.now ∷ []) ≡ []) }
-    ensures read { IfOk result (λ made. operations_named (word.now ∷ []) ≡ made ∷ []) }
-{
-    match operation_named(word.as_str().as_bytes()) {
-        Some(operation) => Ok(operation),
-        None => Err(CommandFault::BadName(word.copy(alloc)?)),
-    }
 }
 
 /// The pattern type that the word names; without a word it is literal.

@@ -8,7 +8,7 @@ pub use Rattle.kob_rights.specs.declared.reply.Reply.{Reply}
 pub use Rattle.kob_rights.specs.declared.reply.Reply.TheVariants.{Denied, Done, Refused}
 pub use Rattle.kob_rights.specs.declared.request.Request.{Request}
 pub use Rattle.kob_rights.specs.declared.request.Request.TheVariants.{InitProducerId}
-pub use Rattle.kob_router.specs.Run.{Dispatching, dispatch_of, place_of, murmur2, partition_of, with_bytes, with_word, after_use, has_place, same_place, sequence_of, with_sequence_for, Hand, IsDone, IsRouterRun, IsSending, KeepsRow, May, MayCall, Move, State, after, after_acknowledgement, calls_of, producer_after}
+pub use Rattle.kob_router.specs.Run.{Dispatching, dispatch_of, place_of, murmur2, partition_of, with_bytes, after_use, has_place, same_place, sequence_of, with_sequence_for, Hand, IsDone, IsRouterRun, IsSending, KeepsRow, May, MayCall, Move, State, after, after_acknowledgement, calls_of, producer_after}
 pub use Rattle.kob_router.specs.Route.{event_id, each_entry, entries_of, id_header, message_of, placed_header, topic_named, each_dollar_begins, is_template, with_routed_value}
 pub use Rattle.kob_router.specs.Line.{Adds}
 pub use Rattle.kob_router.specs.Tick.{Acknowledges, HasHand, Introduces, Requests, Takes, EndsHeard, EndsUnmarked, IsReport, IsAtMostOne, IsHeld, IsOfTick, IsOneTick, Point, Ticks, hand_of, state_of}

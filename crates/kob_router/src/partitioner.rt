@@ -2,7 +2,7 @@
 
 ghost use Rattle.std.specs.Prelude.{◌≡◌, ◌<◌};
 ghost use Rattle.kob_router.specs.Run.{murmur2, partition_of, with_bytes};
-ghost use Rattle.kob_router.specs.Run.{with_rest, with_upper_bits, with_word};
+ghost use Rattle.kob_router.specs.Run.{with_rest, with_upper_bits};
 
 const FACTOR: u32 = 0x5bd1e995;
 
@@ -37,7 +37,8 @@ fn with_bytes(start: u32, bytes: &[u8]) -> u32
             + 0x100 * bytes[at + 1] as u32
             + 0x1_0000 * bytes[at + 2] as u32
             + 0x100_0000 * bytes[at + 3] as u32;
-        hash = with_word(hash, word);
+        let word = with_upper_bits(word.wrapping_mul(FACTOR), 24).wrapping_mul(FACTOR);
+        hash = hash.wrapping_mul(FACTOR) ^ word;
         at += 4;
     }
     match &bytes[at..] {
@@ -47,13 +48,6 @@ fn with_bytes(start: u32, bytes: &[u8]) -> u32
         [a, b, c] => with_rest(hash, *a as u32 + 0x100 * *b as u32 + 0x1_0000 * *c as u32),
         _ => unreachable!(),
     }
-}
-
-fn with_word(hash: u32, word: u32) -> u32
-    ensures { result ≡ with_word hash word }
-{
-    let word = with_upper_bits(word.wrapping_mul(FACTOR), 24).wrapping_mul(FACTOR);
-    hash.wrapping_mul(FACTOR) ^ word
 }
 
 fn with_upper_bits(number: u32, bits: u32) -> u32

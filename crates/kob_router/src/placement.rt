@@ -2,8 +2,8 @@
 
 ghost use Rattle.std.specs.Prelude.{◌≡◌, ◌<◌, ◌==◌, IfOk, map};
 ghost use Rattle.std.specs.List.{slice_split};
-ghost use Rattle.kob_router.specs.Route.{OkIfSome, column_named, each_entry, entries_of};
-ghost use Rattle.kob_router.specs.Route.{entry_of_parts, is_alias, placed_as};
+ghost use Rattle.kob_router.specs.Route.{OkIfSome, each_entry, entries_of};
+ghost use Rattle.kob_router.specs.Route.{entry_of_parts, placed_as};
 
 use crate::fault::RouteFault;
 use kob_names::{Items, PlainValue, Text};
@@ -97,32 +97,18 @@ fn placed_as(alloc: Global, column: &str, word: &str, alias: &str) -> Result<Pla
     ensures { OkIfSome (placed_as column.now word.now alias.now)
         RouteFault.BadPlacement RouteFault.Memory result }
 {
-    if word != "header" || !is_alias(alias) {
+    if word != "header" || alias.is_empty() || alias.len() > ALIAS_LIMIT {
         return Err(RouteFault::BadPlacement);
     }
-    let Some(column) = column_named(column) else {
+    let column = if column == "aggregatetype" {
+        PlacedColumn::AggregateType
+    } else if column == "aggregateid" {
+        PlacedColumn::AggregateId
+    } else if column == "type" {
+        PlacedColumn::EventType
+    } else {
         return Err(RouteFault::BadPlacement);
     };
     let header = Text::copied(alloc, alias)?;
     Ok(Placed { column, header })
-}
-
-fn is_alias(alias: &str) -> bool
-    ensures { result ≡ is_alias alias.now }
-{
-    1 <= alias.len() && alias.len() <= ALIAS_LIMIT
-}
-
-fn column_named(name: &str) -> Option<PlacedColumn>
-    ensures { result ≡ column_named name.now }
-{
-    if name == "aggregatetype" {
-        Some(PlacedColumn::AggregateType)
-    } else if name == "aggregateid" {
-        Some(PlacedColumn::AggregateId)
-    } else if name == "type" {
-        Some(PlacedColumn::EventType)
-    } else {
-        None
-    }
 }

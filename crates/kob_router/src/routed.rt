@@ -3,11 +3,10 @@
 ghost use Rattle.std.specs.Prelude.{◌≡◌, IfOk};
 ghost use Rattle.kob_outbox.specs.Contents.{stored_row};
 ghost use Rattle.kob_router.specs.Route.{OkIfSome, headers_of, id_header, message_of};
-ghost use Rattle.kob_router.specs.Route.{placed_header, placed_value, routed_row, routed_value};
-ghost use Rattle.kob_router.specs.Route.{topic_named, topic_of};
+ghost use Rattle.kob_router.specs.Route.{routed_row, topic_named, topic_of};
 
 use crate::fault::RecordFault;
-use crate::placement::{Placed, PlacedColumn};
+use crate::placement::PlacedColumn;
 use crate::route::Route;
 use crate::settings::{RouteBy, Routing};
 use crate::template::ROUTED_BY_VALUE;
@@ -48,19 +47,13 @@ pub(crate) fn topic_for(
     ensures { OkIfSome (topic_named (topic_of routing.now (stored_row row.now)))
         RecordFault.BadTopic RecordFault.Memory result }
 {
-    let value = routed_value(routing.by, row).as_bytes();
+    let value = match routing.by {
+        RouteBy::AggregateType => row.event.aggregate_type.as_bytes(),
+        RouteBy::AggregateId => row.event.aggregate_id.as_bytes(),
+    };
     let template = routing.template.as_str().as_bytes();
     let text = template.replace(alloc, ROUTED_BY_VALUE.as_bytes(), value)?;
     topic_named(alloc, &text)
-}
-
-fn routed_value(by: RouteBy, row: &Row) -> &str
-    ensures { result.now ≡ routed_value by (stored_row row.now) }
-{
-    match by {
-        RouteBy::AggregateType => row.event.aggregate_type.as_str(),
-        RouteBy::AggregateId => row.event.aggregate_id.as_str(),
-    }
 }
 
 fn topic_named(alloc: Global, text: &[u8]) -> Result<TopicName, RecordFault>
@@ -95,7 +88,14 @@ fn headers_of(alloc: Global, routing: &Routing, row: &Row) -> Result<Items<Heade
     let mut headers = Vec::new(alloc);
     headers.push(id_header(alloc, row)?)?;
     for entry in routing.placement.as_slice() {
-        headers.push(placed_header(alloc, row, entry)?)?;
+        let name = Text::copied(alloc, entry.header.as_str())?;
+        let column = match entry.column {
+            PlacedColumn::AggregateType => &row.event.aggregate_type,
+            PlacedColumn::AggregateId => &row.event.aggregate_id,
+            PlacedColumn::EventType => &row.event.event_type,
+        };
+        let value = Bytes::copied(alloc, column.as_bytes())?;
+        headers.push(Header { name, value })?;
     }
     Ok(Items::from_vec(headers))
 }
@@ -108,22 +108,4 @@ fn id_header(alloc: Global, row: &Row) -> Result<Header, AllocError>
     let name = Text::copied(alloc, "id")?;
     let value = Bytes::copied(alloc, id.as_bytes())?;
     Ok(Header { name, value })
-}
-
-fn placed_header(alloc: Global, row: &Row, entry: &Placed) -> Result<Header, AllocError>
-    ensures { IfOk result (λ header. header ≡ placed_header (stored_row row.now) entry.now) }
-{
-    let name = Text::copied(alloc, entry.header.as_str())?;
-    let value = Bytes::copied(alloc, placed_value(entry.column, row).as_bytes())?;
-    Ok(Header { name, value })
-}
-
-fn placed_value(column: PlacedColumn, row: &Row) -> &str
-    ensures { result.now ≡ placed_value column (stored_row row.now) }
-{
-    match column {
-        PlacedColumn::AggregateType => row.event.aggregate_type.as_str(),
-        PlacedColumn::AggregateId => row.event.aggregate_id.as_str(),
-        PlacedColumn::EventType => row.event.event_type.as_str(),
-    }
 }

@@ -3,7 +3,7 @@
 ghost use Rattle.std.specs.Prelude.{◌≡◌, ◌<◌, IfErr, IfOk, option_map};
 ghost use Rattle.std.specs.Prelude.{alloc_error};
 ghost use Rattle.kob_outbox.specs.Contents.{stored_row};
-ghost use Rattle.kob_router.specs.Run.{batch_of, next_row};
+ghost use Rattle.kob_router.specs.Run.{next_row};
 
 use crate::dispatch::Target;
 use crate::fault::RecordFault;
@@ -13,7 +13,7 @@ use crate::place::Place;
 use crate::routed::{message_of, topic_for};
 use crate::sequences::Sequences;
 use crate::tick::{StopReason, Tick};
-use kob_names::{Batch, Idem, Items, PlainValue, Record};
+use kob_names::{Batch, Idem, Items, PlainValue};
 use kob_outbox::{MarkFault, Outbox, OutboxFault, Row};
 use kob_rights::{Body, Produce, Reply, Request};
 use std::alloc::{AllocError, Global};
@@ -186,12 +186,20 @@ impl Sender {
         };
         let message = message_of(alloc, self.target.route.as_routing(), &hand.row)?;
         let base = self.sequences.next(&hand.place);
-        let batch = batch_of(alloc, producer, base, message)?;
+        let mut records = Vec::new(alloc);
+        records.push(message)?;
         let topic = hand.place.topic.copy(alloc)?;
         Ok(Request::Produce(Produce {
             topic,
             partition: hand.place.partition,
-            batch,
+            batch: Batch {
+                idem: Some(Idem {
+                    id: producer.id,
+                    epoch: producer.epoch,
+                    base,
+                }),
+                records: Items::from_vec(records),
+            },
         }))
     }
 
@@ -228,25 +236,4 @@ fn next_row(outbox: &mut Outbox) -> Result<Option<Row>, OutboxFault>
     let mark = outbox.mark()?;
     let mut rows = outbox.after(mark, 1)?;
     Ok(rows.pop())
-}
-
-/// A row's record as a batch of its own.
-fn batch_of(
-    alloc: Global,
-    producer: Producer,
-    base: u64,
-    message: Record,
-) -> Result<Batch, AllocError>
-    ensures { IfOk result (λ batch. batch ≡ batch_of producer base message) }
-{
-    let mut records = Vec::new(alloc);
-    records.push(message)?;
-    Ok(Batch {
-        idem: Some(Idem {
-            id: producer.id,
-            epoch: producer.epoch,
-            base,
-        }),
-        records: Items::from_vec(records),
-    })
 }

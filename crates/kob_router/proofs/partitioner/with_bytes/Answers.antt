@@ -1,3 +1,5 @@
+use Rattle.std.specs.Prelude.{bit_xor}
+use Rattle.kob_router.specs.Run.{factor, times}
 use Rattle.kob_router.proofs.Words.{nat_tests, List, ap, arith, drop, drop_more, get_or, length, sym, with_bytes, ℕ, ◌+◌, ◌∙◌, ◌∷◌, ◌≡◌, ◌≤◌}
 use Rattle.kob_router.proofs.partitioner.with_bytes.Goals as goal
 
@@ -20,8 +22,8 @@ loop-at-preserved c =
     record {
       within = fits;
       rest =
-          ap (λ (h : ℕ). with_bytes h (drop (at + 4) bytes))
-          c.with_word-hash.ensures
+          ap (λ (w : ℕ). with_bytes (bit_xor (times c.loop-at.hash factor) (times w factor)) (drop (at + 4) bytes))
+          c.with_upper_bits-word.ensures
           ∙ sym (ap (with_bytes c.loop-at.hash) (next_word bytes at fits))
           ∙ c.loop-at.invariant.rest;
     }
