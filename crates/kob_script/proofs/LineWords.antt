@@ -14,7 +14,7 @@ use Rattle.kob_script.specs.Words.{is_blank, raw_words}
 use Prim.Native.Nat.{zero, suc}
 
 -- how many bytes are before the first blank
-abbrev size_of : List ℕ → ℕ
+abbrev pub size_of : List ℕ → ℕ
 size_of line = position_or_len is_blank line
 
 -- the parts of a line behind its first one
@@ -109,58 +109,3 @@ whole_word raw whole = by (unescaped raw) whole
 -- a word without a percent sign stands for itself
 pub plain_word : (raw : List ℕ) → has_percent raw ≡ false → word_of raw ≡ Ok (record { raw = raw; decoded = raw })
 plain_word raw plain = rw (plain_stands raw plain) refl
-
--- a byte greater than a percent sign is none, and no blank
-abbrev pub low : ℕ → Bool
-low byte = leb byte 37
-
-pub greater : (byte : ℕ) → low byte ≡ false → 37 < byte
-greater byte more = grind (arith, nat_tests)
-
-pub no_blank : (byte : ℕ) → 37 < byte → is_blank byte ≡ false
-no_blank byte more = grind (arith, nat_tests)
-
--- The size of a word is told by its bytes one by one, or by a run of them.
-module _ (line : List ℕ) where
-  pub blank_at : (at : ℕ) → at < length line → is_blank (get_or line at 0) ≡ true → size_of (drop at line) ≡ 0
-  blank_at at below blank = rw (drop_more line at 0 below, blank) refl
-
-  pub letter_at : (at : ℕ) → at < length line → is_blank (get_or line at 0) ≡ false
-      → size_of (drop at line) ≡ 1 + size_of (drop (at + 1) line)
-  letter_at at below letter = rw (drop_more line at 0 below, letter) refl
-
-  pub letters_passed : (at n : ℕ) → at + n ≤ length line
-      → ((k : ℕ) → at ≤ k → k < at + n → 37 < get_or line k 0)
-      → size_of (drop at line) ≡ n + size_of (drop (at + n) line)
-  letters_passed at zero room letters =
-      let here : at ≡ at + 0 = omega arith in omega (arith, ap (λ m. size_of (drop m line)) here)
-  letters_passed at (suc n) room letters =
-      let there : at + 1 + n ≡ at + suc n = omega arith in
-      let others = letters_passed (at + 1) n (omega (arith, room)) (λ k from to. letters k (omega (arith, from)) (omega (arith, to))) in
-      let same = ap (λ m. size_of (drop m line)) there in
-      omega (arith, letter_at at (omega (arith, room)) (no_blank _ (letters at (omega arith) (omega arith))), others, same)
-
--- what was plain stays so by a byte that is no percent sign
-pub both_plain : (was is_percent : Bool) → IsTrue (was && not is_percent) → IsTrue was × (is_percent ≡ false)
-both_plain true false is = (is, refl)
-both_plain true true is = absurd cc
-both_plain false is_percent is = absurd cc
-
--- bytes that were passed have no percent sign
-module _ (line : List ℕ) where
-  pub plain_at : (at : ℕ) → at < length line → has_percent (take at line) ≡ false → (get_or line at 0 == 37) ≡ false
-      → has_percent (take (at + 1) line) ≡ false
-  plain_at at below plain other =
-      rw (take_more line at 0 below, list_any-append (λ byte. byte == 37) (take at line) (get_or line at 0 ∷ []), plain, other) refl
-
-  pub plain_passed : (at n : ℕ) → at + n ≤ length line → ((k : ℕ) → at ≤ k → k < at + n → 37 < get_or line k 0)
-      → has_percent (take at line) ≡ false → has_percent (take (at + n) line) ≡ false
-  plain_passed at zero room letters plain =
-      let here : at + 0 ≡ at = omega arith in ap (λ m. has_percent (take m line)) here ∙ plain
-  plain_passed at (suc n) room letters plain =
-      let there : at + suc n ≡ at + 1 + n = omega arith in
-      let letter = letters at (omega arith) (omega arith) in
-      let other : (get_or line at 0 == 37) ≡ false = grind (arith, nat_tests) in
-      let others = plain_passed (at + 1) n (omega (arith, room)) (λ k from to. letters k (omega (arith, from)) (omega (arith, to)))
-      (plain_at at (omega (arith, room)) plain other) in
-      ap (λ m. has_percent (take m line)) there ∙ others

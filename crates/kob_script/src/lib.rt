@@ -10,6 +10,7 @@ mod faults;
 mod laws;
 mod place;
 mod printed;
+mod raw_words;
 mod requests;
 mod script;
 mod values;

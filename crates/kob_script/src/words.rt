@@ -1,22 +1,19 @@
 //! The words of a line, in which `%` and two hexadecimal digits stand for one byte.
 
-ghost use Rattle.std.specs.Prelude.{◌≡◌, ◌+◌, ◌<◌, ◌≤◌, ◌∷◌, [], ℕ, drop, false, find, get_or, not};
-ghost use Rattle.std.specs.Prelude.{IfSome, IsTrue, MatchOption, Ok, bytes_eq, codes, length};
-ghost use Rattle.std.specs.Prelude.{option_map};
-ghost use Rattle.std.specs.Prelude.{slice_get, take};
-ghost use Rattle.std.specs.List.{position_or_len};
+ghost use Rattle.std.specs.Prelude.{◌≡◌, ◌≤◌, false, IfSome, IsTrue, Ok, bytes_eq, codes};
+ghost use Rattle.std.specs.Prelude.{length, option_map, take};
 ghost use Rattle.std.specs.Result.{result_err};
 ghost use Rattle.kob_words.specs.Words.{has_percent};
-ghost use Rattle.kob_script.specs.Words.{Gives, GivesSeen, HidesNoFault, cut_at, each, is_blank};
+ghost use Rattle.kob_script.specs.Words.{Gives, GivesSeen, HidesNoFault, cut_at, each};
 ghost use Rattle.kob_script.specs.Words.{is_skipped, raw_words, word_of, words_of};
 
 use crate::fault::{FaultKind, LineError};
+use crate::raw_words::{RawWords, is_blank};
 use kob_names::Bytes;
 use kob_words::{has_whole_escapes, may_have_escapes, unescaped};
 use memchr::memchr;
 use std::alloc::Global;
 use std::marker::Model;
-use std::simd::prelude::*;
 
 /// A word as it is in a line, and the bytes that it stands for. Contracts see both.
 #[derive(Drop)]
@@ -117,7 +114,12 @@ pub fn words_of(alloc: Global, line: &[u8]) -> Result<Vec<Word<'_>>, LineError>
 fn is_skipped(line: &[u8]) -> bool
     ensures { result ≡ is_skipped line.now }
 {
-    behind_blanks(line).first().copied().unwrap_or(b'#') == b'#'
+    for byte in line {
+        if !is_blank(*byte) {
+            return *byte == b'#';
+        }
+    }
+    true
 }
 
 impl<'l> Word<'l> {
@@ -170,17 +172,19 @@ fn put_plain<'l>(few: &mut [Word<'l>; 10], line: &'l [u8]) -> Option<usize>
     ensures within { IfSome result (λ count. count ≤ 10) }
 {
     let mut count = 0;
-    let mut rest = line;
-    while let Some(cut) = first_word(rest) {
-        if count == few.len() || !cut.is_plain {
+    let mut words = RawWords::of(line);
+    while let Some(raw) = words.next() {
+        if count == few.len() {
             return None;
         }
         few[count] = Word {
-            raw: cut.raw,
+            raw,
             replaced: None,
         };
         count += 1;
-        rest = cut.others;
+    }
+    if !words.is_plain() {
+        return None;
     }
     Some(count)
 }
@@ -190,141 +194,26 @@ fn put_plain<'l>(few: &mut [Word<'l>; 10], line: &'l [u8]) -> Option<usize>
 fn read_words(alloc: Global, line: &[u8]) -> Result<Vec<Word<'_>>, LineError>
     ensures { GivesSeen (λ words. words.items) result (each word_of (raw_words line.now)) }
 {
-    let mut words = Vec::with_capacity(alloc, 16)?;
-    let mut rest = line;
-    while let Some(cut) = first_word(rest) {
-        let word = Word::cut(alloc, cut.raw, cut.is_plain)?;
-        words.push(word)?;
-        rest = cut.others;
+    let mut read = Vec::with_capacity(alloc, 16)?;
+    let mut words = RawWords::of(line);
+    while let Some(raw) = words.next() {
+        let word = Word::cut(alloc, raw, words.is_plain())?;
+        read.push(word)?;
     }
-    Ok(words)
+    Ok(read)
 }
 
 // Finds an escape that is not whole.
 fn check_escapes(line: &[u8]) -> Result<(), FaultKind>
     ensures { result_err result ≡ result_err (each word_of (raw_words line.now)) }
 {
-    let mut rest = line;
-    while let Some(cut) = first_word(rest) {
-        if !has_whole_escapes(cut.raw) {
+    let mut words = RawWords::of(line);
+    while let Some(raw) = words.next() {
+        if !has_whole_escapes(raw) {
             return Err(FaultKind::BadEscape);
         }
-        rest = cut.others;
     }
     Ok(())
-}
-
-// A word of a line, and what is behind it. A plain one has no percent sign.
-#[derive(Clone, Copy)]
-struct Cut<'l> {
-    raw: &'l [u8],
-    others: &'l [u8],
-    is_plain: bool,
-}
-
-// The word at the front of a line.
-#[inline(always)]
-fn first_word(line: &[u8]) -> Option<Cut<'_>>
-    ensures cut { MatchOption result (raw_words line.entry.now ≡ []) (λ cut.
-        raw_words line.entry.now ≡ cut.raw.now ∷ raw_words cut.others.now) }
-    ensures plain { IfSome result (λ cut. IsTrue cut.is_plain → has_percent cut.raw.now ≡ false) }
-    ensures shrinks { IfSome result (λ cut. length cut.others.now < length line.entry.now) }
-{
-    let word = behind_blanks(line);
-    let (size, is_plain) = size_of_word(word);
-    if size == 0 {
-        return None;
-    }
-    let (raw, others) = word.split_at(size);
-    Some(Cut {
-        raw,
-        others,
-        is_plain,
-    })
-}
-
-#[inline(always)]
-fn behind_blanks(line: &[u8]) -> &[u8]
-    ensures words { raw_words result.now ≡ raw_words line.entry.now }
-    ensures first { slice_get result.now 0 ≡ find (λ byte. not (is_blank byte)) line.entry.now }
-    ensures begins { IfSome (slice_get result.now 0) (λ byte. is_blank byte ≡ false) }
-    ensures within { length result.now ≤ length line.entry.now }
-{
-    let mut at = 0;
-    while at < line.len() && is_blank(line[at]) {
-        at += 1;
-    }
-    &line[at..]
-}
-
-// How many bytes are before the first blank, and whether none of them is a percent sign.
-#[inline(always)]
-fn size_of_word(word: &[u8]) -> (usize, bool)
-    ensures size { result.0 ≡ position_or_len is_blank word.now }
-    ensures within { result.0 ≤ length word.now }
-    ensures plain { IsTrue result.1 → has_percent (take result.0 word.now) ≡ false }
-{
-    let mut size = 0;
-    let mut is_plain = true;
-    while word.len() - size > 16 {
-        size += letters_at(word, size);
-        if is_blank(word[size]) {
-            return (size, is_plain);
-        }
-        is_plain &= word[size] != b'%';
-        size += 1;
-    }
-    size_from(word, size, is_plain)
-}
-
-// How many bytes from a place on are greater than a percent sign and a blank, at most 16.
-#[inline(always)]
-fn letters_at(word: &[u8], at: usize) -> usize
-    requires { at + 16 ≤ length word.now }
-    ensures few { result ≤ 16 }
-    ensures letters { (k : ℕ) → at ≤ k → k < at + result → 37 < get_or word.now k 0 }
-{
-    let low = u8x16::from_slice(&word[at..])
-        .simd_le(u8x16::splat(b'%'))
-        .to_bitmask();
-    if low == 0 {
-        return 16;
-    }
-    low.trailing_zeros() as usize
-}
-
-// The same as `size_of_word`, if there is no blank before this place, and no percent sign or
-// `is_plain` is false.
-#[inline(always)]
-fn size_from(word: &[u8], start: usize, is_plain: bool) -> (usize, bool)
-    requires begun { position_or_len is_blank word.now
-        ≡ start + position_or_len is_blank (drop start word.now) }
-    requires plain { IsTrue is_plain → has_percent (take start word.now) ≡ false }
-    requires start { start ≤ length word.now }
-    ensures size { result.0 ≡ position_or_len is_blank word.now }
-    ensures within { result.0 ≤ length word.now }
-    ensures plain { IsTrue result.1 → has_percent (take result.0 word.now) ≡ false }
-{
-    let mut size = start;
-    let mut is_plain = is_plain;
-    while size < word.len() {
-        // Most bytes are greater than both.
-        if word[size] <= b'%' {
-            if is_blank(word[size]) {
-                break;
-            }
-            is_plain &= word[size] != b'%';
-        }
-        size += 1;
-    }
-    (size, is_plain)
-}
-
-fn is_blank(byte: u8) -> bool
-    ensures { result ≡ is_blank byte }
-{
-    // Most bytes are greater than a blank.
-    byte <= b' ' && (byte >= b' ' || byte == b'\t')
 }
 
 /// What is before and after the first of these bytes in a word.

@@ -1,14 +1,16 @@
--- What was put, and then what the rest stands for, is what the words stand for.
+-- What was put, and then what is left, is what the words stand for, unless there was a percent sign.
 use Rattle.kob_script.proofs.Imports.{each, length, raw_words, take, word_of, ◌≡◌, ◌≤◌}
+use Rattle.std.specs.Prelude.{IsTrue}
+use Rattle.kob_script.proofs.RawWords.{words_left}
 use Rattle.kob_script.proofs.Each.{with_front}
 use Rattle.kob_script.proofs.words.put_plain.Given as goal
 
-abbrev pub invariant-loop-cut : goal.invariant-loop-cut
-invariant-loop-cut l = record {
+abbrev pub invariant-loop-raw : goal.invariant-loop-raw
+invariant-loop-raw l = record {
   few : l.count ≤ 10;
   room : length l.few ≡ 10;
-  words : with_front (take l.count l.few) (each word_of (raw_words l.rest)) ≡ each word_of (raw_words l.line);
+  words : IsTrue l.words.is_plain → with_front (take l.count l.few) (each word_of (words_left l.words)) ≡ each word_of (raw_words l.line);
 }
 
-abbrev pub decreases-loop-cut : goal.decreases-loop-cut
-decreases-loop-cut l = length l.rest
+abbrev pub decreases-loop-raw : goal.decreases-loop-raw
+decreases-loop-raw l = length (words_left l.words)
