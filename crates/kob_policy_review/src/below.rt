@@ -1,12 +1,12 @@
 //! Who may do something on the names that begin with a prefix.
 
-ghost use Rattle.std.specs.Prelude.{◌≡◌, ◌++◌, IfOk, OnOk, filter, flat_map, map};
+ghost use Rattle.std.specs.Prelude.{◌≡◌, ◌++◌, IfOk, OnOk, flat_map, map};
 ghost use Rattle.kob_authorizer.specs.Index.{AreRising};
 ghost use Rattle.kob_policy_review.specs.Below.{ListsReaches, near_below, reaches_below};
-ghost use Rattle.kob_policy_review.specs.Sharing.{is_near, reach_near, reaches_near};
+ghost use Rattle.kob_policy_review.specs.Sharing.{reach_near, reaches_near};
 
 use crate::askers::Askers;
-use crate::class::{Target, is_on};
+use crate::class::is_on;
 use crate::matching::{hosts_of, push_if};
 use crate::named_below::{NamesBelow, first_of, names_below};
 use crate::needed::is_super_party;
@@ -128,28 +128,8 @@ fn push_principals(
     Ok(())
 }
 
-/// Copies of the bindings that are on some of the names below the prefix.
-#[tactic(auto, using(std::proofs::lemmas::List::Elements::filter_more))]
-fn near_first(
-    alloc: Global,
-    entries: &[(u64, Binding)],
-    first: &Target,
-    resource: ResourceKind,
-    prefix: &Text,
-) -> Result<Vec<(u64, Binding)>, AllocError>
-    ensures { IfOk result (λ made.
-        made.items ≡ filter (is_near first.now resource prefix.now) entries.now) }
-{
-    let mut made = Vec::new(alloc);
-    for entry in entries {
-        let target = first_of(alloc, first, entry)?;
-        let wanted = is_below(resource, prefix, &target) && is_on(&target, entry);
-        push_if(alloc, &mut made, entry, wanted)?;
-    }
-    Ok(made)
-}
-
 /// Copies of the bindings that are on some of the names below the prefix, by rising serial.
+#[tactic(auto, using(std::proofs::lemmas::List::Elements::filter_more))]
 fn near_below(
     alloc: Global,
     rules: &Authorizer,
@@ -161,7 +141,13 @@ fn near_below(
     ensures rising { IfOk result (λ made. AreRising made.items) }
 {
     let first = at_prefix(alloc, resource, prefix)?;
-    near_first(alloc, rules.entries(), &first, resource, prefix)
+    let mut made = Vec::new(alloc);
+    for entry in rules.entries() {
+        let target = first_of(alloc, &first, entry)?;
+        let wanted = is_below(resource, prefix, &target) && is_on(&target, entry);
+        push_if(alloc, &mut made, entry, wanted)?;
+    }
+    Ok(made)
 }
 
 /// Who may do something on the names of a kind that begin with a prefix: on all of them, on some,

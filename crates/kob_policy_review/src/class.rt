@@ -1,7 +1,7 @@
 //! Classes of questions that a set of rules answers alike.
 
 ghost use Rattle.std.specs.Prelude.{◌≡◌, IfOk};
-ghost use Rattle.kob_policy_review.specs.Classes.{covers_party, is_for, is_met, is_on};
+ghost use Rattle.kob_policy_review.specs.Classes.{covers_party, is_met, is_on};
 
 use kob_names::{Binding, Operation, PatternKind, Permission, PlainValue, ResourceKind, Text};
 use std::alloc::{AllocError, Global};
@@ -63,20 +63,14 @@ pub(crate) fn is_on(target: &Target, entry: &(u64, Binding)) -> bool
         }
 }
 
-fn covers_party(all: &str, bound: &str, party: &Option<Text>) -> bool
+/// Whether what is bound is for the party, or for all.
+pub(crate) fn covers_party(all: &str, bound: &str, party: &Option<Text>) -> bool
     ensures { result ≡ covers_party all.now bound.now party.now }
 {
     match party {
         Some(party) => bound == party.as_str() || bound == all,
         None => bound == all,
     }
-}
-
-/// Whether the binding covers the principal, whatever the host.
-pub(crate) fn is_for(principal: &Option<Text>, entry: &(u64, Binding)) -> bool
-    ensures { result ≡ is_for principal.now entry.now }
-{
-    covers_party("User:*", entry.1.parts().principal.as_str(), principal)
 }
 
 /// Whether the binding has this permission, covers the host and reaches the operation.

@@ -1,9 +1,6 @@
 //! What is answered to each principal and host on some names.
 
-ghost use Rattle.std.specs.Prelude.{◌≡◌, ◌++◌, ◌&&◌, IfOk, OnOk, flat_map, map, not};
-ghost use Rattle.kob_authorizer.specs.Index.{AreRising};
-ghost use Rattle.kob_policy_review.specs.Classes.{principals_named};
-ghost use Rattle.kob_policy_review.specs.Difference.{some_in};
+ghost use Rattle.std.specs.Prelude.{◌≡◌, ◌++◌, IfOk, OnOk, flat_map, map};
 ghost use Rattle.kob_policy_review.specs.Granting.{ListsAnswers, answer_at, answers_by, answers_on};
 ghost use Rattle.kob_policy_review.specs.Granting.{first_met};
 
@@ -134,36 +131,10 @@ fn push_principals(
     Ok(())
 }
 
-fn answers_for(
-    alloc: Global,
-    rules: &Authorizer,
-    operation: Operation,
-    matching: &[(u64, Binding)],
-) -> Result<Vec<Answer>, AllocError>
-    requires { AreRising matching.now }
-    ensures { IfOk result (λ found. found.items ≡ flat_map (answers_by rules.now.contents.supers
-        (rules.now.contents.everyone && not (some_in matching.now)) matching.now operation)
-        (principals_named matching.now)) }
-{
-    let opened = rules.everyone() && is_nothing(matching);
-    let askers = Askers::of(alloc, matching)?;
-    let principals = principals_of(alloc, matching)?;
-    let mut out = Vec::new(alloc);
-    push_principals(
-        alloc,
-        &mut out,
-        rules.supers(),
-        opened,
-        &askers,
-        operation,
-        principals.as_slice(),
-    )?;
-    Ok(out)
-}
-
 /// What each principal and host is answered on a target, with the binding that decides: those that
 /// a binding on it names, and all others. Super users are left out, to whom all is granted.
 /// `Names::Below` a prefix speaks of the names below it that no longer prefix and no literal takes.
+#[tactic(auto, unfolding(crate::specs::Granting::answers_on))]
 pub fn who(
     alloc: Global,
     rules: &Authorizer,
@@ -176,5 +147,18 @@ pub fn who(
         found.items ≡ answers_on rules.now.contents operation target.now) }
 {
     let matching = matching(alloc, rules.entries(), target)?;
-    answers_for(alloc, rules, operation, matching.as_slice())
+    let opened = rules.everyone() && is_nothing(matching.as_slice());
+    let askers = Askers::of(alloc, matching.as_slice())?;
+    let principals = principals_of(alloc, matching.as_slice())?;
+    let mut out = Vec::new(alloc);
+    push_principals(
+        alloc,
+        &mut out,
+        rules.supers(),
+        opened,
+        &askers,
+        operation,
+        principals.as_slice(),
+    )?;
+    Ok(out)
 }

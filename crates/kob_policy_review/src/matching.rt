@@ -5,7 +5,7 @@ ghost use Rattle.kob_policy_review.specs.Classes.{hosts_named, with_host};
 ghost use Rattle.kob_policy_review.specs.Classes.{is_for, is_on, is_party};
 ghost use Rattle.std.specs.List.{list_any};
 
-use crate::class::{Target, is_for, is_on};
+use crate::class::{Target, covers_party, is_on};
 use kob_names::{Binding, Operation, PlainValue, Text};
 use std::alloc::{AllocError, Global};
 
@@ -66,7 +66,8 @@ pub fn asking(
 {
     let mut made = Vec::new(alloc);
     for entry in entries {
-        push_if(alloc, &mut made, entry, is_for(principal, entry))?;
+        let wanted = covers_party("User:*", entry.1.parts().principal.as_str(), principal);
+        push_if(alloc, &mut made, entry, wanted)?;
     }
     Ok(made)
 }
