@@ -112,6 +112,7 @@ pub fn read_event(
 }
 
 // A function of its own, since a proof goes through what is dropped.
+#[inline(always)]
 fn ask_for(event: &mut Event, request: Request)
     ensures principal { event.new.principal ≡ event.old.principal }
     ensures host { event.new.host ≡ event.old.host }

@@ -10,8 +10,8 @@ ghost use Rattle.kob_script.specs.declared.fault.FaultKind.TheVariants as kind;
 use crate::command::Command;
 use crate::fault::{FaultKind, LineError};
 use crate::values::{
-    before_of, filter_pattern_of, idem_of, known, named_host, named_principal, number_of,
-    records_of, text_of, which_of,
+    before_of, filter_pattern_of, host_or_any, idem_of, known, named_host, named_principal,
+    number_of, principal_or_any, records_of, text_of, text_or_any, which_of,
 };
 use crate::words::Word;
 use kob_names::{Batch, BindingFilter, Draft, Items, Pattern};
@@ -257,9 +257,9 @@ fn filter_of(alloc: Global, words: &[Word<'_>]) -> Result<BindingFilter, LineErr
         pattern: filter_pattern_of(pattern)?,
         operation: unless_dash(operation, named(operation_named(operation.decoded())))?,
         permission: unless_dash(permission, named(permission_named(permission.decoded())))?,
-        name: unless_dash(name, text_of(alloc, name))?,
-        principal: unless_dash(who, named_principal(alloc, who))?,
-        host: unless_dash(from, named_host(alloc, from))?,
+        name: text_or_any(alloc, name)?,
+        principal: principal_or_any(alloc, who)?,
+        host: host_or_any(alloc, from)?,
     })
 }
 

@@ -128,7 +128,12 @@ pub fn check_asker(
         × (named_host host.now ≡ Ok event.host))) }
 {
     match last {
-        Some(event) if is_named(event, principal, host) => Ok(()),
+        Some(event) if is_of_host(event, host) => {
+            if !is_of_principal(event, principal) {
+                event.principal = named_principal(alloc, principal)?;
+            }
+            Ok(())
+        }
         _ => match (named_principal(alloc, principal), named_host(alloc, host)) {
             (Ok(principal), Ok(host)) => {
                 set_asker(last, principal, host);
@@ -152,10 +157,14 @@ fn set_asker(last: &mut Option<Event>, principal: Principal, host: Host)
     });
 }
 
-fn is_named(event: &Event, principal: &Word<'_>, host: &Word<'_>) -> bool
-    ensures { IsTrue result → (named_principal principal.now ≡ Ok event.now.principal)
-        × (named_host host.now ≡ Ok event.now.host) }
+fn is_of_principal(event: &Event, principal: &Word<'_>) -> bool
+    ensures { IsTrue result → named_principal principal.now ≡ Ok event.now.principal }
 {
     principal.decoded() == event.principal.as_str().as_bytes()
-        && host.decoded() == event.host.as_str().as_bytes()
+}
+
+fn is_of_host(event: &Event, host: &Word<'_>) -> bool
+    ensures { IsTrue result → named_host host.now ≡ Ok event.now.host }
+{
+    host.decoded() == event.host.as_str().as_bytes()
 }

@@ -7,7 +7,7 @@ ghost use Rattle.std.specs.Result.{result_unwrap_or};
 use crate::command_lines::{asks_clap, read_event};
 use crate::fault::LineError;
 use crate::script::is_setting;
-use crate::words::{Word, few_words, put_words, words_of};
+use crate::words::{NO_WORD, Word, put_words, words_of};
 use bstr::ByteSlice;
 use kob_acl_cli::CliArgs;
 use kob_names::Bytes;
@@ -148,7 +148,10 @@ impl Requests {
         ensures same { OnErr result ((asked.new.items ≡ [])
             × (answers.new.items ≡ answers.old.items)) }
     {
-        let mut few = few_words();
+        let mut few = [
+            NO_WORD, NO_WORD, NO_WORD, NO_WORD, NO_WORD, NO_WORD, NO_WORD, NO_WORD, NO_WORD,
+            NO_WORD,
+        ];
         if let Some(count) = put_words(&mut few, line) {
             return Requests::read_cut(alloc, next, &few[..count], answers, asked);
         }

@@ -17,7 +17,7 @@ use crate::command_lines::{answer_to, asks_clap, count_of};
 use crate::fault::{Fault, FaultKind, LineError, ScriptError};
 use crate::requests::Requests;
 use crate::values::named_principal;
-use crate::words::{Word, few_words, put_words, words_of};
+use crate::words::{NO_WORD, Word, put_words, words_of};
 use bstr::ByteSlice;
 use kob_acl_cli::CliArgs;
 use kob_names::{Bytes, Items, Principal, Settings, sum_of};
@@ -139,7 +139,9 @@ fn check_line(
         → ChecksLine (script_so_far checking.old events) line.now checking.new
         answers.old.items answers.new.items result }
 {
-    let mut few = few_words();
+    let mut few = [
+        NO_WORD, NO_WORD, NO_WORD, NO_WORD, NO_WORD, NO_WORD, NO_WORD, NO_WORD, NO_WORD, NO_WORD,
+    ];
     if let Some(count) = put_words(&mut few, line) {
         return check_cut(alloc, checking, answers, &few[..count]);
     }

@@ -2,7 +2,7 @@
 //! batch.
 
 ghost use Rattle.std.specs.Prelude.{◌≡◌, IfOk, map, ok_or};
-ghost use Rattle.kob_script.specs.CommandLines.{filter_pattern_of};
+ghost use Rattle.kob_script.specs.CommandLines.{filter_pattern_of, unless_dash};
 ghost use Rattle.std.specs.Result.{result_err};
 ghost use Rattle.kob_script.specs.Words.{Gives, GivesSeen, HidesNoFault, each, seen};
 ghost use Rattle.kob_words.specs.Words.{bytes_of};
@@ -109,6 +109,36 @@ pub fn named_host(alloc: Global, word: &Word<'_>) -> Result<Host, LineError>
     ensures memory { HidesNoFault result (result_err (named_host word.now)) }
 {
     host_of(alloc, lent_text_of(word)?)
+}
+
+/// A copy of the text of a word, or none for `-`.
+pub fn text_or_any(alloc: Global, word: &Word<'_>) -> Result<Option<Text>, LineError>
+    ensures { Gives result (unless_dash (text_of word.now) word.now) }
+{
+    if word.is_dash() {
+        return Ok(None);
+    }
+    Ok(Some(text_of(alloc, word)?))
+}
+
+/// The principal that a word names, or none for `-`.
+pub fn principal_or_any(alloc: Global, word: &Word<'_>) -> Result<Option<Principal>, LineError>
+    ensures { Gives result (unless_dash (named_principal word.now) word.now) }
+{
+    if word.is_dash() {
+        return Ok(None);
+    }
+    Ok(Some(named_principal(alloc, word)?))
+}
+
+/// The host that a word names, or none for `-`.
+pub fn host_or_any(alloc: Global, word: &Word<'_>) -> Result<Option<Host>, LineError>
+    ensures { Gives result (unless_dash (named_host word.now) word.now) }
+{
+    if word.is_dash() {
+        return Ok(None);
+    }
+    Ok(Some(named_host(alloc, word)?))
 }
 
 /// The number that a word writes: decimal digits without a sign, of at most 64 bits.

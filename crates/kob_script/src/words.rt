@@ -122,33 +122,12 @@ fn is_skipped(line: &[u8]) -> bool
     true
 }
 
-impl<'l> Word<'l> {
-    fn none() -> Word<'l> {
-        Word {
-            raw: &[],
-            replaced: None,
-        }
-    }
-}
-
-/// Room for the words of most lines, so that these take no allocation. The longest rows have ten.
-#[inline(always)]
-pub fn few_words<'l>() -> [Word<'l>; 10]
-    ensures { length result ≡ 10 }
-{
-    [
-        Word::none(),
-        Word::none(),
-        Word::none(),
-        Word::none(),
-        Word::none(),
-        Word::none(),
-        Word::none(),
-        Word::none(),
-        Word::none(),
-        Word::none(),
-    ]
-}
+/// Ten of these are room for the words of most lines, so that these take no allocation. The longest
+/// rows have ten.
+pub const NO_WORD: Word<'static> = Word {
+    raw: &[],
+    replaced: None,
+};
 
 /// Puts the words of a line into `few`, and returns how many they are. None if there are more, or if
 /// one may have an escape.

@@ -1,0 +1,9 @@
+use Rattle.kob_script.proofs.Imports.{bytes_eq-Decides, sym, ◌∙◌, ◌≡◌}
+use Rattle.kob_script.proofs.LineFaults.{host_again}
+use Rattle.kob_script.proofs.faults.is_of_host.Goals as goal
+
+pub returns : goal.returns
+returns c = λ is.
+    let same : c.decoded.result.now ≡ c.as_bytes.result.now = (bytes_eq-Decides _ _).0 (sym c.eq.ensures ∙ is) in
+    host_again c.args.host.now _ (rw c.as_str.ensures.text at c.as_str.utf8) c.as_str.ensures.valid
+    (sym c.decoded.ensures ∙ same ∙ c.as_bytes.ensures.value ∙ c.as_str.ensures.text)
