@@ -24,5 +24,7 @@ pub use place::fault_place;
 pub use printed::{kind_text, print_fault, print_reply, push_outcome, push_record, push_topic};
 pub use requests::Requests;
 pub use script::{Script, check_script, everyone_of, is_setting, is_super, read_script, super_of};
-pub use values::{host_of, lent_text_of, number_of, principal_of, text_of, texts_of};
+pub use values::{
+    host_of, lent_text_of, named_host, named_principal, number_of, principal_of, text_of, texts_of,
+};
 pub use words::{Word, words_of};
