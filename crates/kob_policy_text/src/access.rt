@@ -2,7 +2,7 @@
 
 ghost use Rattle.std.specs.Prelude.{◌≡◌, ◌++◌, OnOk};
 ghost use Rattle.kob_policy_text.specs.Access.{access_text, act_text, any_fails};
-ghost use Rattle.kob_policy_text.specs.Access.{expect_text, fails, is_allowed, is_other_answer};
+ghost use Rattle.kob_policy_text.specs.Access.{expect_text, is_allowed, is_other_answer};
 ghost use Rattle.kob_policy_text.specs.Access.{outcome_of_expected};
 
 use crate::hints::{push_unnamed, push_untaken};
@@ -93,27 +93,12 @@ pub fn push_expected<'a>(
     out.extend_from_slice(outcome_of_expected(other).as_bytes())
 }
 
-fn fails(judge: &Judge, question: &Question) -> bool
-    ensures { result ≡ fails judge.now question.now }
-{
-    match question {
-        Question::Expect(expected, access) => is_other_answer(*expected, is_allowed(judge, access)),
-        Question::May(_)
-        | Question::Who(_, _)
-        | Question::WhoConsumes(_, _)
-        | Question::WhoBelow(_)
-        | Question::Rights(_, _)
-        | Question::Sees(_)
-        | Question::Summary
-        | Question::Unused
-        | Question::Shadowed
-        | Question::Removable => false,
-    }
-}
-
 /// Whether some answer is not the one that is expected.
 pub fn any_fails(judge: &Judge, queries: &[Query]) -> bool
     ensures { result ≡ any_fails judge.now queries.now }
 {
-    queries.iter().any(|query| fails(judge, &query.question))
+    queries.iter().any(|query| {
+        matches!(&query.question, Question::Expect(expected, access)
+            if is_other_answer(*expected, is_allowed(judge, access)))
+    })
 }

@@ -7,11 +7,10 @@ ghost use Rattle.kob_policy_text.specs.Lines.{held_words, is_creation};
 ghost use Rattle.kob_policy_text.specs.Lines.{is_for_other_kind, is_heading};
 ghost use Rattle.kob_policy_text.specs.Lines.{is_heading_line, is_listed, is_release, is_skipped};
 ghost use Rattle.kob_policy_text.specs.Lines.{listed_items, only_event};
-ghost use Rattle.kob_policy_text.specs.Lines.{rules_of, setting_items};
+ghost use Rattle.kob_policy_text.specs.Lines.{setting_items};
 ghost use Rattle.kob_policy_text.specs.Lines.{texts_behind, words_items, rules_in};
 ghost use Rattle.kob_policy_text.specs.Outcomes.{MayGive};
 ghost use Rattle.kob_script.specs.Words.{GivesSeen, words_of};
-ghost use Rattle.kob_script.specs.Script.{asks_clap};
 
 use crate::item::Item;
 use crate::listing::{heading_item, known, newer_grant, older_grant};
@@ -142,16 +141,7 @@ fn rules_in(alloc: Global, request: Request) -> Result<Vec<Item>, LineError>
     }
 }
 
-/// The bindings of a list of exactly one request.
-fn rules_of(alloc: Global, asked: VecDeque<Event>) -> Result<Vec<Item>, LineError>
-    ensures { GivesSeen (λ items. items.items) result (rules_of asked.items) }
-{
-    match only_event(asked) {
-        Some(event) => rules_in(alloc, event.into_request()),
-        None => Err(LineError::Fault(FaultKind::BadLine)),
-    }
-}
-
+/// The event of a list of exactly one.
 pub fn only_event(mut asked: VecDeque<Event>) -> Option<Event>
     ensures { result ≡ only_event asked.items }
 {
@@ -179,7 +169,10 @@ fn words_items(alloc: Global, words: Vec<Word<'_>>) -> Result<Vec<Item>, LineErr
         return one(alloc, Item::Brokers(release));
     }
     let held = held_words(alloc, words)?;
-    rules_of(alloc, events_of(alloc, &held, &None)?)
+    match only_event(events_of(alloc, &held, &None)?) {
+        Some(event) => rules_in(alloc, event.into_request()),
+        None => Err(LineError::Fault(FaultKind::BadLine)),
+    }
 }
 
 /// The texts after `acl`, borrowed from the words.
@@ -208,15 +201,6 @@ fn texts_behind<'w>(
     drop(principal_of(alloc, name)?);
     drop(host_of(alloc, address)?);
     Ok(texts)
-}
-
-fn asks_by_acl(words: &[Word<'_>]) -> bool
-    ensures { result ≡ asks_clap words.now }
-{
-    match words {
-        [first, _, command, ..] => !is_setting(first) && command.decoded() == b"acl".as_slice(),
-        _ => false,
-    }
 }
 
 /// Whether the words create bindings.
@@ -275,9 +259,11 @@ pub fn items_of(
         return tool_items(alloc, arguments);
     }
     let words = words_of(alloc, line)?;
-    if asks_by_acl(&words) {
-        let texts = acl_texts(alloc, &words)?;
-        return added(alloc, &texts);
+    match words.as_slice() {
+        [first, _, command, ..] if !is_setting(first) && command.decoded() == b"acl".as_slice() => {
+            let texts = acl_texts(alloc, &words)?;
+            added(alloc, &texts)
+        }
+        _ => words_items(alloc, words),
     }
-    words_items(alloc, words)
 }

@@ -1,6 +1,6 @@
 //! The lines that `kafka-acls --list` prints.
 
-ghost use Rattle.std.specs.Prelude.{◌≡◌, codes, ok_or};
+ghost use Rattle.std.specs.Prelude.{◌≡◌, ok_or};
 ghost use Rattle.kob_policy_text.specs.Listing.{grant_item, grant_of, heading_item};
 ghost use Rattle.kob_policy_text.specs.Listing.{heading_text, holder_of};
 ghost use Rattle.kob_policy_text.specs.Listing.{is_other_operation, known_operation};
@@ -8,8 +8,8 @@ ghost use Rattle.kob_policy_text.specs.Listing.{known_resource};
 ghost use Rattle.kob_policy_text.specs.Listing.{listed_operation, listed_resource, one_principal};
 ghost use Rattle.kob_policy_text.specs.Listing.{unclosed};
 ghost use Rattle.kob_policy_text.specs.Listing.{newer_grant, newer_target, newer_words};
-ghost use Rattle.kob_policy_text.specs.Listing.{older_grant, older_target, older_words};
-ghost use Rattle.kob_policy_text.specs.Listing.{target_item, target_of, first_parts};
+ghost use Rattle.kob_policy_text.specs.Listing.{older_grant, older_words};
+ghost use Rattle.kob_policy_text.specs.Listing.{target_item, target_of};
 ghost use Rattle.kob_script.specs.Words.{Gives, GivesSeen};
 ghost use Rattle.kob_script.specs.declared.fault.FaultKind.TheVariants.{BadWord};
 
@@ -282,27 +282,6 @@ fn newer_target(text: &[u8]) -> Result<TargetWords<'_>, LineError>
     })
 }
 
-fn older_target<'a>(resource: &'a [u8], rest: &'a [u8]) -> TargetWords<'a>
-    ensures { result ≡ older_target resource.entry.now rest.entry.now
-        (first_parts rest.entry.now (codes ":")) }
-{
-    match first_parts(rest, b":") {
-        Some((pattern, name))
-            if pattern == b"LITERAL".as_slice() || pattern == b"PREFIXED".as_slice() => {
-            TargetWords {
-                resource,
-                pattern,
-                name,
-            }
-        }
-        _ => TargetWords {
-            resource,
-            pattern: b"LITERAL".as_slice(),
-            name: rest,
-        },
-    }
-}
-
 /// The part of a heading between its quotes.
 #[tactic(auto, unfolding(crate::specs::Listing::heading_text))]
 fn heading_text(line: &[u8]) -> Result<&[u8], LineError>
@@ -325,6 +304,20 @@ pub fn heading_item(alloc: Global, line: &[u8]) -> Result<Item, LineError>
     if text.starts_with(b"ResourcePattern(") {
         return target_item(alloc, &newer_target(text)?);
     }
-    let (kind, rest) = around_first(text, b":")?;
-    target_item(alloc, &older_target(kind, rest))
+    let (resource, rest) = around_first(text, b":")?;
+    let (pattern, name) = match first_parts(rest, b":") {
+        Some((pattern, name))
+            if pattern == b"LITERAL".as_slice() || pattern == b"PREFIXED".as_slice() => {
+            (pattern, name)
+        }
+        _ => (b"LITERAL".as_slice(), rest),
+    };
+    target_item(
+        alloc,
+        &TargetWords {
+            resource,
+            pattern,
+            name,
+        },
+    )
 }

@@ -5,7 +5,7 @@ ghost use Rattle.std.specs.Option.{option_to_list};
 ghost use Rattle.kob_acl_cli.specs.Lines.{texts};
 ghost use Rattle.kob_policy_text.specs.Options.{Adds, added_by, added_from};
 ghost use Rattle.kob_policy_text.specs.Options.{held_at, held_options, is_ignored};
-ghost use Rattle.kob_policy_text.specs.Options.{is_ignored_whole, is_other, is_other_whole};
+ghost use Rattle.kob_policy_text.specs.Options.{is_ignored_whole, is_other};
 ghost use Rattle.kob_policy_text.specs.Options.{ids_alone};
 ghost use Rattle.kob_policy_text.specs.Options.{next_place, rule_items, then_added};
 ghost use Rattle.kob_policy_text.specs.Options.{without_ids, drafts_from, with_other_operations};
@@ -62,13 +62,6 @@ fn is_other(word: &str) -> bool
     word == "--delegation-token" || word == "--user-principal"
 }
 
-fn is_other_whole(word: &str) -> bool
-    ensures { result ≡ is_other_whole word.now }
-{
-    word.as_bytes().starts_with(b"--delegation-token=")
-        || word.as_bytes().starts_with(b"--user-principal=")
-}
-
 /// The word that is passed on at a place.
 fn held_at(place: Place, word: &str) -> Option<&str>
     ensures { option_to_list (option_map (λ text. text.now) result) ≡ held_at place word.entry.now }
@@ -78,7 +71,11 @@ fn held_at(place: Place, word: &str) -> Option<&str>
         Place::BehindOther => Some(OTHER_RESOURCE),
         Place::Anywhere if is_ignored(word) || is_ignored_whole(word) => None,
         Place::Anywhere if is_other(word) => Some("--topic"),
-        Place::Anywhere if is_other_whole(word) => Some("--topic=(another kind of resource)"),
+        Place::Anywhere
+            if word.as_bytes().starts_with(b"--delegation-token=")
+                || word.as_bytes().starts_with(b"--user-principal=") => {
+            Some("--topic=(another kind of resource)")
+        }
         Place::Anywhere => Some(word),
     }
 }

@@ -1,7 +1,7 @@
 //! The settings of a broker.
 
 ghost use Rattle.std.specs.Prelude.{◌≡◌, ◌∷◌, [], IfOk, Ok, map};
-ghost use Rattle.kob_policy_text.specs.Lines.{between_semicolons, everyone_item, has_key_bytes};
+ghost use Rattle.kob_policy_text.specs.Lines.{between_semicolons, has_key_bytes};
 ghost use Rattle.kob_policy_text.specs.Lines.{is_other_property, is_property};
 ghost use Rattle.kob_policy_text.specs.Lines.{property_items, super_item};
 ghost use Rattle.kob_policy_text.specs.Listing.{first_parts, trimmed};
@@ -53,18 +53,6 @@ fn super_items(alloc: Global, parts: &[&[u8]]) -> Result<Vec<Item>, LineError>
     Ok(items)
 }
 
-fn everyone_item(value: &[u8]) -> Result<Item, LineError>
-    ensures { Gives result (everyone_item value.now) }
-{
-    if value.eq_ignore_ascii_case(b"true") {
-        Ok(Item::Everyone(true))
-    } else if value.eq_ignore_ascii_case(b"false") {
-        Ok(Item::Everyone(false))
-    } else {
-        Err(LineError::Fault(FaultKind::BadWord))
-    }
-}
-
 #[tactic(auto, unfolding(crate::specs::Lines::property_items))]
 pub fn property_items(alloc: Global, line: &[u8]) -> Result<Vec<Item>, LineError>
     ensures { GivesSeen (λ items. items.items) result (property_items line.now) }
@@ -74,10 +62,14 @@ pub fn property_items(alloc: Global, line: &[u8]) -> Result<Vec<Item>, LineError
     if key == b"super.users".as_slice() {
         let parts = between_semicolons(alloc, value)?;
         super_items(alloc, &parts)
-    } else if key == b"allow.everyone.if.no.acl.found".as_slice() {
-        one(alloc, everyone_item(value)?)
-    } else {
+    } else if key != b"allow.everyone.if.no.acl.found".as_slice() {
         Err(LineError::Fault(FaultKind::BadLine))
+    } else if value.eq_ignore_ascii_case(b"true") {
+        one(alloc, Item::Everyone(true))
+    } else if value.eq_ignore_ascii_case(b"false") {
+        one(alloc, Item::Everyone(false))
+    } else {
+        Err(LineError::Fault(FaultKind::BadWord))
     }
 }
 

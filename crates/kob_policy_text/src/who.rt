@@ -6,7 +6,7 @@ ghost use Rattle.kob_policy_text.specs.Answers.{is_seen, seen_text, seen_texts};
 ghost use Rattle.kob_policy_text.specs.Answers.{sees_text, who_line};
 ghost use Rattle.kob_policy_text.specs.Parties.{super_grant};
 ghost use Rattle.kob_policy_text.specs.Review.{consumers_text, grants_text};
-ghost use Rattle.kob_policy_text.specs.Review.{is_taken_away, is_told, is_yes_for, speaks_for};
+ghost use Rattle.kob_policy_text.specs.Review.{is_told, is_yes_for, speaks_for};
 ghost use Rattle.kob_policy_text.specs.Review.{target_at, told_text, who_list, who_text};
 
 use crate::asked::Asked;
@@ -101,28 +101,14 @@ fn speaks_for(one: &Option<Text>, party: &Option<Text>) -> bool
     }
 }
 
-fn is_yes_for(answer: &Answer, other: &Answer) -> bool
-    ensures { result ≡ is_yes_for answer.now other.now }
-{
-    other.verdict.is_granted()
-        && speaks_for(&other.principal, &answer.principal)
-        && speaks_for(&other.host, &answer.host)
-}
-
 fn any_yes_for(answers: &[Answer], answer: &Answer) -> bool
     ensures { result ≡ list_any (is_yes_for answer.now) answers.now }
 {
-    answers.iter().any(|other| is_yes_for(answer, other))
-}
-
-/// Whether a deny takes away what another answer grants.
-fn is_taken_away(answers: &[Answer], answer: &Answer) -> bool
-    ensures { result ≡ is_taken_away answer.now.verdict answers.now answer.now }
-{
-    match answer.verdict {
-        Verdict::DeniedBy(_) => any_yes_for(answers, answer),
-        Verdict::Super | Verdict::AllowedBy(_) | Verdict::NoAllow | Verdict::NoAclFound => false,
-    }
+    answers.iter().any(|other| {
+        other.verdict.is_granted()
+            && speaks_for(&other.principal, &answer.principal)
+            && speaks_for(&other.host, &answer.host)
+    })
 }
 
 /// Whether `who` lists one of its answers: a yes, or a no by a deny that takes away what another of
@@ -130,7 +116,8 @@ fn is_taken_away(answers: &[Answer], answer: &Answer) -> bool
 pub fn is_told(answers: &[Answer], answer: &Answer) -> bool
     ensures { result ≡ is_told answers.now answer.now }
 {
-    (answer.verdict.is_granted() || is_taken_away(answers, answer))
+    (answer.verdict.is_granted()
+        || matches!(answer.verdict, Verdict::DeniedBy(_)) && any_yes_for(answers, answer))
         && !(names_all("User:*", &answer.principal) || names_all("*", &answer.host))
 }
 
