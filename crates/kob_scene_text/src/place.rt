@@ -65,16 +65,9 @@ fn place_by(
 fn first_place(faults: &[Option<SceneFaultKind>], kind: SceneFaultKind) -> Option<usize>
     ensures { result ≡ position (is_of kind) faults.now }
 {
-    faults.iter().position(|fault| is_of(kind, *fault))
-}
-
-fn is_of(kind: SceneFaultKind, fault: Option<SceneFaultKind>) -> bool
-    ensures { result ≡ is_of kind fault }
-{
-    match fault {
-        Some(fault) => same_kind(fault, kind),
-        None => false,
-    }
+    faults
+        .iter()
+        .position(|fault| fault.is_some_and(|fault| same_kind(fault, kind)))
 }
 
 pub(crate) fn same_kind(one: SceneFaultKind, other: SceneFaultKind) -> bool

@@ -1,12 +1,11 @@
 //! Lines that are a step of a worker.
 
 ghost use Rattle.std.specs.Prelude.{string_bytes};
-ghost use Rattle.uuid.specs.Text.{parsed};
 ghost use Rattle.kob_script.specs.Words.{Gives as ScriptGives, GivesSeen as ScriptGivesSeen};
 ghost use Rattle.kob_script.specs.Words.{text_of};
 ghost use Rattle.kob_scene_text.specs.Reading.{Gives, GivesSeen};
 ghost use Rattle.kob_scene_text.specs.Steps.{change_of, consumer_step_of};
-ghost use Rattle.kob_scene_text.specs.Steps.{expected_of, id_in, id_of, loss_of, record_of};
+ghost use Rattle.kob_scene_text.specs.Steps.{expected_of, id_of, loss_of, record_of};
 ghost use Rattle.kob_scene_text.specs.Steps.{service_step_of, service_told, written};
 
 use crate::fault::{BAD_LINE, SceneFaultKind, StepError};
@@ -156,13 +155,6 @@ pub(crate) fn id_of(word: &Word<'_>) -> Result<Uuid, StepError>
     ensures { Gives result (id_of word.now) }
 {
     let text = lent_text_of(word)?;
-    id_in(text)
-}
-
-/// The UUID that a text writes.
-fn id_in(text: &str) -> Result<Uuid, StepError>
-    ensures { Gives result (id_in (parsed text.now)) }
-{
     match Uuid::parse_str(text) {
         Ok(id) => Ok(id),
         Err(_) => Err(StepError::Fault(SceneFaultKind::BadId)),
