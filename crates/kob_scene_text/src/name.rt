@@ -1,7 +1,7 @@
 //! Names of workers, the words that cannot be names, and who works under a name.
 
 ghost use Rattle.std.specs.Prelude.{◌≡◌};
-ghost use Rattle.kob_script.specs.Words.{Gives as ScriptGives, named_host, named_principal};
+ghost use Rattle.kob_script.specs.Words.{Gives as ScriptGives};
 ghost use Rattle.kob_scene_text.specs.Workers.{consumer_named, is_keyword, is_name, is_name_byte};
 ghost use Rattle.kob_scene_text.specs.Workers.{new_name, service_named, who_of, worker_named};
 ghost use Rattle.kob_scene_text.specs.Reading.{Gives};
@@ -10,7 +10,7 @@ ghost use Rattle.std.specs.List.{list_all};
 use crate::fault::{SceneFaultKind, StepError};
 use crate::scene::{Consumer, Service};
 use kob_names::{Host, Principal, Text};
-use kob_script::{LineError, Word, host_of, lent_text_of, principal_of, text_of};
+use kob_script::{LineError, Word, named_host, named_principal, text_of};
 use std::alloc::Global;
 
 /// A worker by the place of its service or consumer in the list, from 0.
@@ -115,16 +115,4 @@ pub(crate) fn who_of(alloc: Global, principal: &Word<'_>, host: &Word<'_>) -> Re
     let principal = named_principal(alloc, principal)?;
     let host = named_host(alloc, host)?;
     Ok(Who { principal, host })
-}
-
-pub(crate) fn named_principal(alloc: Global, word: &Word<'_>) -> Result<Principal, LineError>
-    ensures { ScriptGives result (named_principal word.now) }
-{
-    principal_of(alloc, lent_text_of(word)?)
-}
-
-pub(crate) fn named_host(alloc: Global, word: &Word<'_>) -> Result<Host, LineError>
-    ensures { ScriptGives result (named_host word.now) }
-{
-    host_of(alloc, lent_text_of(word)?)
 }

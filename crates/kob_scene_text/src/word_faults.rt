@@ -14,13 +14,13 @@ ghost use Rattle.kob_scene_text.specs.declared.fault.SceneFaultKind as kinds;
 use crate::consumer_lines::{max_of, place_of, start_named};
 use crate::fault::{BAD_LINE, SceneFaultKind, StepError};
 use crate::forms::{Part, Slot, is_keyword};
-use crate::name::{is_name, named_host, named_principal};
+use crate::name::is_name;
 use crate::service_lines::{by_named, partitions_of, route_of};
 use crate::step_lines::id_of;
 use crate::workers_before::{is_declared, is_variant, worker_in};
 use kob_names::Text;
 use kob_router::{Route, RouteBy, RouteSettings};
-use kob_script::{LineError, Word, text_of};
+use kob_script::{LineError, Word, named_host, named_principal, text_of};
 use std::alloc::{AllocError, Global};
 
 /// Appends the faults of words, by a form, behind these lines of a scene.
