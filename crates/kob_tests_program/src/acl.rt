@@ -2,8 +2,8 @@
 
 use crate::no_allocation::READY;
 use kob_acl_cli::{CommandFault, commands_of, print_list, read_line};
-use kob_broker::{Broker, Settings};
-use kob_rights::{Body, Event, Reply};
+use kob_broker::Broker;
+use kob_rights::{Body, Reply};
 use kob_script::{Script, read_script};
 use std::alloc::Global;
 use std::process::Abort;
@@ -48,18 +48,6 @@ fn the_first_misread_word_is_named(rt: HostRuntime) {
     }
 }
 
-fn reply_to_last(rt: &impl Abort, alloc: Global, settings: Settings, events: &[Event]) -> Reply {
-    let mut broker = Broker::open(alloc, settings).expect(rt, READY);
-    let mut replies = broker.run(alloc, events).expect(rt, READY);
-    replies.pop().expect(rt, "a reply")
-}
-
-/// The reply to the last event of a script.
-fn last_reply(rt: &impl Abort, alloc: Global, script: &str) -> Reply {
-    let Script { settings, events } = read_script(alloc, script.as_bytes()).expect(rt, READY);
-    reply_to_last(rt, alloc, settings, events.as_slice())
-}
-
 const REMOVED: &str = "super User:root
 User:root h acl --add --allow-principal User:a --producer --consumer --topic t --group g
 User:root h acl --remove --topic t
@@ -73,10 +61,13 @@ binding 4 ALLOW User:a * Read Topic LITERAL t
 
 #[test]
 fn removed_bindings_are_printed(rt: HostRuntime) {
-    let reply = last_reply(&rt, rt.alloc(), REMOVED);
-    let Reply::Done(Body::Bindings(found)) = &reply else {
+    let alloc = rt.alloc();
+    let Script { settings, events } = read_script(alloc, REMOVED.as_bytes()).expect(&rt, READY);
+    let mut broker = Broker::open(alloc, settings).expect(&rt, READY);
+    let replies = broker.run(alloc, events.as_slice()).expect(&rt, READY);
+    let Some(Reply::Done(Body::Bindings(found))) = replies.last() else {
         panic!(rt; "not bindings");
     };
-    let printed = print_list(rt.alloc(), found.as_slice()).expect(&rt, "lines");
+    let printed = print_list(alloc, found.as_slice()).expect(&rt, "lines");
     assert_eq!(rt; printed.as_str(), LINES);
 }

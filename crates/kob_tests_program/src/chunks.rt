@@ -12,17 +12,15 @@ pub(crate) fn put_below(rt: &impl Abort, list: &mut ChunkList<u64>, count: u64) 
     }
 }
 
-/// Whether the list has the numbers below a million, read in order and at the edge of a chunk.
-fn is_whole(list: &ChunkList<u64>) -> bool {
-    list.iter().copied().eq(0..1_000_000)
-        && list.get(255) == Some(&255)
-        && list.get(256) == Some(&256)
-        && list.get(1_000_000).is_none()
-}
-
+// The list has the numbers, read in order and at the edge of a chunk.
 #[test]
 fn a_million_items(rt: HostRuntime) {
     let mut list = ChunkList::new(rt.alloc());
     put_below(&rt, &mut list, 1_000_000);
-    assert!(rt; is_whole(&list));
+    assert!(rt;
+        list.iter().copied().eq(0..1_000_000)
+            && list.get(255) == Some(&255)
+            && list.get(256) == Some(&256)
+            && list.get(1_000_000).is_none()
+    );
 }

@@ -51,23 +51,21 @@ fn hashed(text: &Text) -> u64 {
     hasher.finish()
 }
 
-/// Whether two texts hold that content, and are equal and hashed alike.
-fn are_alike(one: &Text, other: &Text, content: &str) -> bool {
-    let hold = one.as_str() == content && other.as_str() == content && one.len() == content.len();
-    hold && one == other && one.same(other) && hashed(one) == hashed(other)
-}
-
 /// A copy of a copy of the content.
 pub(crate) fn copied_twice(alloc: Global, content: &str) -> Result<Text, AllocError> {
     Text::copied(alloc, content)?.copy(alloc)
 }
 
-/// A copy of a copy of the content and the string itself are alike.
+/// A copy of a copy of the content and the string itself hold it, and are equal and hashed alike.
 fn is_held(rt: &impl Abort, alloc: Global, content: &str) {
     let copied = copied_twice(alloc, content).expect(rt, "a copy");
     let string = String::from_str(alloc, content).expect(rt, READY);
-    let taken_over = Text::from_string(string);
-    assert!(rt; are_alike(&copied, &taken_over, content), "{content}");
+    let other = Text::from_string(string);
+    let hold = copied.as_str() == content
+        && other.as_str() == content
+        && copied.len() == content.len();
+    let are_alike = copied == other && copied.same(&other) && hashed(&copied) == hashed(&other);
+    assert!(rt; hold && are_alike, "{content}");
 }
 
 #[test]

@@ -1,8 +1,8 @@
 //! Changes and refusals that are committed without allocations. `.ci/refuse` runs them with every
 //! allocation refused from `refuse_from_here` on.
 
-use kob_broker::{Broker, Settings};
-use kob_rights::{Event, Reason, Reply};
+use kob_broker::Broker;
+use kob_rights::{Reason, Reply};
 use kob_script::{Script, read_script};
 use std::alloc::Global;
 use std::process::Abort;
@@ -31,35 +31,8 @@ fn is_for(reply: &Reply, reason: Option<Reason>) -> bool {
     }
 }
 
-/// The last of the events, once it is prepared, shows such a reply, and then has it.
-fn ends_for(
-    rt: &impl Abort,
-    alloc: Global,
-    broker: &mut Broker,
-    events: &[Event],
-    reason: Option<Reason>,
-) {
-    let (last, before) = events.split_last().expect(rt, READY);
-    broker.run(alloc, before).expect(rt, READY);
-    let prepared = broker.prepare(alloc, last).expect(rt, READY);
-    refuse_from_here(alloc);
-    let is_shown = is_for(prepared.reply(), reason);
-    let reply = broker.commit(prepared);
-    assert!(rt; is_shown && is_for(&reply, reason));
-}
-
-fn plays(
-    rt: &impl Abort,
-    alloc: Global,
-    settings: Settings,
-    events: &[Event],
-    reason: Option<Reason>,
-) {
-    let mut broker = Broker::open(alloc, settings).expect(rt, READY);
-    ends_for(rt, alloc, &mut broker, events, reason);
-}
-
-/// The last request of these pieces of a script, after the topic `t` was created, comes to that.
+/// The last request of these pieces of a script, after the topic `t` was created, comes to that:
+/// once it is prepared, it shows such a reply, and then has it.
 fn comes_to(rt: &impl Abort, alloc: Global, lines: [&str; 3], reason: Option<Reason>) {
     let [first, second, third] = lines;
     let script = format!(in alloc;
@@ -67,7 +40,14 @@ fn comes_to(rt: &impl Abort, alloc: Global, lines: [&str; 3], reason: Option<Rea
     );
     let script = script.expect(rt, READY);
     let Script { settings, events } = read_script(alloc, script.as_bytes()).expect(rt, READY);
-    plays(rt, alloc, settings, events.as_slice(), reason);
+    let mut broker = Broker::open(alloc, settings).expect(rt, READY);
+    let (last, before) = events.as_slice().split_last().expect(rt, READY);
+    broker.run(alloc, before).expect(rt, READY);
+    let prepared = broker.prepare(alloc, last).expect(rt, READY);
+    refuse_from_here(alloc);
+    let is_shown = is_for(prepared.reply(), reason);
+    let reply = broker.commit(prepared);
+    assert!(rt; is_shown && is_for(&reply, reason));
 }
 
 #[test]

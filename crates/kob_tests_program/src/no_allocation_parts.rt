@@ -11,26 +11,21 @@ use kob_prefix_tree::{PatternKind, PrefixTree};
 use std::alloc::Global;
 use std::process::Abort;
 
-/// Whether an authorizer is opened, and grants a super user at once.
-fn opens(alloc: Global, supers: Vec<Principal>, root: &Principal, from: &Host) -> bool {
-    refuse_from_here(alloc);
-    let authorizer = Authorizer::open(alloc, supers, false);
-    let (write, kind) = (Operation::Write, ResourceKind::Topic);
-    let verdict = authorizer.authorize(root, from, write, kind, "orders");
-    let listed = authorizer.supers().len();
-    verdict == Verdict::Super && listed == 1
-}
-
 fn user(rt: &impl Abort, alloc: Global) -> Principal {
     Principal::parse(alloc, "User:svc").expect(rt, READY)
 }
 
+// It grants a super user at once.
 #[test]
 fn an_authorizer_is_opened(rt: HostRuntime) {
     let alloc = rt.alloc();
     let (root, from) = (user(&rt, alloc), Host::parse(alloc, "h").expect(&rt, READY));
     let supers = vec![in alloc; user(&rt, alloc)].expect(&rt, READY);
-    assert!(rt; opens(alloc, supers, &root, &from));
+    refuse_from_here(alloc);
+    let authorizer = Authorizer::open(alloc, supers, false);
+    let (write, kind) = (Operation::Write, ResourceKind::Topic);
+    let verdict = authorizer.authorize(&root, &from, write, kind, "orders");
+    assert!(rt; verdict == Verdict::Super && authorizer.supers().len() == 1);
 }
 
 /// Adds a serial, and inserts two that are prepared, in another order, which splits a node.

@@ -1,7 +1,7 @@
 //! Scripts on a broker that goes on after it ran out of memory. `.ci/refuse` runs them with each
 //! allocation refused in turn.
 
-use kob_broker::{Broker, Settings, Stopped};
+use kob_broker::{Broker, Stopped};
 use kob_rights::{Event, Reply};
 use kob_script::{Script, print_reply, read_script};
 use std::alloc::Global;
@@ -25,25 +25,12 @@ fn plays(alloc: Global, broker: &mut Broker, events: &[Event], text: &mut Vec<u8
     print(text, (done as u64).saturating_add(1), &rest)
 }
 
-fn plays_all(
-    alloc: Global,
-    settings: Settings,
-    events: &[Event],
-    text: &mut Vec<u8>,
-) -> Option<()> {
-    let mut broker = Broker::open(alloc, settings).ok()?;
-    plays(alloc, &mut broker, events, text)
-}
-
-fn plays_script(alloc: Global, script: &str, text: &mut Vec<u8>) -> Option<()> {
-    let Script { settings, events } = read_script(alloc, script.as_bytes()).ok()?;
-    plays_all(alloc, settings, events.as_slice(), text)
-}
-
 /// Whether this is printed for the replies to a script's events.
 fn prints(alloc: Global, script: &str, expected: &str) -> Option<bool> {
     let mut text = Vec::new(alloc);
-    plays_script(alloc, script, &mut text)?;
+    let Script { settings, events } = read_script(alloc, script.as_bytes()).ok()?;
+    let mut broker = Broker::open(alloc, settings).ok()?;
+    plays(alloc, &mut broker, events.as_slice(), &mut text)?;
     Some(text.as_slice() == expected.as_bytes())
 }
 

@@ -107,22 +107,19 @@ fn each_prefix_ends(rt: HostRuntime) {
     }
 }
 
-/// Whether a reader that fails after this number of calls leaves nothing written, and one that
-/// reaches the end before that plays the script.
-fn reads(alloc: Global, calls: usize) -> bool {
-    let (ended, output) = if calls <= SCRIPT.len() {
-        (Err(RunFault::ReadFailed), "")
-    } else {
-        (Ok(Ended::Clean), OUTPUT)
-    };
-    let reader = Shaken::new(SCRIPT.as_bytes(), 1, calls);
-    play(alloc, reader, output.as_bytes()) == (ended, true)
-}
-
+// A reader that fails after this number of calls leaves nothing written, and one that reaches the
+// end before that plays the script.
 #[test]
 fn failed_reads_write_nothing(rt: HostRuntime) {
     for calls in 0..SCRIPT.len() + 2 {
-        assert!(rt; reads(rt.alloc(), calls), "{calls} calls");
+        let (ended, output) = if calls <= SCRIPT.len() {
+            (Err(RunFault::ReadFailed), "")
+        } else {
+            (Ok(Ended::Clean), OUTPUT)
+        };
+        let reader = Shaken::new(SCRIPT.as_bytes(), 1, calls);
+        let played = play(rt.alloc(), reader, output.as_bytes());
+        assert!(rt; played == (ended, true), "{calls} calls");
     }
 }
 
@@ -196,21 +193,6 @@ fn failed_writes_leave_a_front(rt: HostRuntime) {
     }
 }
 
-/// Appends a reply, which ends with a value.
-fn put_reply(
-    rt: &impl Abort,
-    alloc: Global,
-    output: &mut Vec<u8>,
-    number: u32,
-    kind: &str,
-    value: &[u8],
-) {
-    let reply = format!(in alloc; "{number} ok {kind}").expect(rt, READY);
-    output.extend_from_slice(reply.as_bytes()).expect(rt, READY);
-    output.extend_from_slice(value).expect(rt, READY);
-    output.extend_from_slice(b"\n").expect(rt, READY);
-}
-
 /// Appends a request and its reply. Two of the numbers request a reply that is longer than a piece,
 /// all others a short one.
 fn ask(
@@ -227,7 +209,10 @@ fn ask(
         (b"\nUser:r h groups".as_slice(), "groups", b"".as_slice())
     };
     script.extend_from_slice(request).expect(rt, READY);
-    put_reply(rt, alloc, output, number, kind, value);
+    let reply = format!(in alloc; "{number} ok {kind}").expect(rt, READY);
+    output.extend_from_slice(reply.as_bytes()).expect(rt, READY);
+    output.extend_from_slice(value).expect(rt, READY);
+    output.extend_from_slice(b"\n").expect(rt, READY);
 }
 
 // The pieces: 65,536 bytes of short replies; those before the first long reply; that one; the

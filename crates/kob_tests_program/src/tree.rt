@@ -109,16 +109,15 @@ fn a_key_of_a_million_bytes_comes_and_goes(rt: HostRuntime) {
     assert!(rt; lets_three_go(&mut tree, &key));
 }
 
-/// Three additions, of which the last splits a node, and which of them were made.
-fn adds(alloc: Global, tree: &mut PrefixTree) -> [bool; 3] {
-    let first = tree.add(alloc, b"ab", PatternKind::Prefixed, 1).is_ok();
-    let second = tree.add(alloc, b"abcd", PatternKind::Prefixed, 2).is_ok();
+/// Three additions, of which the last splits a node. Wherever an allocation was refused, the tree is
+/// as it was before that addition; run with each allocation refused in turn.
+#[test]
+fn refused_addition_leaves_the_tree(rt: HostRuntime) {
+    let mut tree = PrefixTree::new();
+    let (alloc, prefixed) = (rt.alloc(), PatternKind::Prefixed);
+    let first = tree.add(alloc, b"ab", prefixed, 1).is_ok();
+    let second = tree.add(alloc, b"abcd", prefixed, 2).is_ok();
     let third = tree.add(alloc, b"abc", PatternKind::Literal, 3).is_ok();
-    [first, second, third]
-}
-
-/// Whether the tree holds what was added.
-fn holds(tree: &PrefixTree, [first, second, third]: [bool; 3]) -> bool {
     let mut walk = tree.walk(b"abcd");
     let walked = (walk.next(), walk.next(), walk.next());
     let expected = match (first, second) {
@@ -128,14 +127,6 @@ fn holds(tree: &PrefixTree, [first, second, third]: [bool; 3]) -> bool {
         (false, false) => (None, None, None),
     };
     let has_third = tree.literal(b"abc").eq([3]);
-    walked == expected && has_third == third && (tree.levels(b"abcd") == 5) == second
-}
-
-/// Wherever an allocation was refused, the tree is as it was before that addition; run with each
-/// allocation refused in turn.
-#[test]
-fn refused_addition_leaves_the_tree(rt: HostRuntime) {
-    let mut tree = PrefixTree::new();
-    let added = adds(rt.alloc(), &mut tree);
-    assert!(rt; holds(&tree, added));
+    let has_second = tree.levels(b"abcd") == 5;
+    assert!(rt; walked == expected && has_third == third && has_second == second);
 }
