@@ -53,12 +53,6 @@ abbrev pub CanList : Option Listing → List ℕ → List ℕ → GroupsByTopic 
 CanList None topic group lists = is_listed topic group lists ≡ true
 CanList (Some listing) topic group lists = Lists listing topic group lists
 
--- an empty list with room for one group, for the topic and the group of these names
-abbrev pub IsNewList : List ℕ → List ℕ → Listing → Type 0
-IsNewList topic group (InList place name) = ⊥
-IsNewList topic group (NewList topic' group' names) =
-    (topic' ≡ topic) × (group' ≡ group) × (names.value.entries ≡ []) × (0 < names.value.room)
-
 abbrev pub has_commits : List ℕ → Commits → Bool
 has_commits topic commits = is_some (lookup (same_text topic) commits)
 

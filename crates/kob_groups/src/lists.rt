@@ -59,7 +59,12 @@ impl GroupsByTopic {
             Some(place) => self.reserve_name(alloc, place, group),
             None => {
                 self.by_topic.reserve()?;
-                Listing::in_new_list(alloc, topic, group)
+                let mut names = OrderedMap::new(alloc);
+                names.reserve()?;
+                let names = Box::new(alloc, names)?;
+                let topic = topic.copy(alloc)?;
+                let group = group.copy(alloc)?;
+                Ok(Listing::NewList(topic, group, names))
             }
         }
     }
@@ -135,22 +140,5 @@ impl GroupsByTopic {
             ≡ (not (same_text topic.now t) && is_listed t g self.old) }
     {
         self.by_topic.remove(topic)
-    }
-}
-
-impl Listing {
-    ghost use Rattle.kob_groups.specs.Listed.{IsNewList};
-
-    /// A group in a list with capacity for it, and copies of both names. The error is out of
-    /// memory.
-    fn in_new_list(alloc: Global, topic: &Text, group: &Text) -> Result<Listing, AllocError>
-        ensures { IfOk result (IsNewList topic.now group.now) }
-    {
-        let mut names = OrderedMap::new(alloc);
-        names.reserve()?;
-        let names = Box::new(alloc, names)?;
-        let topic = topic.copy(alloc)?;
-        let group = group.copy(alloc)?;
-        Ok(Listing::NewList(topic, group, names))
     }
 }
