@@ -3,11 +3,8 @@ use Rattle.kob_words.specs.Words.{has_percent, unescaped}
 use Rattle.kob_words.proofs.Escapes.{plain_stands}
 use Rattle.kob_script.specs.Words.{BadEscape}
 use Rattle.kob_script.proofs.Imports.{Err, FaultKind, Ok, Result, is_some, ok_or, word_of, ◌>>=◌, Bool, IsFirstByte, IsFirstByte-value, List, None, Option, Some, Word, [], ap, arith, cut_at, drop, false, get_or, is_byte, length, length-drop, nat_lt, nat_tests, not, option_map, refl, sym, take, take_all, true, ℕ, ◌+◌, ◌-◌, ◌<◌, ◌∙◌, ◌∷◌, ◌≡◌, ◌≤◌}
-use Rattle.std.proofs.Common.{cond, filter, leb}
-use Rattle.std.specs.Prelude.{IsTrue, ◌==◌, ◌&&◌}
+use Rattle.std.proofs.Common.{cond, filter}
 use Rattle.std.specs.Option.{IfSome}
-use Rattle.std.proofs.lemmas.List.{drop_more, take_more}
-use Rattle.std.proofs.lemmas.List.Folds.{list_any-append}
 use Rattle.std.proofs.lemmas.List.Splits.{slice_split-cons_yes}
 use Rattle.std.specs.List.{position_or_len, slice_split, onto_first, slice_get}
 use Rattle.kob_script.specs.Words.{is_blank, raw_words}

@@ -1,5 +1,4 @@
-//! What stands between the blanks of a line. Blanks and percent signs are searched for 16 bytes at a
-//! time.
+//! What stands between the blanks of a line. Blanks and percent signs are searched for by 16 bytes.
 
 ghost use Rattle.std.specs.Prelude.{◌≡◌, ◌==◌, ◌+◌, ◌<◌, ◌≤◌, ◌∷◌, [], ℕ, false, get_or, true};
 ghost use Rattle.std.specs.Prelude.{IfSome, IsTrue, MatchOption, drop, length, map};

@@ -124,17 +124,23 @@ impl Requests {
             blocks.enter_next();
             return Ok(false);
         };
-        let read = Requests::read_again(alloc, next, line, answers, asked)?;
+        let mut few = [
+            NO_WORD, NO_WORD, NO_WORD, NO_WORD, NO_WORD, NO_WORD, NO_WORD, NO_WORD, NO_WORD,
+            NO_WORD,
+        ];
+        let read = Requests::read_again(alloc, next, &mut few, line, answers, asked)?;
+        drop(few);
         blocks.pass(size);
         Ok(read)
     }
 
     // Reads what a line without a fault asks for. If clap was asked about it, its answer is removed.
     #[inline(always)]
-    fn read_again(
+    fn read_again<'l>(
         alloc: Global,
         next: &mut Option<Event>,
-        line: &[u8],
+        few: &mut [Word<'l>],
+        line: &'l [u8],
         answers: &mut VecDeque<Option<CliArgs>>,
         asked: &mut VecDeque<Event>,
     ) -> Result<bool, AllocError>
@@ -148,11 +154,7 @@ impl Requests {
         ensures same { OnErr result ((asked.new.items ≡ [])
             × (answers.new.items ≡ answers.old.items)) }
     {
-        let mut few = [
-            NO_WORD, NO_WORD, NO_WORD, NO_WORD, NO_WORD, NO_WORD, NO_WORD, NO_WORD, NO_WORD,
-            NO_WORD,
-        ];
-        if let Some(count) = put_words(&mut few, line) {
+        if let Some(count) = put_words(few, line) {
             return Requests::read_cut(alloc, next, &few[..count], answers, asked);
         }
         let words = match words_of(alloc, line) {

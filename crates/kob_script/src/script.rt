@@ -100,15 +100,20 @@ pub fn check_script(alloc: Global, blocks: Vec<Bytes>) -> Result<CheckedScript, 
     };
     let mut answers = Vec::new(alloc);
     let mut number: u64 = 0;
+    // The words of a line take the places of those of the line before.
+    let mut few = [
+        NO_WORD, NO_WORD, NO_WORD, NO_WORD, NO_WORD, NO_WORD, NO_WORD, NO_WORD, NO_WORD, NO_WORD,
+    ];
     for block in blocks.as_slice() {
         for line in block.as_slice().lines() {
             number += 1;
-            if let Err(error) = check_line(alloc, &mut checking, &mut answers, line) {
+            if let Err(error) = check_line(alloc, &mut checking, &mut answers, &mut few, line) {
                 drop(checking);
                 return Err(fault_at(error, number));
             }
         }
     }
+    drop(few);
     drop(checking.last);
     Ok(CheckedScript {
         settings: Settings {
@@ -129,20 +134,18 @@ fn fault_at(error: LineError, line: u64) -> ScriptError
     }
 }
 
-fn check_line(
+fn check_line<'l>(
     alloc: Global,
     checking: &mut Checking,
     answers: &mut Vec<Option<CliArgs>>,
-    line: &[u8],
+    few: &mut [Word<'l>],
+    line: &'l [u8],
 ) -> Result<(), LineError>
     ensures { (events : List event.Event) → checking.old.requests ≡ length events
         → ChecksLine (script_so_far checking.old events) line.now checking.new
         answers.old.items answers.new.items result }
 {
-    let mut few = [
-        NO_WORD, NO_WORD, NO_WORD, NO_WORD, NO_WORD, NO_WORD, NO_WORD, NO_WORD, NO_WORD, NO_WORD,
-    ];
-    if let Some(count) = put_words(&mut few, line) {
+    if let Some(count) = put_words(few, line) {
         return check_cut(alloc, checking, answers, &few[..count]);
     }
     let words = words_of(alloc, line)?;

@@ -129,12 +129,12 @@ pub const NO_WORD: Word<'static> = Word {
     replaced: None,
 };
 
-/// Puts the words of a line into `few`, and returns how many they are. None if there are more, or if
-/// one may have an escape.
-pub fn put_words<'l>(few: &mut [Word<'l>; 10], line: &'l [u8]) -> Option<usize>
-    requires { length few.old ≡ 10 }
+/// Puts the words of a line at the front of `few`, and returns how many they are. None if there are
+/// more, or if one may have an escape.
+pub fn put_words<'l>(few: &mut [Word<'l>], line: &'l [u8]) -> Option<usize>
     ensures put { IfSome result (λ count. words_of line.now ≡ Ok (take count few.new)) }
-    ensures within { IfSome result (λ count. count ≤ 10) }
+    ensures within { IfSome result (λ count. count ≤ length few.new) }
+    ensures length { length few.new ≡ length few.old }
 {
     if is_skipped(line) {
         return Some(0);
@@ -144,11 +144,11 @@ pub fn put_words<'l>(few: &mut [Word<'l>; 10], line: &'l [u8]) -> Option<usize>
 
 // The same for a line that is not skipped.
 #[inline(always)]
-fn put_plain<'l>(few: &mut [Word<'l>; 10], line: &'l [u8]) -> Option<usize>
-    requires { length few.old ≡ 10 }
+fn put_plain<'l>(few: &mut [Word<'l>], line: &'l [u8]) -> Option<usize>
     ensures put { IfSome result (λ count.
         each word_of (raw_words line.now) ≡ Ok (take count few.new)) }
-    ensures within { IfSome result (λ count. count ≤ 10) }
+    ensures within { IfSome result (λ count. count ≤ length few.new) }
+    ensures length { length few.new ≡ length few.old }
 {
     let mut count = 0;
     let mut words = RawWords::of(line);

@@ -7,8 +7,8 @@ use Rattle.kob_script.proofs.words.put_plain.Given as goal
 
 abbrev pub invariant-loop-raw : goal.invariant-loop-raw
 invariant-loop-raw l = record {
-  few : l.count ≤ 10;
-  room : length l.few ≡ 10;
+  few : l.count ≤ length l.few;
+  room : length l.few ≡ length l.fn.few;
   words : IsTrue l.words.is_plain → with_front (take l.count l.few) (each word_of (words_left l.words)) ≡ each word_of (raw_words l.line);
 }
 

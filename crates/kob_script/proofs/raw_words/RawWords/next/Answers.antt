@@ -1,4 +1,4 @@
-use Rattle.kob_script.proofs.Imports.{ap, arith, drop, length, raw_words, sym, take, ◌-◌, ◌∙◌, ◌∷◌}
+use Rattle.kob_script.proofs.Imports.{ap, arith, drop, length, sym, take, ◌-◌, ◌∙◌, ◌∷◌}
 use Rattle.kob_script.proofs.RawWords.{behind_word, plain_part, word_passed}
 use Rattle.kob_script.proofs.raw_words.RawWords.next.Goals as goal
 

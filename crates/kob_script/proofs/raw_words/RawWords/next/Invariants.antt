@@ -1,5 +1,5 @@
 -- No word was passed.
-use Rattle.kob_script.proofs.Imports.{length, ◌-◌, ◌≡◌, ◌≤◌}
+use Rattle.kob_script.proofs.Imports.{length, ◌-◌, ◌≡◌}
 use Rattle.std.specs.Prelude.{IsTrue}
 use Rattle.kob_script.proofs.RawWords.{words_left}
 use Rattle.kob_script.proofs.raw_words.RawWords.next.Given as goal

@@ -1,4 +1,4 @@
-use Rattle.kob_script.proofs.Imports.{arith, get_or, length, refl, rules, sym, ◌+◌, ◌∙◌}
+use Rattle.kob_script.proofs.Imports.{arith, refl, sym}
 use Rattle.kob_script.proofs.RawWords.{bits_behind, blank_there, is_before_end, letters_before, letters_joined, no_blank, was_plain}
 use Rattle.kob_script.proofs.raw_words.RawWords.pass_blank.Goals as goal
 
