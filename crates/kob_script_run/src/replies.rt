@@ -1,6 +1,6 @@
 //! The replies to a script, served, printed and written one after another.
 
-ghost use Rattle.std.specs.Prelude.{◌≡◌, ◌<◌, ◌≤◌, List, [], ◌∷◌, Ok, length};
+ghost use Rattle.std.specs.Prelude.{◌≡◌, ◌<◌, ◌≤◌, List, [], ◌∷◌, ◌++◌, Ok, length};
 ghost use Rattle.std.specs.Prelude.{vec_len, vec_capacity};
 ghost use Rattle.std.specs.Prelude.{IfOk, OnOk, OnErr};
 ghost use Rattle.kob_broker.specs.Step.{state_of, step, replies_of};
@@ -21,7 +21,7 @@ use crate::transfer::write_all;
 use crate::writing::WriteFailed;
 use kob_broker::{Broker, OpenFault};
 use kob_names::Settings;
-use kob_rights::Event;
+use kob_rights::{Event, Request};
 use kob_script::{CheckedScript, Requests, print_reply};
 use std::alloc::{AllocError, Global};
 use std::io::Write;
@@ -39,8 +39,7 @@ fn broker_by(alloc: Global, settings: Settings) -> Result<Broker, AllocError>
     }
 }
 
-// Serves an event, and prints its reply after its number in place of what `out` held. The records of
-// a FETCH are printed from the log, and the names of all topics from the catalog; none is copied before.
+// Serves an event, and prints its reply after its number in place of what `out` held.
 fn print_reply_to(
     alloc: Global,
     broker: &mut Broker,
@@ -54,12 +53,48 @@ fn print_reply_to(
         ≡ (step retained_meaning (state_of broker.old) event.old).state) }
 {
     out.clear();
+    match &event.request {
+        Request::Fetch(_) | Request::Metadata(_) => print_lent(alloc, broker, event, number, out),
+        _ => print_served(alloc, broker, event, number, out),
+    }
+}
+
+// The same behind what `out` has. The records of a FETCH are printed from the log, and the names of
+// all topics from the catalog; none is copied before. A frame of its own, since both take much room.
+#[inline(never)]
+fn print_lent(
+    alloc: Global,
+    broker: &mut Broker,
+    event: &mut Event,
+    number: u64,
+    out: &mut Vec<u8>,
+) -> Result<(), AllocError>
+    ensures text { OnOk result (out.new.items ≡ out.old.items
+        ++ reply_text number (step retained_meaning (state_of broker.old) event.old).reply) }
+    ensures state { OnOk result (state_of broker.new
+        ≡ (step retained_meaning (state_of broker.old) event.old).state) }
+{
     if let Some(records) = broker.lend_records(alloc, event)? {
         return print_records(out, number, &records);
     }
     if let Some(topics) = broker.lend_topics(event) {
         return print_topics(out, number, topics);
     }
+    print_served(alloc, broker, event, number, out)
+}
+
+fn print_served(
+    alloc: Global,
+    broker: &mut Broker,
+    event: &mut Event,
+    number: u64,
+    out: &mut Vec<u8>,
+) -> Result<(), AllocError>
+    ensures text { OnOk result (out.new.items ≡ out.old.items
+        ++ reply_text number (step retained_meaning (state_of broker.old) event.old).reply) }
+    ensures state { OnOk result (state_of broker.new
+        ≡ (step retained_meaning (state_of broker.old) event.old).state) }
+{
     let reply = broker.serve_taking(alloc, event)?;
     print_reply(out, number, &reply)
 }
