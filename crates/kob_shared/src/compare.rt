@@ -1,6 +1,6 @@
 //! Comparing a journal with the receipts of a fleet's workers.
 
-ghost use Rattle.std.specs.Prelude.{◌≡◌, ◌<◌, ◌≤◌, ◌↔◌, IfSome, IsTrue, length, slice_get, take};
+ghost use Rattle.std.specs.Prelude.{◌≡◌, ◌<◌, ◌≤◌, IfSome, length, slice_get, take};
 ghost use Rattle.std.specs.Prelude.{MatchOption, Some};
 ghost use Rattle.std.specs.List.{All};
 ghost use Rattle.kob_shared.specs.Fleets.{IsDifference, IsFirstDifference, IsKept, IsRising};
@@ -45,7 +45,7 @@ fn walk(journal: &Journal, worker: usize, events: &[Event], told: &[Receipt]) ->
         if place < receipt.place {
             return Some(place);
         }
-        if !is_at(events, next, &entry.event) {
+        if !events[next].same(&entry.event) {
             return Some(place);
         }
         if !entry.reply.same(&receipt.reply) {
@@ -57,14 +57,6 @@ fn walk(journal: &Journal, worker: usize, events: &[Event], told: &[Receipt]) ->
         return Some(told[next].place);
     }
     None
-}
-
-/// Whether the k-th event, counted from 0, is this one.
-fn is_at(events: &[Event], k: usize, event: &Event) -> bool
-    requires { k < length events.now }
-    ensures { IsTrue result ↔ (slice_get events.now k ≡ Some event.now) }
-{
-    events[k].same(event)
 }
 
 /// A place where the journal and a worker's receipts differ.

@@ -1,6 +1,6 @@
 //! Desks: sessions that note their events and receipts.
 
-ghost use Rattle.std.specs.Prelude.{◌≡◌, ◌<◌, ◌^◌, length, vec_len, vec_capacity, IfErr, OnOk};
+ghost use Rattle.std.specs.Prelude.{◌≡◌, ◌<◌, ◌^◌, length, IfErr, OnOk};
 ghost use Rattle.std.specs.Prelude.{OnErr};
 ghost use Rattle.kob_shared.specs.Journals.{IsHeard, nothing, IsStaleOnlyBelow};
 
@@ -10,7 +10,7 @@ use crate::notes::Notes;
 use crate::session::Session;
 use kob_names::PlainValue;
 use kob_rights::{Event, Request};
-use std::alloc::{AllocError, Global};
+use std::alloc::Global;
 use std::marker::Model;
 use std::sync::Wait;
 
@@ -79,7 +79,8 @@ impl<'a> Desk<'a> {
         ensures err { OnErr result (self.new ≡ self.old) }
         ensures stale { IfErr result (IsStaleOnlyBelow self.old.seat.seen) }
     {
-        make_room(&mut self.events, &mut self.receipts)?;
+        self.events.reserve(1)?;
+        self.receipts.reserve(1)?;
         let event = self.session.event(alloc, request)?;
         let noted = event.copy(alloc)?;
         let receipt = self.session.send(rt, alloc, event)?;
@@ -99,15 +100,4 @@ impl<'a> Desk<'a> {
         } = self;
         Notes::new(events, receipts)
     }
-}
-
-/// Reserves capacity for one more event and its receipt. The error is out of memory.
-fn make_room(events: &mut Vec<Event>, receipts: &mut Vec<Receipt>) -> Result<(), AllocError>
-    ensures events { events.new.items ≡ events.old.items }
-    ensures receipts { receipts.new.items ≡ receipts.old.items }
-    ensures room { OnOk result (vec_len events.new < vec_capacity events.new) }
-    ensures also { OnOk result (vec_len receipts.new < vec_capacity receipts.new) }
-{
-    events.reserve(1)?;
-    receipts.reserve(1)
 }

@@ -16,23 +16,9 @@ pub fn event_of(
 ) -> Result<Event, AllocError>
     ensures { IfOk result (λ event. event ≡ event_by principal.now host.now request) }
 {
-    let (principal, host) = asker_of(alloc, principal, host)?;
     Ok(Event {
-        principal,
-        host,
+        principal: principal.copy(alloc)?,
+        host: host.copy(alloc)?,
         request,
     })
-}
-
-/// Copies of the principal and the host that ask.
-fn asker_of(
-    alloc: Global,
-    principal: &Principal,
-    host: &Host,
-) -> Result<(Principal, Host), AllocError>
-    ensures { IfOk result (λ asker. (asker.0 ≡ principal.now) × (asker.1 ≡ host.now)) }
-{
-    let principal = principal.copy(alloc)?;
-    let host = host.copy(alloc)?;
-    Ok((principal, host))
 }

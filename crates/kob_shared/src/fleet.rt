@@ -106,19 +106,6 @@ fn serve_first(
     Ok(told)
 }
 
-/// Opens the journal of a broker that was just opened. The error is out of memory.
-fn open_journal(alloc: Global, broker: Broker) -> Result<Recorded, AllocError>
-    requires { IsFresh broker }
-    ensures journal { IfOk result (λ recorded. recorded.journal ≡ []) }
-    ensures limit { IfOk result (λ recorded. recorded.limit ≡ entry_limit) }
-    ensures opening { IfOk result (λ recorded. recorded.opening ≡ settings_of (state_of broker)) }
-{
-    match Recorded::open(alloc, broker, ENTRY_LIMIT) {
-        Ok(recorded) => Ok(recorded),
-        Err(refused) => Err(AllocError::from(refused)),
-    }
-}
-
 /// Serves the first events, as worker 0, into an empty journal, and notes them.
 fn serve_and_note(
     alloc: Global,
@@ -150,7 +137,7 @@ fn begin(alloc: Global, broker: Broker, first: Vec<Event>) -> Result<(Recorded, 
     ensures named { IfErr result (IsNamedWithin 0) }
     ensures full { IfErr result (IsFullOnlyPast entry_limit (vec_len first)) }
 {
-    let mut recorded = open_journal(alloc, broker)?;
+    let mut recorded = Recorded::open(alloc, broker, ENTRY_LIMIT).map_err(AllocError::from)?;
     let noted = serve_and_note(alloc, &mut recorded, first)?;
     Ok((recorded, noted))
 }

@@ -11,7 +11,6 @@ ghost use Rattle.kob_shared.specs.Fleets.{IsFleet};
 ghost use Rattle.kob_shared.specs.Runs.{IsTornOnlyWhere, IsLater, NamesWorkerWithin};
 ghost use Rattle.kob_shared.specs.Runs.{IsTaken, notes_of};
 
-use crate::compare::Difference;
 use crate::fleet::{Ran, find_tear, run_fleet};
 use crate::fleet_fault::FleetFault;
 use crate::fleet_stop::FleetStop;
@@ -101,7 +100,12 @@ fn end_of(
         Err(refused) => return Err(FleetFault::Stopped(FleetStop::Memory(refused))),
     };
     if let Some(difference) = difference {
-        return Err(torn(difference, found, transcripts));
+        return Err(FleetFault::Torn {
+            worker: difference.worker,
+            place: difference.place,
+            found,
+            transcripts,
+        });
     }
     let (broker, journal) = found.into_parts();
     Ok(FleetEnd {
@@ -109,18 +113,6 @@ fn end_of(
         journal,
         transcripts,
     })
-}
-
-/// The fault of a fleet whose journal and receipts differ there. Does not allocate.
-fn torn(difference: Difference, found: Recorded, transcripts: Vec<Transcript>) -> FleetFault
-    ensures { result ≡ FleetFault.Torn difference.worker difference.place found transcripts }
-{
-    FleetFault::Torn {
-        worker: difference.worker,
-        place: difference.place,
-        found,
-        transcripts,
-    }
 }
 
 /// Serves the first events as worker 0, and then runs each script in a thread of its own, numbered
@@ -147,29 +139,6 @@ pub fn run_scripts<R: Threads + Wait + Sync, G: Gate + Sync>(
     if scripts.len() > WORKER_LIMIT {
         return Err(FleetFault::TooManyWorkers);
     }
-    run_few(rt, alloc, broker, first, scripts, gate)
-}
-
-/// Runs scripts that are not too many, if the events of all workers fit a journal.
-fn run_few<R: Threads + Wait + Sync, G: Gate + Sync>(
-    rt: &R,
-    alloc: Global,
-    broker: Broker,
-    first: Vec<Event>,
-    scripts: Vec<Script>,
-    gate: &G,
-) -> Result<FleetEnd, FleetFault>
-    requires fresh { IsFresh broker }
-    requires few { vec_len scripts ≤ worker_limit }
-    ensures ok { IfOk result (λ end. IsFleet (state_of broker) first.items scripts.items
-        end.journal (state_of end.broker) end.transcripts.items) }
-    ensures workers { IsErrOf result FleetFault.TooManyWorkers → ⊥ }
-    ensures full { IsErrOf result FleetFault.JournalFull
-        ↔ (entry_limit < entries_asked first.items scripts.items) }
-    ensures torn { IfErr result
-        (IsTornOnlyWhere (settings_of (state_of broker)) (asked_of_all first.items scripts.items)) }
-    ensures named { IfErr result (NamesWorkerWithin (vec_len scripts)) }
-{
     if !has_room(first.as_slice(), scripts.as_slice()) {
         return Err(FleetFault::JournalFull);
     }

@@ -1,3 +1,4 @@
+use Rattle.std.proofs.Common.{rules}
 use Rattle.kob_shared.proofs.Words.{[], ap, arith, length-append, ◌++◌, ◌∙◌, ◌∷◌, ◌≡◌}
 use Rattle.kob_shared.proofs.Claims.{rises_push}
 use Rattle.kob_shared.proofs.desk.Desk.call.Goals as goal
@@ -10,9 +11,9 @@ invariant_of-self-2 g c =
     let receipt = c.in_ok-receipt.receipt in
     let served = c.in_ok-receipt.ensures.ok in
     let events : c.push_reserved.new.self.items ≡ old.events.items ++ event ∷ [] =
-    c.push_reserved.ensures.items ∙ ap (λ es. es ++ event ∷ []) c.make_room.ensures.events in
+    c.push_reserved.ensures.items ∙ ap (λ es. es ++ event ∷ []) (search rules) in
     let told : c.push_reserved-2.new.self.items ≡ old.receipts.items ++ receipt ∷ [] =
-    c.push_reserved-2.ensures.items ∙ ap (λ rs. rs ++ receipt ∷ []) c.make_room.ensures.receipts in (
+    c.push_reserved-2.ensures.items ∙ ap (λ rs. rs ++ receipt ∷ []) (search rules) in (
       rw (events, told) (omega (
         arith,
         length-append old.events.items (event ∷ []),
