@@ -1,6 +1,6 @@
 //! Who acts in a journal: as a principal, and as a super user.
 
-ghost use Rattle.std.specs.Prelude.{◌≡◌, ◌↔◌, IfOk, IsTrue, MatchOption};
+ghost use Rattle.std.specs.Prelude.{◌≡◌, IfOk, MatchOption};
 ghost use Rattle.kob_authorizer.specs.Decide.{is_super};
 ghost use Rattle.kob_delivery.specs.InTurn.{entries_of};
 ghost use Rattle.kob_delivery.specs.Reserved.{IsNoSuperUsers, IsOwnAct};
@@ -26,7 +26,7 @@ impl<'a> Asked for OwnAct<'a> {
     ghost holds = { λ asked. IsOwnAct asked.worker asked.principal.now };
 
     fn holds(&self, entry: &Entry) -> bool {
-        !acts_as(entry, self.principal) || entry.worker == self.worker
+        !entry.event.principal.same(self.principal) || entry.worker == self.worker
     }
 }
 
@@ -163,23 +163,10 @@ pub fn super_committer_in_turn(
     )
 }
 
-/// Whether an entry acts as the principal.
-fn acts_as(entry: &Entry, principal: &Principal) -> bool
-    ensures { IsTrue result ↔ (entry.now.event.principal ≡ principal.now) }
-{
-    entry.event.principal.same(principal)
-}
-
 /// Whether an entry's principal is a super user.
 fn is_super_users(entry: &Entry, supers: &Items<Principal>) -> bool
     ensures { result ≡ is_super supers.now entry.now.event.principal }
 {
-    is_listed(supers.as_slice(), &entry.event.principal)
-}
-
-/// Whether the principal is equal to one of these users.
-fn is_listed(users: &[Principal], who: &Principal) -> bool
-    ensures { result ≡ is_super users.now who.now }
-{
-    users.iter().any(|user| who == user)
+    let who = &entry.event.principal;
+    supers.as_slice().iter().any(|user| who == user)
 }

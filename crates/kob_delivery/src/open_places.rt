@@ -174,30 +174,11 @@ fn first_open(
             }
             let entry = journal.entry_at(place);
             let request = &entry.event.request;
-            let changed = follow(alloc, bindings, request, &entry.reply, resource, name)?;
-            others = others_after(changed, bindings.as_slice(), everyone, principal, operation);
+            if follow(alloc, bindings, request, &entry.reply, resource, name)? {
+                others = is_open_to_others(bindings.as_slice(), everyone, principal, operation);
+            }
         }
         before = sum(before, journal.len())?;
     }
     Ok(None)
-}
-
-/// Whether bindings that left the name to the principal leave it to others after an entry. They are
-/// examined only if the entry may have changed them.
-fn others_after(
-    changed: bool,
-    bindings: &[Draft],
-    everyone: bool,
-    principal: &Principal,
-    operation: Operation,
-) -> bool
-    requires { changed ≡ false
-        → is_open_to_others principal.now operation everyone bindings.now ≡ false }
-    ensures { result ≡ is_open_to_others principal.now operation everyone bindings.now }
-{
-    if changed {
-        is_open_to_others(bindings, everyone, principal, operation)
-    } else {
-        false
-    }
 }

@@ -4,7 +4,7 @@ ghost use Rattle.std.specs.List.{list_any};
 ghost use Rattle.std.specs.Prelude.{◌≡◌, ◌↔◌, IfOk, IsTrue, MatchOption, bytes_eq, map};
 ghost use Rattle.kob_delivery.specs.Delivered.{ids_of, carried_id};
 ghost use Rattle.kob_delivery.specs.Several.{AreRoutedTo, AreSharedTopics, IsFirstUnshared};
-ghost use Rattle.kob_delivery.specs.Several.{IsSharedTopic, SendsNone, goes_to_topic, is_one_of};
+ghost use Rattle.kob_delivery.specs.Several.{IsSharedTopic, goes_to_topic, is_one_of};
 ghost use Rattle.kob_outbox.specs.Contents.{id_text, stored_row};
 ghost use Rattle.kob_router.specs.Run.{dispatch_of};
 
@@ -36,9 +36,13 @@ impl<'a> Asked for OwnOrApart<'a> {
         (ids_of (map stored_row asked.rows.now)) };
 
     fn holds(&self, entry: &Entry) -> bool {
-        !produces(entry, self.topic)
-            || entry.worker == self.worker
-            || sends_none(&entry.event.request, self.rows)
+        if !produces(entry, self.topic) || entry.worker == self.worker {
+            return true;
+        }
+        match &entry.event.request {
+            Request::Produce(asked) => !carry_one(asked.batch.records.as_slice(), self.rows),
+            _ => true,
+        }
     }
 }
 
@@ -134,16 +138,6 @@ fn goes_to_topic(
         Ok(routed) => Ok(routed.topic.as_str() == topic.as_str()),
         Err(RecordFault::BadTopic) => Ok(false),
         Err(RecordFault::Memory(refused)) => Err(refused),
-    }
-}
-
-/// Whether a request sends no event id of the rows.
-fn sends_none(request: &Request, rows: &[Row]) -> bool
-    ensures { IsTrue result ↔ SendsNone (ids_of (map stored_row rows.now)) request.now }
-{
-    match request {
-        Request::Produce(asked) => !carry_one(asked.batch.records.as_slice(), rows),
-        _ => true,
     }
 }
 

@@ -4,6 +4,7 @@ use Rattle.kob_delivery.proofs.InTurn.{entry_there, place_within}
 use Rattle.kob_delivery.specs.InTurn.{entries_of}
 use Rattle.kob_delivery.specs.Reserved.{IsFirstUnreserved, is_open_to_others}
 use Rattle.kob_delivery.proofs.open_places.first_open.Goals as goal
+use Rattle.kob_delivery.proofs.open_places.first_open.Goals.{else-branch, then-branch}
 
 pub returns-then-others : goal.returns-then-others
 returns-then-others c =
@@ -45,10 +46,17 @@ loop-place-preserved c =
           (omega arith)
           (entry_there journals at journal before place c.entry_at-entry.result.now there
           c.loop-journal.invariant.counted c.entry_at-entry.ensures)
-          so_far.on c.in_ok-changed.ensures.after;
-      decide = c.others_after-others.ensures
-          ∙ ap (is_open_to_others c.args.principal.now c.args.operation c.args.opening.now.everyone)
-          c.as_slice-in-loop-place.ensures.value;
+          so_far.on c.in_ok-follow.ensures.after;
+      decide = elim c.if-branch.branch [
+        | then-branch w ↦
+            w.others-is ∙ w.is_open_to_others-others-then-branch.ensures
+            ∙ ap (is_open_to_others c.args.principal.now c.args.operation c.args.opening.now.everyone)
+            w.as_slice-then-branch.ensures.value
+        | else-branch w ↦
+            w.others-is ∙ so_far.decide
+            ∙ ap (is_open_to_others c.args.principal.now c.args.operation c.args.opening.now.everyone)
+            (sym (c.in_ok-follow.ensures.same w.if-branch.false))
+      ];
       reserved = reserved_more c.args.opening.now c.args.principal.now c.args.operation c.args.resource
           c.args.name.now (entries_of journals) (before + place) (before + (place + 1)) (omega arith) so_far.reserved here;
     }
