@@ -1,6 +1,6 @@
 //! Where each event of a service is.
 
-ghost use Rattle.std.specs.Prelude.{◌≡◌, ◌==◌, ℕ, IfOk, OnOk, cond, map, nat_eq, true};
+ghost use Rattle.std.specs.Prelude.{◌≡◌, ℕ, IfOk, map, nat_eq};
 ghost use Rattle.std.specs.HashSet.{contains};
 ghost use Rattle.std.specs.List.{list_any};
 ghost use Rattle.kob_delivery_check.specs.Fates.{fates_by, is_in_inbox, is_in_outbox};
@@ -49,20 +49,12 @@ fn ids_of_inbox(
     let recorded = events_by_id(alloc, events)?;
     let mut set = HashSet::new(alloc);
     for row in rows {
-        insert_unless(&mut set, is_altered(&recorded, row), row.id.as_u128())?;
+        if is_altered(&recorded, row) {
+            continue;
+        }
+        set.insert(row.id.as_u128())?;
     }
     Ok(set)
-}
-
-fn insert_unless(set: &mut HashSet<u128>, is_out: bool, id: u128) -> Result<(), AllocError>
-    ensures { OnOk result ((other : ℕ) → contains nat_eq set.new other
-        ≡ cond is_out (contains nat_eq set.old other)
-        (cond (id == other) true (contains nat_eq set.old other))) }
-{
-    if !is_out {
-        set.insert(id)?;
-    }
-    Ok(())
 }
 
 /// The ids of the rows of an outbox.

@@ -54,20 +54,11 @@ pub(crate) fn early_in(
     let mut early = Vec::new(alloc);
     for place in 0..arrivals.len() {
         let arrival = arrival_at(arrivals, place);
-        let before = before_of(&earlier, arrival.event);
+        let before = earlier.get(&arrival.event).copied().unwrap_or(None);
         push_unless(&mut early, is_next(&come, before), arrival, before)?;
         come.insert(arrival.event)?;
     }
     Ok(early)
-}
-
-fn before_of(earlier: &HashMap<u128, Option<u128>>, event: u128) -> Option<u128>
-    ensures { result ≡ unwrap_or (get nat_eq earlier.now event) None }
-{
-    match earlier.get(&event) {
-        Some(before) => *before,
-        None => None,
-    }
 }
 
 /// Whether no event was recorded before, or it is among those that came.

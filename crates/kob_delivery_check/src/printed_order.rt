@@ -3,7 +3,7 @@
 ghost use Rattle.std.specs.Prelude.{◌≡◌, ◌<◌, ◌++◌, OnOk, Some, length, map, slice_get};
 ghost use Rattle.kob_delivery_check.specs.PrintedOrder.{before_named, early_named, inbox_place};
 ghost use Rattle.kob_delivery_check.specs.PrintedOrder.{place_of, record_line, record_lines};
-ghost use Rattle.kob_delivery_check.specs.PrintedOrder.{row_line, row_lines};
+ghost use Rattle.kob_delivery_check.specs.PrintedOrder.{row_lines};
 
 use crate::cause::event_at;
 use crate::order::Early;
@@ -59,17 +59,6 @@ pub(crate) fn push_inbox_place(out: &mut Vec<u8>, at: u64) -> Result<(), AllocEr
     push_labelled(out, b" in the inbox at", at)
 }
 
-/// The line of a row of the inbox.
-#[tactic(auto, using(kob_words::proofs::Appending::appending))]
-fn push_row(out: &mut Vec<u8>, events: &[&OutboxEvent], early: Early) -> Result<(), AllocError>
-    ensures { OnOk result (out.new.items
-        ≡ out.old.items ++ row_line (map (λ event. event.now) events.now) early) }
-{
-    push_early_named(out, events, early.event)?;
-    push_inbox_place(out, early.at)?;
-    push_before_named(out, events, early.before)
-}
-
 /// The line of a record.
 #[tactic(auto, using(kob_words::proofs::Appending::appending))]
 fn push_record(
@@ -87,6 +76,7 @@ fn push_record(
 }
 
 /// A line for each row of the inbox that is out of order.
+#[tactic(auto, using(kob_words::proofs::Appending::appending))]
 pub(crate) fn push_rows(
     out: &mut Vec<u8>,
     events: &[&OutboxEvent],
@@ -95,8 +85,10 @@ pub(crate) fn push_rows(
     ensures { OnOk result (out.new.items
         ≡ out.old.items ++ row_lines (map (λ event. event.now) events.now) early.now) }
 {
-    for place in 0..early.len() {
-        push_row(out, events, early[place])?;
+    for one in early {
+        push_early_named(out, events, one.event)?;
+        push_inbox_place(out, one.at)?;
+        push_before_named(out, events, one.before)?;
     }
     Ok(())
 }

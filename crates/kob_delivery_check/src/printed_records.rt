@@ -3,7 +3,7 @@
 ghost use Rattle.std.specs.Prelude.{◌≡◌, ◌++◌, OnOk, Some, map};
 ghost use Rattle.std.specs.Option.{option_copied};
 ghost use Rattle.kob_words.specs.Words.{counted};
-ghost use Rattle.kob_delivery_check.specs.PrintedRecords.{by_text, cause_text, deed_text};
+ghost use Rattle.kob_delivery_check.specs.PrintedRecords.{cause_text, deed_text};
 ghost use Rattle.kob_delivery_check.specs.PrintedRecords.{doubled_by, doubled_item, doubled_lines};
 ghost use Rattle.kob_delivery_check.specs.PrintedRecords.{lost_item, lost_line, lost_lines};
 ghost use Rattle.kob_delivery_check.specs.PrintedRecords.{producer_of, sender_at, senders_text};
@@ -52,24 +52,6 @@ fn push_deed(out: &mut Vec<u8>, request: &Request, reply: &Reply) -> Result<(), 
     }
 }
 
-/// The entry that put a record out of reach.
-#[tactic(auto, using(kob_words::proofs::Appending::appending))]
-fn push_by(out: &mut Vec<u8>, journal: &Journal, by: Option<usize>) -> Result<(), AllocError>
-    ensures { OnOk result (out.new.items ≡ out.old.items ++ by_text journal.now by) }
-{
-    let Some(at) = by else {
-        return Ok(());
-    };
-    let Some(entry) = journal.get(at) else {
-        return Ok(());
-    };
-    out.extend_from_slice(b", entry")?;
-    push_counted(out, at as u64)?;
-    out.extend_from_slice(b":")?;
-    push_spaced(out, entry.event.principal.as_str().as_bytes())?;
-    push_deed(out, &entry.event.request, &entry.reply)
-}
-
 /// The partition that the PRODUCE of an entry names.
 #[tactic(auto, using(kob_words::proofs::Appending::appending))]
 fn push_unread(out: &mut Vec<u8>, entry: Option<&Entry>) -> Result<(), AllocError>
@@ -110,7 +92,18 @@ fn push_cause(
             by,
         } => {
             push_assigned(out, assignment, assigned, offset)?;
-            push_by(out, journal, by)
+            // (the entry that put the record out of reach)
+            let Some(at) = by else {
+                return Ok(());
+            };
+            let Some(entry) = journal.get(at) else {
+                return Ok(());
+            };
+            out.extend_from_slice(b", entry")?;
+            push_counted(out, at as u64)?;
+            out.extend_from_slice(b":")?;
+            push_spaced(out, entry.event.principal.as_str().as_bytes())?;
+            push_deed(out, &entry.event.request, &entry.reply)
         }
         Cause::KeptOut { row } => push_labelled(out, b", the inbox has its id at", row),
     }

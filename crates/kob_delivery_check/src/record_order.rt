@@ -1,7 +1,7 @@
 //! Which records are in their partition before an event that was recorded before them.
 
 ghost use Rattle.std.specs.Prelude.{◌≡◌, ◌++◌, IfOk, OnOk, map};
-ghost use Rattle.kob_delivery_check.specs.Order.{early_records, early_within};
+ghost use Rattle.kob_delivery_check.specs.Order.{early_records};
 ghost use Rattle.kob_delivery_check.specs.Order.{record_arrival};
 
 use crate::come::{Arrival, events_come};
@@ -34,35 +34,14 @@ pub fn early_records(
 {
     let mut early = Vec::new(alloc);
     for assigned in 0..reaches.len() {
-        push_within(
-            alloc,
-            &mut early,
-            assignment,
-            events,
-            assigned,
-            &reaches[assigned],
-        )?;
+        let mut records = Vec::new(alloc);
+        push_once(&mut records, assignment, assigned, &reaches[assigned])?;
+        let arrivals = record_arrivals(alloc, &records)?;
+        let events = events_come(alloc, events, &arrivals)?;
+        let found = early_in(alloc, &events, &arrivals)?;
+        push_each(&mut early, assigned, &found)?;
     }
     Ok(early)
-}
-
-fn push_within(
-    alloc: Global,
-    early: &mut Vec<EarlyRecord>,
-    assignment: &[Place],
-    events: &[&OutboxEvent],
-    assigned: usize,
-    reach: &Reach,
-) -> Result<(), AllocError>
-    ensures { OnOk result (early.new.items ≡ early.old.items ++ early_within assignment.now
-        (map (λ event. event.now) events.now) (assigned, reach.now)) }
-{
-    let mut records = Vec::new(alloc);
-    push_once(&mut records, assignment, assigned, reach)?;
-    let arrivals = record_arrivals(alloc, &records)?;
-    let events = events_come(alloc, events, &arrivals)?;
-    let found = early_in(alloc, &events, &arrivals)?;
-    push_each(early, assigned, &found)
 }
 
 fn record_arrivals(alloc: Global, records: &[Stored]) -> Result<Vec<Arrival>, AllocError>
