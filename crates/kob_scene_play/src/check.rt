@@ -5,7 +5,6 @@ ghost use Rattle.kob_delivery_check.specs.Printed.{check_text};
 ghost use Rattle.kob_router.specs.Line.{one_more};
 ghost use Rattle.kob_scene_play.specs.Checks.{AreDoubled, AreEarly, AreFates, AreLosses};
 ghost use Rattle.kob_scene_play.specs.Checks.{IsChecked, IsFound};
-ghost use Rattle.kob_scene_play.specs.Checks.{ahead_of};
 ghost use Rattle.kob_scene_play.specs.Checks.{early_in_topics, reaches_of, repeats_in};
 ghost use Rattle.kob_scene_play.specs.Checks.{unrecorded_by};
 ghost use Rattle.kob_scene_play.specs.Steps.{Tells};
@@ -178,7 +177,8 @@ pub(crate) fn fates_at(
     let mark = sender.mark()?;
     let waiting = sender.rows_after(mark, u32::MAX)?;
     let taken = taker.rows(alloc)?;
-    let ahead = ahead_of(alloc, journal, taker)?;
+    let reaches = reaches_of(alloc, journal, taker)?;
+    let ahead = records_ahead(alloc, &reaches)?;
     fates_of(alloc, sender.recorded(), &taken, &ahead, &waiting)
 }
 
@@ -191,18 +191,6 @@ fn reaches_of(
     ensures { IfOk result (λ reaches. reaches.items ≡ reaches_of journal.now taker.now) }
 {
     reaches_by(alloc, taker.start().is_latest(), journal, taker.consumer())
-}
-
-/// The records of events that a consumer has before it.
-fn ahead_of(
-    alloc: Global,
-    journal: &Journal,
-    taker: &ConsumerWorker,
-) -> Result<Vec<Stored>, AllocError>
-    ensures { IfOk result (λ ahead. ahead.items ≡ ahead_of journal.now taker.now) }
-{
-    let reaches = reaches_of(alloc, journal, taker)?;
-    records_ahead(alloc, &reaches)
 }
 
 /// The records of events in a consumer's partitions that have an earlier record of the same event.

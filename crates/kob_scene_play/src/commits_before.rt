@@ -1,12 +1,12 @@
 //! A consumer that commits before it takes in.
 
-ghost use Rattle.std.specs.Prelude.{◌≡◌, None, Some, IfOk, IfSome, IsTrue, OnOk, length};
+ghost use Rattle.std.specs.Prelude.{◌≡◌, None, Some, IfOk, IfSome, OnOk, length};
 ghost use Rattle.kob_inbox.specs.Run.{due_now};
 ghost use Rattle.kob_connections.specs.Received.{received_state};
 ghost use Rattle.kob_rights.specs.Requests.{BodyWithin, Fits, IsBodyOf, OffsetsWithin};
 ghost use Rattle.kob_rights.specs.declared.reply.Body.TheVariants as bodies;
-ghost use Rattle.kob_scene_play.specs.Takings.{AreWithin, CountsCommitted, HandlesBody};
-ghost use Rattle.kob_scene_play.specs.Takings.{HandlesReply, IsHandled, TakesHeld, ahead};
+ghost use Rattle.kob_scene_play.specs.Takings.{AreWithin, HandlesBody, HandlesReply};
+ghost use Rattle.kob_scene_play.specs.Takings.{IsHandled, TakesHeld, ahead};
 ghost use Rattle.kob_scene_play.specs.Takings.{asked_next, held_or, with_held};
 ghost use Rattle.kob_scene_play.specs.declared.holding.Holding.TheVariants.{Nothing};
 
@@ -14,10 +14,10 @@ use crate::ask::committed_by;
 use crate::fault::{TickFault, stop_of_consumer};
 use crate::holding::{Held, Holding, held_of};
 use kob_connections::Receiver;
-use kob_inbox::{Consumer, Tick};
+use kob_inbox::Tick;
 use kob_names::PlainValue;
 use kob_rights::{Body, Event, Fetch, Reply, Request};
-use std::alloc::{AllocError, Global};
+use std::alloc::Global;
 use std::mem;
 
 /// Handles what was heard of the next request.
@@ -110,6 +110,7 @@ fn handle_due(
 }
 
 /// Takes in what is held, for which its commit is acknowledged. Nothing is done if nothing is held.
+#[tactic(auto, using(crate::proofs::Taking::counted))]
 pub(crate) fn take_held(
     alloc: Global,
     receiver: &mut Receiver,
@@ -128,8 +129,13 @@ pub(crate) fn take_held(
         Holding::Fetched(_) => unreachable!(),
         Holding::Committed(held) => {
             let count = take_records(alloc, receiver, held)?;
-            count_committed(alloc, receiver)?;
-            Ok(Tick::Took(count))
+            match receiver.consumer().due(alloc)? {
+                Some(Request::OffsetCommit(_)) => {
+                    receiver.hear(alloc, Body::Committed)?;
+                    Ok(Tick::Took(count))
+                }
+                _ => Err(TickFault::NotDue),
+            }
         }
     }
 }
@@ -145,45 +151,14 @@ fn take_records(alloc: Global, receiver: &mut Receiver, held: Held) -> Result<u6
         ≡ with_held receiver.old.fetcher.subscription (received_state receiver.old) held) }
 {
     let Held { asked, records } = held;
-    if !is_due(alloc, receiver.consumer(), &asked)? {
+    let Some(Request::Fetch(due)) = receiver.consumer().due(alloc)? else {
+        return Err(TickFault::NotDue);
+    };
+    if !due.same(&asked) {
         return Err(TickFault::NotDue);
     }
-    took(receiver.hear(alloc, Body::Records(records))?)
-}
-
-/// Whether this FETCH is due to the consumer.
-fn is_due(alloc: Global, consumer: &Consumer, asked: &Fetch) -> Result<bool, AllocError>
-    ensures { IfOk result (λ is. IsTrue is → due_now consumer.now.subscription
-        consumer.now.cursors.items consumer.now.turn ≡ Some (Request.Fetch asked.now)) }
-{
-    match consumer.due(alloc)? {
-        Some(Request::Fetch(due)) => Ok(due.same(asked)),
-        _ => Ok(false),
-    }
-}
-
-/// How many records a tick took in, which took in all.
-fn took(tick: Tick) -> Result<u64, TickFault>
-    ensures { IfOk result (λ count. tick ≡ Tick.Took count) }
-{
-    match tick {
+    match receiver.hear(alloc, Body::Records(records))? {
         Tick::Took(count) => Ok(count),
         tick => Err(stop_of_consumer(&tick).unwrap_or(TickFault::NotDue)),
-    }
-}
-
-/// The commit that is due to the consumer counts as acknowledged.
-#[tactic(auto, using(crate::proofs::Taking::counted))]
-fn count_committed(alloc: Global, receiver: &mut Receiver) -> Result<(), TickFault>
-    ensures same { receiver.new.fetcher.subscription ≡ receiver.old.fetcher.subscription }
-    ensures done { OnOk result (CountsCommitted receiver.old.fetcher.subscription
-        (received_state receiver.old) (received_state receiver.new)) }
-{
-    match receiver.consumer().due(alloc)? {
-        Some(Request::OffsetCommit(_)) => {
-            receiver.hear(alloc, Body::Committed)?;
-            Ok(())
-        }
-        _ => Err(TickFault::NotDue),
     }
 }

@@ -3,8 +3,8 @@
 ghost use Rattle.std.specs.List.{flat_map};
 ghost use Rattle.std.specs.Option.{option_map};
 ghost use Rattle.std.specs.Prelude.{◌≡◌, ◌++◌, None, OnOk, Some, codes};
-ghost use Rattle.kob_scene_play.specs.Json.{begins_with_digit, json_byte, json_fields, json_object};
-ghost use Rattle.kob_scene_play.specs.Json.{first_word, json_string, json_text, json_words, words_byte};
+ghost use Rattle.kob_scene_play.specs.Json.{first_word, json_byte, json_fields, json_object};
+ghost use Rattle.kob_scene_play.specs.Json.{json_string, json_text, words_byte};
 
 use bstr::ByteSlice;
 use kob_words::{hex_digit, push_number};
@@ -28,7 +28,7 @@ fn push_object(out: &mut Vec<u8>, line: u64, text: &[u8]) -> Result<(), AllocErr
     push_number(out, line)?;
     out.extend_from_slice(b",")?;
     match first_word(text) {
-        Some((number, rest)) if begins_with_digit(number) => push_numbered(out, number, rest),
+        Some((number @ [b'0'..=b'9', ..], rest)) => push_numbered(out, number, rest),
         Some(_) => push_fields(out, text),
         None => push_fields(out, text),
     }
@@ -71,9 +71,9 @@ fn push_kind_and_words(out: &mut Vec<u8>, kind: &[u8], words: &[u8]) -> Result<(
 {
     out.extend_from_slice(b"\"kind\":")?;
     push_json_string(out, kind)?;
-    out.extend_from_slice(b",\"words\":")?;
-    push_words(out, words)?;
-    out.extend_from_slice(b"}\n")
+    out.extend_from_slice(b",\"words\":[\"")?;
+    push_each(out, words)?;
+    out.extend_from_slice(b"\"]}\n")
 }
 
 /// The part before the first space, and the part after it.
@@ -82,15 +82,6 @@ fn first_word(text: &[u8]) -> Option<(&[u8], &[u8])>
     ensures { option_map (λ parts. (parts.0.now, parts.1.now)) result ≡ first_word text.entry.now }
 {
     text.split_once_str(b" ")
-}
-
-fn begins_with_digit(text: &[u8]) -> bool
-    ensures { result ≡ begins_with_digit text.now }
-{
-    match text {
-        [first, ..] => b'0' <= *first && *first <= b'9',
-        [] => false,
-    }
 }
 
 /// Appends a text as a string of JSON.
@@ -110,15 +101,6 @@ fn push_escaped(out: &mut Vec<u8>, text: &[u8]) -> Result<(), AllocError>
         push_byte(out, *byte)?;
     }
     Ok(())
-}
-
-#[tactic(auto, using(kob_words::proofs::Appending::appending))]
-fn push_words(out: &mut Vec<u8>, words: &[u8]) -> Result<(), AllocError>
-    ensures { OnOk result (out.new.items ≡ out.old.items ++ json_words words.now) }
-{
-    out.extend_from_slice(b"[\"")?;
-    push_each(out, words)?;
-    out.extend_from_slice(b"\"]")
 }
 
 fn push_each(out: &mut Vec<u8>, words: &[u8]) -> Result<(), AllocError>

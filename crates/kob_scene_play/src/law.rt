@@ -1,10 +1,10 @@
 //! Whether the laws of delivery apply to a service and a consumer, and what its inbox has.
 
-ghost use Rattle.std.specs.Prelude.{◌≡◌, ◌++◌, IfErr, IfOk, OnOk, flat_map, length, slice_get};
+ghost use Rattle.std.specs.Prelude.{◌≡◌, ◌++◌, IfErr, IfOk, OnOk, flat_map, slice_get};
 ghost use Rattle.std.specs.Fmt.{decimal};
 ghost use Rattle.kob_router.specs.Line.{one_more};
 ghost use Rattle.std.specs.Option.{option_copied};
-ghost use Rattle.kob_scene_play.specs.Laws.{IsAltered, IsAnswered, IsCoverage, IsLaw, IsTaken};
+ghost use Rattle.kob_scene_play.specs.Laws.{IsAnswered, IsCoverage, IsLaw};
 ghost use Rattle.kob_scene_play.specs.Laws.{altered_text, breach_text};
 ghost use Rattle.kob_scene_play.specs.Laws.{broken_text};
 ghost use Rattle.kob_scene_play.specs.Laws.{coverage_text, first_at, law_text, misplaced_text};
@@ -13,14 +13,13 @@ ghost use Rattle.kob_scene_play.specs.Laws.{topic_text, unread_text};
 ghost use Rattle.kob_scene_play.specs.Steps.{Tells};
 ghost use Rattle.kob_scene_play.specs.Stops.{IsMemory, StopsQuestion};
 
-use crate::check::early_at;
 use crate::consumer_worker::ConsumerWorker;
 use crate::fault::PlayFault;
 use crate::output::{Output, push_counted};
 use crate::service_worker::ServiceWorker;
 use crate::stage::Stage;
 use kob_delivery::{Breach, Premise, first_breach};
-use kob_delivery_check::{Early, altered_row, count_taken, unread_of};
+use kob_delivery_check::{Early, altered_row, count_taken, early_rows, unread_of};
 use kob_names::Text;
 use kob_router::Place;
 use kob_shared::Journal;
@@ -135,52 +134,20 @@ fn coverage_of(
         IsCoverage sender.now taker.old journal.now coverage) }
     ensures same { taker.new ≡ taker.old }
 {
-    let early = early_at(alloc, sender, taker)?;
+    let rows = taker.rows(alloc)?;
+    let early = early_rows(alloc, sender.recorded(), &rows)?;
     let misplaced = first_at(&early);
-    let taken = taken_at(alloc, sender, taker)?;
-    let altered = altered_at(alloc, sender, taker)?;
+    let taken = count_taken(alloc, sender.recorded(), &rows)?;
+    let altered = altered_row(alloc, sender.recorded(), &rows)?;
     let assignment = taker.subscription().assignment.as_slice();
     let unread = unread_of(alloc, journal, sender.number(), assignment)?;
     Ok(Coverage {
-        recorded: recorded_at(sender),
+        recorded: sender.recorded().len(),
         taken,
         misplaced,
         altered,
         unread,
     })
-}
-
-/// How many rows the service recorded.
-fn recorded_at(sender: &ServiceWorker<'_>) -> usize
-    ensures { result ≡ length sender.now.recorded }
-{
-    sender.recorded().len()
-}
-
-/// How many rows of the service the inbox has.
-fn taken_at(
-    alloc: Global,
-    sender: &ServiceWorker<'_>,
-    taker: &mut ConsumerWorker,
-) -> Result<usize, AllocError>
-    ensures count { IfOk result (λ count. IsTaken sender.now taker.old count) }
-    ensures same { taker.new ≡ taker.old }
-{
-    let rows = taker.rows(alloc)?;
-    count_taken(alloc, sender.recorded(), &rows)
-}
-
-/// The first row of the inbox with another key or value than was recorded.
-fn altered_at(
-    alloc: Global,
-    sender: &ServiceWorker<'_>,
-    taker: &mut ConsumerWorker,
-) -> Result<Option<u64>, AllocError>
-    ensures altered { IfOk result (λ place. IsAltered sender.now taker.old place) }
-    ensures same { taker.new ≡ taker.old }
-{
-    let rows = taker.rows(alloc)?;
-    altered_row(alloc, sender.recorded(), &rows)
 }
 
 /// Where the first of the events came that are out of order.

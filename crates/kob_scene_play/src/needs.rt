@@ -43,6 +43,7 @@ pub(crate) fn push_last_note(
     }
 }
 
+#[tactic(auto, using(kob_words::proofs::Appending::appending))]
 fn push_note(
     alloc: Global,
     out: &mut Vec<u8>,
@@ -54,21 +55,12 @@ fn push_note(
 {
     let mut needs = Vec::new(alloc);
     push_needs(&mut needs, request, reply)?;
-    push_noted(out, &needs)
-}
-
-#[tactic(auto, using(kob_words::proofs::Appending::appending))]
-fn push_noted(out: &mut Vec<u8>, needs: &[u8]) -> Result<(), AllocError>
-    ensures { OnOk result (out.new.items ≡ out.old.items ++ noted needs.now) }
-{
-    match needs {
-        [] => Ok(()),
-        [_, ..] => {
-            out.extend_from_slice(b"> # ")?;
-            out.extend_from_slice(needs)?;
-            out.extend_from_slice(b"\n")
-        }
+    if needs.is_empty() {
+        return Ok(());
     }
+    out.extend_from_slice(b"> # ")?;
+    out.extend_from_slice(&needs)?;
+    out.extend_from_slice(b"\n")
 }
 
 /// What the last request of a step lacked, behind a space; nothing if it is done. Before the step

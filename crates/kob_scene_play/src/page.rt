@@ -4,14 +4,12 @@ ghost use Rattle.std.specs.Prelude.{◌≡◌, ◌++◌, [], IfOk, OnErr, OnOk, 
 ghost use Rattle.std.specs.Io.KnownBytes.{Appends};
 ghost use Rattle.kob_scene_play.specs.Forms.{shown_text, stopped_shown};
 ghost use Rattle.kob_scene_play.specs.Steps.{Writes};
-ghost use Rattle.kob_scene_play.specs.declared.form.Shown.TheVariants.{Trace};
 
 use crate::fault::PlayFault;
 use crate::form::{Showing, Shown, line_at, push_head};
 use crate::json::push_json;
 use crate::needs::push_last_note;
 use crate::output::{Output, push_counted};
-use kob_names::Bytes;
 use kob_shared::Journal;
 use std::alloc::{AllocError, Global};
 use std::io::Write;
@@ -41,6 +39,7 @@ impl Page {
 
     /// Shows the answers to the step at a place. Before the step, the journal had so many entries.
     /// On an error the page is as it was.
+    #[tactic(auto, using(kob_words::proofs::Appending::appending))]
     pub(crate) fn show(
         &mut self,
         alloc: Global,
@@ -61,17 +60,9 @@ impl Page {
             Shown::Plain => self.add(&out.text, out.told),
             Shown::Trace(texts) => {
                 let mut text = Vec::new(alloc);
-                let texts = texts.as_slice();
-                push_traced(
-                    alloc,
-                    &mut text,
-                    texts,
-                    showing.lines,
-                    place,
-                    before,
-                    journal,
-                    &out.text,
-                )?;
+                push_head(&mut text, texts.as_slice(), showing.lines, place)?;
+                text.extend_from_slice(&out.text)?;
+                push_last_note(alloc, &mut text, before, journal)?;
                 self.add(&text, out.told)
             }
             Shown::Json => {
@@ -129,26 +120,6 @@ impl Page {
         push_stopped(&mut self.text, shown, self.told)?;
         self.write(writer)
     }
-}
-
-/// The line of the scene's text, the answers, and what the request of a principal lacked.
-#[tactic(auto, using(kob_words::proofs::Appending::appending))]
-fn push_traced(
-    alloc: Global,
-    out: &mut Vec<u8>,
-    texts: &[Bytes],
-    lines: &[u64],
-    place: usize,
-    before: usize,
-    journal: &Journal,
-    answers: &[u8],
-) -> Result<(), AllocError>
-    ensures { OnOk result (out.new.items ≡ out.old.items
-        ++ shown_text (Trace texts.now) lines.now place before journal.now answers.now) }
-{
-    push_head(out, texts, lines, place)?;
-    out.extend_from_slice(answers)?;
-    push_last_note(alloc, out, before, journal)
 }
 
 fn push_stopped(out: &mut Vec<u8>, shown: &Shown, told: u64) -> Result<(), AllocError>

@@ -3,12 +3,10 @@
 ghost use Rattle.std.specs.Prelude.{◌≡◌, ◌++◌, ◌∷◌, [], IfErr, IfOk, OnOk, map};
 ghost use Rattle.kob_scene_play.specs.Expectations.{all_met};
 ghost use Rattle.std.specs.Option.{option_copied};
-ghost use Rattle.kob_broker.specs.State.{settings_of};
 ghost use Rattle.kob_scene_play.specs.Stages.{IsOpened, declared_consumer, declared_service};
 ghost use Rattle.kob_scene_play.specs.Stages.{consumer_numbered, service_numbered};
 ghost use Rattle.kob_scene_play.specs.Stages.{named_consumer, named_service, worker_name};
 ghost use Rattle.kob_scene_play.specs.Stops.{IsMemoryOrStore, MayNotOpen};
-ghost use Rattle.kob_shared.specs.Journals.{opened_by};
 
 use crate::consumer_worker::ConsumerWorker;
 use crate::fault::PlayFault;
@@ -52,14 +50,7 @@ pub struct Unmet {
 }
 
 impl Unmet {
-    ghost use Rattle.kob_scene_play.specs.Expectations.{all_met, unmet_after};
-
-    /// All is as expected.
-    pub(crate) fn none() -> Unmet
-        ensures { result ≡ all_met }
-    {
-        Unmet { count: 0, line: 0 }
-    }
+    ghost use Rattle.kob_scene_play.specs.Expectations.{unmet_after};
 
     /// Counts one thing more, which is expected on this line.
     pub(crate) fn after(self, is_met: bool, line: u64) -> Unmet
@@ -93,12 +84,18 @@ impl<'s> Stage<'s> {
     {
         let services = all_services(alloc, services)?;
         let consumers = all_consumers(alloc, consumers)?;
-        let recorded = recorded_by(alloc, settings)?;
+        // A scene opens no bindings, so that it has never too many.
+        let broker = match Broker::open(alloc, settings) {
+            Ok(broker) => broker,
+            Err(OpenFault::Memory(refused)) => return Err(PlayFault::Memory(refused)),
+            Err(OpenFault::TooMany) => return Err(PlayFault::TooMany),
+        };
+        let recorded = Recorded::open(alloc, broker, ENTRY_LIMIT)?;
         Ok(Stage {
             recorded,
             services,
             consumers,
-            unmet: Unmet::none(),
+            unmet: Unmet { count: 0, line: 0 },
         })
     }
 
@@ -135,24 +132,6 @@ fn consumer_numbered(consumers: &[PlayedConsumer], worker: usize) -> Option<&Pla
     consumers
         .iter()
         .find(|played| played.consumer.number() == worker)
-}
-
-// A scene opens no bindings, so that it has never too many.
-fn recorded_by(alloc: Global, settings: Settings) -> Result<Recorded, PlayFault>
-    ensures opened { IfOk result (λ recorded. recorded ≡ record {
-      opening = settings_of (opened_by settings);
-      limit = 1000000;
-      journal = [];
-      broker = opened_by settings;
-    }) }
-    ensures stopped { IfErr result (MayNotOpen settings) }
-{
-    let broker = match Broker::open(alloc, settings) {
-        Ok(broker) => broker,
-        Err(OpenFault::Memory(refused)) => return Err(PlayFault::Memory(refused)),
-        Err(OpenFault::TooMany) => return Err(PlayFault::TooMany),
-    };
-    Ok(Recorded::open(alloc, broker, ENTRY_LIMIT)?)
 }
 
 fn all_services<'s>(
