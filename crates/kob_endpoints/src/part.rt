@@ -1,7 +1,7 @@
 //! A worker's part of a journal.
 
 ghost use Rattle.std.specs.Prelude.{◌≡◌, ◌<◌, ◌↔◌, ◌⊎◌, ◌++◌, ◌∷◌, [], Contains, length, List, ℕ};
-ghost use Rattle.std.specs.Prelude.{slice_get, IfOk, IsTrue, MatchOption, OnOk, Some};
+ghost use Rattle.std.specs.Prelude.{IfOk, IsTrue, MatchOption, OnOk, Some};
 ghost use Rattle.kob_endpoints.specs.Pairing.{GoesOn, IsReplyTo, Reaches, left, told_by};
 ghost use Rattle.kob_endpoints.specs.Running.{IsUnserved};
 ghost use Rattle.kob_router.specs.declared.line.Call.{Call};
@@ -97,22 +97,11 @@ fn add_entries<'a>(
         ≡ told_by own.old.items ++ served_to worker journal.now) }
 {
     for place in 0..journal.len() {
-        add_entry(own, journal.entry_at(place), worker)?;
-    }
-    Ok(())
-}
-
-/// Adds the entry if it is of the worker.
-fn add_entry<'a>(
-    own: &mut Vec<&'a Entry>,
-    entry: &'a Entry,
-    worker: usize,
-) -> Result<(), AllocError>
-    ensures { OnOk result (told_by own.new.items
-        ≡ told_by own.old.items ++ served_to worker (entry.now ∷ [])) }
-{
-    if entry.worker == worker {
-        return Ok(own.push(entry)?);
+        let entry = journal.entry_at(place);
+        if entry.worker != worker {
+            continue;
+        }
+        own.push(entry)?;
     }
     Ok(())
 }
@@ -184,19 +173,11 @@ fn place_after(own: &[&Entry], from: usize, call: &Call) -> Option<usize>
     if is_at_end(own, from) {
         return None;
     }
-    let entry = next_of(own, from);
+    let entry = own[from];
     if is_reply_to(entry, call) {
         return Some(from + 1);
     }
     None
-}
-
-/// The entry at this place.
-fn next_of<'a>(own: &[&'a Entry], from: usize) -> &'a Entry
-    requires { from < length own.now }
-    ensures { slice_get own.now from ≡ Some result }
-{
-    own[from]
 }
 
 /// Adds a place, unless it is the last one.

@@ -1,8 +1,8 @@
 //! What is kept of the offsets that groups committed.
 
 ghost use Rattle.std.specs.Option.{option_copied};
-ghost use Rattle.std.specs.List.{filter, find};
-ghost use Rattle.std.specs.Prelude.{◌≡◌, ◌&&◌, if◌then◌else◌, List, ℕ, None, Some, OnOk, not};
+ghost use Rattle.std.specs.List.{find};
+ghost use Rattle.std.specs.Prelude.{◌≡◌, ◌&&◌, if◌then◌else◌, List, ℕ, None, Some, OnOk};
 ghost use Rattle.kob_delivery.specs.Types.{Place, place_at, same_place};
 ghost use Rattle.kob_endpoints.specs.Seen.{committed_in, is_commit_on};
 ghost use Rattle.kob_names.specs.Same.{same_text};
@@ -20,23 +20,8 @@ pub(crate) struct SeenCommit<'a> {
     pub(crate) offset: u64,
 }
 
-/// The offset that the group committed on the partition.
-pub(crate) fn committed(
-    commits: &[SeenCommit<'_>],
-    group: &Text,
-    topic: &Text,
-    partition: u64,
-) -> Option<u64>
-    ensures { result ≡ committed_in commits.now group.now (place_at topic.now partition) }
-{
-    match found(commits, group, topic, partition) {
-        Some(commit) => Some(commit.offset),
-        None => None,
-    }
-}
-
 /// The commit of the group on the partition.
-fn found<'c, 'a>(
+pub(crate) fn commit_of<'c, 'a>(
     commits: &'c [SeenCommit<'a>],
     group: &Text,
     topic: &Text,
@@ -68,7 +53,7 @@ pub(crate) fn commit<'a>(
         && same_place (place_at asked.now.topic asked.now.partition) place
         then Some asked.now.offset else committed_in commits.old.items group place) }
 {
-    take_off(commits, &asked.group, &asked.topic, asked.partition);
+    commits.retain(|commit| !is_on(commit, &asked.group, &asked.topic, asked.partition));
     commits.push(SeenCommit {
         group: &asked.group,
         topic: &asked.topic,
@@ -78,27 +63,10 @@ pub(crate) fn commit<'a>(
     Ok(())
 }
 
-/// Removes the commit of the group on the partition.
-fn take_off(commits: &mut Vec<SeenCommit<'_>>, group: &Text, topic: &Text, partition: u64)
-    ensures { commits.new.items ≡ filter
-        (λ c. not (is_commit_on group.now (place_at topic.now partition) c)) commits.old.items }
-{
-    commits.retain(|commit| !is_on(commit, group, topic, partition));
-}
-
 /// The commits of the group are gone.
 pub(crate) fn forget_group(commits: &mut Vec<SeenCommit<'_>>, group: &Text)
     ensures { (other : List ℕ) (place : Place) → committed_in commits.new.items other place
         ≡ if same_text group.now other then None else committed_in commits.old.items other place }
 {
     commits.retain(|commit| *commit.group != *group);
-}
-
-/// The commits on the topic are gone.
-pub(crate) fn forget_topic(commits: &mut Vec<SeenCommit<'_>>, topic: &Text)
-    ensures { (group : List ℕ) (place : Place) → committed_in commits.new.items group place
-        ≡ if same_text topic.now place.topic then None
-        else committed_in commits.old.items group place }
-{
-    commits.retain(|commit| *commit.topic != *topic);
 }

@@ -4,7 +4,7 @@ ghost use Rattle.std.specs.Prelude.{◌≡◌, ◌<◌, ◌^◌, ◌==◌, IfOk,
 ghost use Rattle.std.specs.List.{position};
 ghost use Rattle.kob_mistakes.specs.Options.{decoded_at, given_of, is_valid, is_value, misnamed};
 ghost use Rattle.kob_mistakes.specs.Options.{misnamed_at, misplaced, name_of, option_place};
-ghost use Rattle.kob_mistakes.specs.Options.{place_among, taken_after};
+ghost use Rattle.kob_mistakes.specs.Options.{taken_after};
 ghost use Rattle.kob_mistakes.specs.Options.{unless_valid, value_in, value_of};
 
 use crate::words::{as_text, is_read};
@@ -61,24 +61,11 @@ pub(crate) fn option_place(
 ) -> Result<usize, AllocError>
     ensures { IfOk result (λ place. place ≡ option_place kind words.now first) }
 {
-    match place_among(alloc, words, first, kind)? {
-        Some(place) => Ok(place),
-        None => Ok(first.saturating_sub(1)),
-    }
-}
-
-fn place_among(
-    alloc: Global,
-    words: &[Word<'_>],
-    first: usize,
-    kind: FaultKind,
-) -> Result<Option<usize>, AllocError>
-    ensures { IfOk result (λ place. place ≡ place_among kind words.now first) }
-{
+    let before = first.saturating_sub(1);
     match kind {
-        FaultKind::Usage => Ok(misplaced_from(words, first)),
-        FaultKind::BadName => misnamed_from(alloc, words, first),
-        _ => Ok(None),
+        FaultKind::Usage => Ok(misplaced_from(words, first).unwrap_or(before)),
+        FaultKind::BadName => Ok(misnamed_from(alloc, words, first)?.unwrap_or(before)),
+        _ => Ok(before),
     }
 }
 

@@ -2,7 +2,7 @@
 
 ghost use Rattle.std.specs.Prelude.{◌≡◌, ◌≤◌, ◌++◌, IfOk, OnOk, length, map};
 ghost use Rattle.std.specs.List.{slice_range};
-ghost use Rattle.kob_mistakes.specs.Quotes.{after, is_plain, quoted_words, with_word};
+ghost use Rattle.kob_mistakes.specs.Quotes.{after, quoted_words, with_word};
 
 use crate::words::is_blank;
 use kob_script::{LineError, Word};
@@ -40,15 +40,6 @@ impl Quoting {
             Quoting::DoubleEscaped => Quoting::Double,
         }
     }
-
-    fn is_plain(self) -> bool
-        ensures { result ≡ is_plain self }
-    {
-        match self {
-            Quoting::Plain => true,
-            Quoting::Escaped | Quoting::Single | Quoting::Double | Quoting::DoubleEscaped => false,
-        }
-    }
 }
 
 /// The words of a line as they are written in it.
@@ -61,7 +52,7 @@ pub(crate) fn quoted_words(alloc: Global, line: &[u8]) -> Result<Vec<&[u8]>, All
     let mut start: usize = 0;
     let mut place: usize = 0;
     for byte in line {
-        if quoting.is_plain() && is_blank(*byte) {
+        if matches!(quoting, Quoting::Plain) && is_blank(*byte) {
             push_word(&mut words, part(line, start, place))?;
             start = place + 1;
         } else {

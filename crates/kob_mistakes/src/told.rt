@@ -3,7 +3,7 @@
 ghost use Rattle.std.specs.Prelude.{◌≡◌, ◌++◌, OnOk};
 ghost use Rattle.kob_mistakes.specs.Told.{doubtful_text, expected_head, form_text, head_text};
 ghost use Rattle.kob_mistakes.specs.Told.{misspelt_text, neither_text};
-ghost use Rattle.kob_mistakes.specs.Told.{quoted_text, quotes_text, state_text, unquoted_text, unquoted_unless};
+ghost use Rattle.kob_mistakes.specs.Told.{quoted_text, quotes_text, state_text, unquoted_text};
 
 use crate::kinds::{Kind, kind_named};
 use kob_words::push_number;
@@ -74,16 +74,6 @@ fn push_kind(out: &mut Vec<u8>, kind: Option<Kind>) -> Result<(), AllocError>
     }
 }
 
-fn push_unquoted_unless(out: &mut Vec<u8>, is_alone: bool, word: &str) -> Result<(), AllocError>
-    ensures { OnOk result (out.new.items ≡ out.old.items ++ unquoted_unless is_alone word.now) }
-{
-    if is_alone {
-        Ok(())
-    } else {
-        push_unquoted(out, word)
-    }
-}
-
 /// Appends that a word is neither a question nor a file, and the question that is near.
 #[tactic(auto, using(kob_words::proofs::Appending::appending))]
 pub fn push_misspelt(out: &mut Vec<u8>, word: &str, kind: Kind) -> Result<(), AllocError>
@@ -94,7 +84,10 @@ pub fn push_misspelt(out: &mut Vec<u8>, word: &str, kind: Kind) -> Result<(), Al
     out.extend_from_slice(neither_text().as_bytes())?;
     out.extend_from_slice(kind.name().as_bytes())?;
     out.extend_from_slice(b"\n")?;
-    push_unquoted_unless(out, kind.is_alone(), kind.name())
+    if kind.is_alone() {
+        return Ok(());
+    }
+    push_unquoted(out, kind.name())
 }
 
 /// Appends that the state of a record may be meant as the word behind it.

@@ -79,18 +79,12 @@ pub(crate) fn escape_place(alloc: Global, words: &[&[u8]]) -> Result<Option<usiz
 {
     let mut place: usize = 0;
     for word in words {
-        if is_misread(alloc, word)? {
+        if !is_read(Word::read(alloc, word))? {
             return Ok(Some(place));
         }
         place += 1;
     }
     Ok(None)
-}
-
-fn is_misread(alloc: Global, word: &[u8]) -> Result<bool, AllocError>
-    ensures { IfOk result (λ is. is ≡ is_misread word.now) }
-{
-    Ok(!is_read(Word::read(alloc, word))?)
 }
 
 /// Whether something was read. What was read is dropped.

@@ -1,7 +1,7 @@
 //! The workers that lines declare.
 
 ghost use Rattle.std.specs.Prelude.{◌≡◌, IfOk, map};
-ghost use Rattle.kob_mistakes.specs.Workers.{declared_by, kind_declared, kind_named, stepping_at};
+ghost use Rattle.kob_mistakes.specs.Workers.{declared_by, kind_named, stepping_at};
 
 use crate::record::word_is;
 use crate::words::{raw_words, word_at};
@@ -38,22 +38,13 @@ pub(crate) fn kind_named(
 {
     for line in before {
         let words = raw_words(alloc, line)?;
-        if let Some(kind) = kind_declared(&words, name) {
+        if word_is(&words, 1, name)
+            && let Some(kind) = declared_by(word_at(&words, 0))
+        {
             return Ok(Some(kind));
         }
     }
     Ok(None)
-}
-
-/// The kind of the worker of this name that these words declare.
-fn kind_declared(words: &[&[u8]], name: &[u8]) -> Option<WorkerKind>
-    ensures { result ≡ kind_declared (map (λ word. word.now) words.now) name.now }
-{
-    if word_is(words, 1, name) {
-        declared_by(word_at(words, 0))
-    } else {
-        None
-    }
 }
 
 /// The kind of the worker whose step is wrong: of the first word, if the second one is wrong.
