@@ -1,5 +1,5 @@
 -- The cells of rows: decisions, bindings, parties and names.
-use Rattle.std.specs.Prelude.{ℕ, Bool, List, [], ◌∷◌, ◌++◌, Option, Some, None, codes, slice_get, unwrap_or}
+use Rattle.std.specs.Prelude.{ℕ, List, [], ◌∷◌, ◌++◌, Option, Some, None, codes, slice_get, unwrap_or}
 use Rattle.kob_names.specs.Binding.{Binding, is_granted}
 use Rattle.kob_names.specs.declared.kinds.PatternKind.TheVariants.{Literal, Prefixed}
 use Rattle.kob_names.specs.declared.verdict.Verdict.{Verdict}

@@ -17,29 +17,6 @@ use kob_policy_text::{Judge, Origin};
 use kob_words::{operation_name, pattern_name, permission_name, resource_name};
 use std::alloc::{AllocError, Global};
 
-#[tactic(auto, using(kob_words::proofs::Appending::appending), unfolding(crate::specs::Cells::binding_cells))]
-fn push_binding(
-    alloc: Global,
-    row: &mut Vec<Cell>,
-    serial: u64,
-    binding: &Binding,
-    origin: Option<&Origin>,
-) -> Result<(), AllocError>
-    ensures { OnOk result (row.new.items ≡ row.old.items
-        ++ binding_cells serial binding.now (option_copied origin.entry)) }
-{
-    let parts = binding.parts();
-    push_number(row, serial)?;
-    push_words(alloc, row, permission_name(parts.permission))?;
-    push_words(alloc, row, parts.principal.as_str())?;
-    push_words(alloc, row, parts.host.as_str())?;
-    push_words(alloc, row, operation_name(parts.operation))?;
-    push_words(alloc, row, resource_name(parts.resource))?;
-    push_words(alloc, row, pattern_name(parts.pattern.kind))?;
-    push_words(alloc, row, parts.pattern.name.as_str())?;
-    push_origin(alloc, row, origin)
-}
-
 #[tactic(auto, using(kob_words::proofs::Appending::appending))]
 fn push_why(alloc: Global, row: &mut Vec<Cell>, why: Option<Reason>) -> Result<(), AllocError>
     ensures { OnOk result (row.new.items ≡ row.old.items ++ why_cells why) }
@@ -65,6 +42,7 @@ fn push_why(alloc: Global, row: &mut Vec<Cell>, why: Option<Reason>) -> Result<(
     }
 }
 
+#[tactic(auto, using(kob_words::proofs::Appending::appending), unfolding(crate::specs::Cells::binding_cells))]
 fn push_whole(
     alloc: Global,
     rows: &mut Vec<Items<Cell>>,
@@ -77,7 +55,16 @@ fn push_whole(
         ++ (binding_cells serial binding.now (option_copied origin.entry) ++ why_cells why) ∷ []) }
 {
     let mut row = Vec::new(alloc);
-    push_binding(alloc, &mut row, serial, binding, origin)?;
+    let parts = binding.parts();
+    push_number(&mut row, serial)?;
+    push_words(alloc, &mut row, permission_name(parts.permission))?;
+    push_words(alloc, &mut row, parts.principal.as_str())?;
+    push_words(alloc, &mut row, parts.host.as_str())?;
+    push_words(alloc, &mut row, operation_name(parts.operation))?;
+    push_words(alloc, &mut row, resource_name(parts.resource))?;
+    push_words(alloc, &mut row, pattern_name(parts.pattern.kind))?;
+    push_words(alloc, &mut row, parts.pattern.name.as_str())?;
+    push_origin(alloc, &mut row, origin)?;
     push_why(alloc, &mut row, why)?;
     push_row(rows, row)
 }

@@ -35,27 +35,6 @@ fn push_operations(
     Ok(())
 }
 
-/// `All` for the ten operations of a request.
-fn push_holding(
-    alloc: Global,
-    rows: &mut Vec<Items<Cell>>,
-    principal: &Principal,
-    host: &Option<Host>,
-    one: &Holding,
-) -> Result<(), AllocError>
-    ensures { OnOk result
-        (rows.new.items ≡ rows.old.items ++ held_rows principal.now host.now one.now) }
-{
-    if is_repeated(host, one) {
-        return Ok(());
-    }
-    let operations = one.operations.as_slice();
-    if operations.len() == 10 {
-        return push_operations(alloc, rows, principal, one, &[Operation::All]);
-    }
-    push_operations(alloc, rows, principal, one, operations)
-}
-
 #[tactic(auto, using(kob_words::proofs::Appending::appending))]
 fn push_each(
     alloc: Global,
@@ -68,7 +47,16 @@ fn push_each(
         ≡ rows.old.items ++ flat_map (held_rows principal.now host.now) found.now) }
 {
     for one in found {
-        push_holding(alloc, rows, principal, host, one)?;
+        if is_repeated(host, one) {
+            continue;
+        }
+        // (`All` for the ten operations of a request)
+        let operations = one.operations.as_slice();
+        if operations.len() == 10 {
+            push_operations(alloc, rows, principal, one, &[Operation::All])?;
+            continue;
+        }
+        push_operations(alloc, rows, principal, one, operations)?;
     }
     Ok(())
 }

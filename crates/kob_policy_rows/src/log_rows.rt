@@ -43,24 +43,6 @@ pub fn push_otherwise(
     Ok(())
 }
 
-fn push_idle(
-    alloc: Global,
-    rows: &mut Vec<Items<Cell>>,
-    judge: &Judge,
-    set: &HashSet<u64>,
-    place: usize,
-    serial: u64,
-) -> Result<(), AllocError>
-    ensures { OnOk result (rows.new.items
-        ≡ rows.old.items ++ idle_row judge.now (contains nat_eq set.now) place serial) }
-{
-    if set.contains(&serial) {
-        Ok(())
-    } else {
-        push_at(alloc, rows, judge, None, place)
-    }
-}
-
 fn push_idle_rows(
     alloc: Global,
     rows: &mut Vec<Items<Cell>>,
@@ -72,7 +54,10 @@ fn push_idle_rows(
 {
     let serials = judge.serials();
     for (place, serial) in serials.iter().enumerate() {
-        push_idle(alloc, rows, judge, set, place, *serial)?;
+        if set.contains(serial) {
+            continue;
+        }
+        push_at(alloc, rows, judge, None, place)?;
     }
     Ok(())
 }

@@ -100,18 +100,6 @@ pub fn print_json(
     Ok(())
 }
 
-/// A question as it was asked; bytes that are no text are escaped as those of names are.
-fn push_shown(alloc: Global, writer: &mut Writer, text: &[u8]) -> Result<(), AllocError>
-    ensures tokens { OnOk result
-        (writer.new.tokens ≡ writer.old.tokens ++ string (shown_text text.now) ∷ []) }
-    ensures before { writer.new.before ≡ writer.old.before }
-{
-    match str::from_utf8(text) {
-        Ok(text) => writer.string(text),
-        Err(_) => push_escaped(alloc, writer, text),
-    }
-}
-
 fn push_escaped(alloc: Global, writer: &mut Writer, text: &[u8]) -> Result<(), AllocError>
     ensures tokens { OnOk result
         (writer.new.tokens ≡ writer.old.tokens ++ string (bytes_text text.now) ∷ []) }
@@ -132,6 +120,7 @@ pub(crate) fn push_number(writer: &mut Writer, number: u64) -> Result<(), AllocE
     writer.u64(number)
 }
 
+/// A question as it was asked; bytes that are no text are escaped as those of names are.
 #[tactic(auto, using(kob_words::proofs::Appending::appending), unfolding(crate::specs::Json::question_tokens))]
 pub(crate) fn push_question(
     alloc: Global,
@@ -143,7 +132,10 @@ pub(crate) fn push_question(
     ensures before { writer.new.before ≡ writer.old.before }
 {
     writer.key("question")?;
-    push_shown(alloc, writer, text)
+    match str::from_utf8(text) {
+        Ok(text) => writer.string(text),
+        Err(_) => push_escaped(alloc, writer, text),
+    }
 }
 
 #[tactic(auto, using(kob_words::proofs::Appending::appending))]
