@@ -4,8 +4,7 @@ ghost use Rattle.std.specs.List.{list_all};
 ghost use Rattle.std.specs.Prelude.{◌≡◌, ◌++◌, OnOk, codes, slice_get};
 ghost use Rattle.kob.specs.Connect.{by_property, closing_text, config_text, connect_text};
 ghost use Rattle.kob.specs.Connect.{connector_at, connector_of, default_replacement};
-ghost use Rattle.kob.specs.Connect.{is_slot_byte, is_slot_name};
-ghost use Rattle.kob.specs.Connect.{opening_text, placement_key_text, prefix_key_text};
+ghost use Rattle.kob.specs.Connect.{is_slot_byte, opening_text, placement_key_text, prefix_key_text};
 ghost use Rattle.kob.specs.Connect.{property_unless, publication_key_text, replacement_key_text};
 ghost use Rattle.kob.specs.Connect.{route_properties, slot_key_text, slot_name, slot_text};
 ghost use Rattle.kob.specs.Connect.{table_of, transform_text};
@@ -80,29 +79,18 @@ fn push_slot(out: &mut Vec<u8>, database: Database, name: &Text) -> Result<(), A
 fn slot_name<'a>(name: &'a Text, other: &'a str) -> &'a str
     ensures { result.now ≡ slot_name name.now other.now }
 {
-    if is_slot_name(name.as_str().as_bytes()) {
+    let bytes = name.as_str().as_bytes();
+    if bytes.len() <= 63 && has_slot_bytes(bytes) {
         name.as_str()
     } else {
         other
     }
 }
 
-fn is_slot_name(name: &[u8]) -> bool
-    ensures { result ≡ is_slot_name name.now }
-{
-    name.len() <= 63 && has_slot_bytes(name)
-}
-
 fn has_slot_bytes(name: &[u8]) -> bool
     ensures { result ≡ list_all is_slot_byte name.now }
 {
-    name.iter().all(|byte| is_slot_byte(*byte))
-}
-
-fn is_slot_byte(byte: u8) -> bool
-    ensures { result ≡ is_slot_byte byte }
-{
-    byte.is_ascii_lowercase() || byte.is_ascii_digit() || byte == b'_'
+    name.iter().all(|byte| byte.is_ascii_lowercase() || byte.is_ascii_digit() || *byte == b'_')
 }
 
 /// Debezium's connector for the database.

@@ -1,7 +1,6 @@
 //! The state at the end of a scene, in the forms of Kafka and Debezium.
 
 ghost use Rattle.std.specs.Prelude.{◌≡◌, ◌++◌, bytes_eq, find, flat_map, option_copied, IfOk, OnOk};
-ghost use Rattle.kob.specs.Export.{is_first};
 ghost use Rattle.kob_scene_export.specs.Topics.{metric_name};
 ghost use Rattle.kob.specs.Export.{commands_mark, commands_part, export_text, exported};
 ghost use Rattle.kob.specs.Export.{properties_mark, service_text, settings_part, topic_line};
@@ -117,18 +116,10 @@ fn push_topic(
 ) -> Result<(), AllocError>
     ensures { OnOk result (out.new.items ≡ out.old.items ++ topic_line topics.now topic.now) }
 {
-    let written = is_first(alloc, topics, topic)?;
-    export_topic(out, written, topic.name.as_str(), topic.partitions)
-}
-
-fn is_first(alloc: Global, topics: &[Topic], topic: &Topic) -> Result<bool, AllocError>
-    ensures { IfOk result (λ is. is ≡ is_first topics.now topic.now) }
-{
     let name = metric_name(alloc, topic.name.as_str())?;
-    match first_alike(alloc, topics, &name)? {
-        Some(other) => Ok(other.name == topic.name),
-        None => Ok(true),
-    }
+    let first = first_alike(alloc, topics, &name)?;
+    let is_first = first.is_none_or(|first| first.name == topic.name);
+    export_topic(out, is_first, topic.name.as_str(), topic.partitions)
 }
 
 /// The first of the topics that Kafka's metrics call so.

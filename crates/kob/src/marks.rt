@@ -1,12 +1,11 @@
 //! The line of a mistake with a mark below the word that is wrong, and what was expected there.
 
-ghost use Rattle.std.specs.Prelude.{◌≡◌, ◌++◌, IfOk, OnOk, codes, drop, map, option_map, replicate, take};
+ghost use Rattle.std.specs.Prelude.{◌≡◌, ◌++◌, IfOk, OnOk, drop, map, option_map, replicate, take};
 ghost use Rattle.std.specs.List.{flat_map};
 ghost use Rattle.kob.specs.Marks.{line_text, mark_size, mistake_text, note_of, note_text, parts_text};
 ghost use Rattle.kob.specs.Marks.{most_shown, shown_byte, word_text, words_text};
 
 use kob_mistakes::Mistake;
-use kob_names::Text;
 use kob_words::push_bytes;
 use std::alloc::AllocError;
 
@@ -19,8 +18,12 @@ pub fn push_mistake(out: &mut Vec<u8>, mistake: &Mistake<'_>) -> Result<(), Allo
 {
     push_line(out, &mistake.words, mistake.place)?;
     push_note(out, "expected", mistake.form)?;
-    push_nearest(out, &mistake.nearest)?;
-    push_hint(out, mistake.hint)
+    push_note_of(
+        out,
+        "nearest",
+        mistake.nearest.as_ref().map(|name| name.as_str()),
+    )?;
+    push_note_of(out, "hint", mistake.hint)
 }
 
 #[tactic(auto, using(kob_words::proofs::Appending::appending), unfolding(crate::specs::Marks::note_text))]
@@ -34,21 +37,12 @@ fn push_note(out: &mut Vec<u8>, what: &str, text: &str) -> Result<(), AllocError
     out.extend_from_slice(b"\n")
 }
 
-fn push_nearest(out: &mut Vec<u8>, name: &Option<Text>) -> Result<(), AllocError>
-    ensures { OnOk result (out.new.items ≡ out.old.items ++ note_of (codes "nearest") name.now) }
-{
-    match name {
-        Some(name) => push_note(out, "nearest", name.as_str()),
-        None => Ok(()),
-    }
-}
-
-fn push_hint(out: &mut Vec<u8>, hint: Option<&str>) -> Result<(), AllocError>
+fn push_note_of(out: &mut Vec<u8>, what: &str, text: Option<&str>) -> Result<(), AllocError>
     ensures { OnOk result (out.new.items ≡ out.old.items
-        ++ note_of (codes "hint") (option_map (λ hint. hint.now) hint.entry)) }
+        ++ note_of what.now (option_map (λ text. text.now) text.entry)) }
 {
-    match hint {
-        Some(hint) => push_note(out, "hint", hint),
+    match text {
+        Some(text) => push_note(out, what, text),
         None => Ok(()),
     }
 }
@@ -75,20 +69,13 @@ fn most_shown() -> usize
     200
 }
 
-/// The beginning of a word: at most 200 bytes are shown.
-#[tactic(auto, using(crate::proofs::Lent::whole))]
-fn beginning_of(word: &[u8]) -> &[u8]
-    ensures { result.now ≡ take most_shown word.now }
-{
-    word.get(..most_shown()).unwrap_or(word)
-}
-
-#[tactic(auto, using(kob_words::proofs::Appending::appending))]
+/// A blank, and the beginning of a word: at most 200 bytes are shown.
+#[tactic(auto, using(kob_words::proofs::Appending::appending, crate::proofs::Lent::whole))]
 fn push_word(out: &mut Vec<u8>, word: &[u8]) -> Result<(), AllocError>
     ensures { OnOk result (out.new.items ≡ out.old.items ++ word_text word.now) }
 {
     out.extend_from_slice(b" ")?;
-    push_shown(out, beginning_of(word))
+    push_shown(out, word.get(..most_shown()).unwrap_or(word))
 }
 
 fn push_words(out: &mut Vec<u8>, words: &[&[u8]]) -> Result<(), AllocError>

@@ -1,12 +1,11 @@
 //! The words of the command line, read by `clap`.
 
 ghost use Rattle.std.specs.Prelude.{◌≡◌, ◌++◌, ◌∷◌, [], IfOk, IsErr, Ok, OnOk, codes, map, string_bytes, true};
-ghost use Rattle.std.specs.Option.{option_map};
 ghost use Rattle.clap.specs.Words.{AddsArg, AddsSubcommand, app_of, first_of, new_app};
 ghost use Rattle.clap.specs.Words.{found_of, rows_of, rule_of, subcommand_rows_of};
 ghost use Rattle.kob.specs.CommandLine.{Databases, one_of_names, export_app, files_app, flag, help_app, others};
 ghost use Rattle.kob.specs.CommandLine.{IsTaskOf, asks_policy, kob_app, play_app, service};
-ghost use Rattle.kob.specs.Options.{database_named, export_form_by, export_form_in, files_in, form_by};
+ghost use Rattle.kob.specs.Options.{database_named, export_form_in, files_in, form_by};
 ghost use Rattle.kob.specs.Options.{form_in, is_given, task_found, task_named, values_of};
 
 use crate::connect::Database;
@@ -229,19 +228,12 @@ fn form_in(matches: &ArgMatches<'_>) -> Option<Form>
     }
 }
 
-/// What an export is to print.
+/// What an export is to print, by the databases that the options name, of which not both can be
+/// given.
 fn export_form_in(matches: &ArgMatches<'_>) -> ExportForm
     ensures { result ≡ export_form_in (rows_of (found_of matches.now)) }
 {
-    export_form_by(matches.get_str("connect"), matches.get_str("table"))
-}
-
-/// What is printed by the databases that the options name, of which not both can be given.
-fn export_form_by(connect: Option<&str>, table: Option<&str>) -> ExportForm
-    ensures { result ≡ export_form_by (option_map (λ name. name.now) connect.entry)
-        (option_map (λ name. name.now) table.entry) }
-{
-    match (connect, table) {
+    match (matches.get_str("connect"), matches.get_str("table")) {
         (Some(name), _) => ExportForm::Connect(database_named(name)),
         (None, Some(name)) => ExportForm::Table(database_named(name)),
         (None, None) => ExportForm::Commands,

@@ -230,29 +230,16 @@ fn push_fault<R: AllocGlobal + Eprint>(
         mistake.now.form.now mistake.now.nearest
         (option_map (λ hint. hint.now) mistake.now.hint))) }
 {
-    if mistake.misuse.is_none() {
-        report::fault(rt, name, fault);
-    }
-    push_misuse(out, name, fault.line, mistake)?;
-    push_mistake(out, mistake)
-}
-
-/// What the word is, if its line means it otherwise.
-fn push_misuse(
-    out: &mut Vec<u8>,
-    name: &str,
-    line: u64,
-    mistake: &Mistake<'_>,
-) -> Result<(), AllocError>
-    ensures { OnOk result (out.new.items ≡ out.old.items ++ misuse_text name.now line
-        mistake.now.misuse (map (λ word. word.now) mistake.now.words.items) mistake.now.place) }
-{
     match mistake.misuse {
         Some(misuse) => {
             let word = word_at(&mistake.words, mistake.place);
             let worker = word_at(&mistake.words, 0);
-            push_misused(out, name, line, misuse, word, worker)
+            push_misused(out, name, fault.line, misuse, word, worker)?;
+            push_mistake(out, mistake)
         }
-        None => Ok(()),
+        None => {
+            report::fault(rt, name, fault);
+            push_mistake(out, mistake)
+        }
     }
 }

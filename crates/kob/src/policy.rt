@@ -95,7 +95,7 @@ fn print_part<R: AllocGlobal + Clock + Files + Input + Eprint>(
     ended
 }
 
-/// Answers the questions of a part.
+/// Reads the questions of a part and answers them.
 fn answer_part<R: AllocGlobal + Clock + Files + Input + Eprint>(
     rt: &R,
     stages: Stages,
@@ -111,30 +111,14 @@ fn answer_part<R: AllocGlobal + Clock + Files + Input + Eprint>(
     }
     let mut questions = Questions::new(rt.alloc());
     let mut asked = Vec::new(rt.alloc());
-    answer_asked(rt, stages, out, options, &mut questions, &mut asked)
-}
-
-/// Reads the questions of a part and answers them.
-fn answer_asked<R: AllocGlobal + Clock + Files + Input + Eprint>(
-    rt: &R,
-    stages: Stages,
-    out: &mut Vec<u8>,
-    options: &Options,
-    questions: &mut Questions,
-    asked: &mut Vec<QuestionText>,
-) -> Result<Ending, Stop>
-    ensures failure { IfErr result IsFailedStop }
-    ensures commands { IfOk result (λ ending. can_differ_by options.now ≡ false
-        → ending ≢ Ending.Differs) }
-{
-    push_questions(rt, out, questions, asked, options)?;
+    push_questions(rt, out, &mut questions, &mut asked, options)?;
     if options.form == AnswerForm::Csv {
-        unless_one_table(rt, options, questions)?;
+        unless_one_table(rt, options, &questions)?;
     }
     if options.before.len() == 0 {
-        answer_by_one(rt, stages, out, options, questions, asked)
+        answer_by_one(rt, stages, out, options, &questions, &asked)
     } else {
-        review(rt, stages, out, options, questions, asked)
+        review(rt, stages, out, options, &questions, &asked)
     }
 }
 

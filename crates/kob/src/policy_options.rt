@@ -3,8 +3,8 @@
 ghost use Rattle.std.specs.Prelude.{◌≡◌, ◌++◌, IfOk, codes, filter, find, map, string_bytes};
 ghost use Rattle.std.specs.List.{slice_split};
 ghost use Rattle.clap.specs.Words.{app_of, found_of, rows_of, rule_of};
-ghost use Rattle.kob.specs.CommandLine.{flag, bound, is_next, options_by, parts_by, part_app, policy_app, repeated};
-ghost use Rattle.kob.specs.Options.{answer_form_in, has_meaning, is_alone, is_asked};
+ghost use Rattle.kob.specs.CommandLine.{flag, bound, is_next, options_by, parts_by, policy_app, repeated};
+ghost use Rattle.kob.specs.Options.{answer_form_in, has_meaning, is_asked};
 ghost use Rattle.kob.specs.Options.{is_log, is_question, name_in, options_in, shared, words_of};
 
 use crate::help::HELP_POLICY;
@@ -147,30 +147,16 @@ fn form_asked(parts: &[Options]) -> Option<AnswerForm>
     parts
         .iter()
         .map(|part| part.form)
-        .find(|form| is_asked(*form))
+        .find(|form| matches!(form, AnswerForm::Json | AnswerForm::Csv))
 }
 
-fn is_asked(form: AnswerForm) -> bool
-    ensures { result ≡ is_asked form }
-{
-    match form {
-        AnswerForm::Words => false,
-        AnswerForm::Json | AnswerForm::Csv => true,
-    }
-}
-
-/// The command of one part, whose first word is no program's name.
-fn part_command<'a>(alloc: Global) -> Result<Command<'a>, AllocError>
-    ensures { IfOk result (λ made. app_of made ≡ part_app) }
-{
-    command(alloc)?.no_binary_name(true).bin_name("kob policy")
-}
-
-/// The options that words give. The error is what is wrong with the words, or the page of help.
+/// The options that words give, of which the first is no program's name. The error is what is wrong
+/// with the words, or the page of help.
 fn options_of(alloc: Global, words: &[String]) -> Result<Options, Error>
     ensures { IfOk result (λ options. options ≡ options_by (map string_bytes words.now)) }
 {
-    match part_command(alloc)?.try_get_matches_from(words) {
+    let part = command(alloc)?.no_binary_name(true).bin_name("kob policy")?;
+    match part.try_get_matches_from(words) {
         Ok(matches) => Ok(options_in(alloc, &matches)?),
         Err(error) => Err(error),
     }
@@ -268,11 +254,9 @@ fn form_in(matches: &ArgMatches<'_>) -> AnswerForm
 fn is_question(word: &str) -> bool
     ensures { result ≡ is_question word.now }
 {
-    word.as_bytes().contains(&b' ') || is_alone(word)
-}
-
-fn is_alone(word: &str) -> bool
-    ensures { result ≡ is_alone word.now }
-{
-    word == "unused" || word == "shadowed" || word == "removable" || word == "summary"
+    word.as_bytes().contains(&b' ')
+        || word == "unused"
+        || word == "shadowed"
+        || word == "removable"
+        || word == "summary"
 }

@@ -109,12 +109,7 @@ fn bindings_of(stage: Stage<'_>) -> usize
 fn is_long<R: Clock>(rt: &R, begun: Instant, bindings: usize) -> bool
     ensures { 10000 ≤ bindings → result ≡ true }
 {
-    bindings >= MANY || has_waited(rt, begun)
-}
-
-fn has_waited<R: Clock>(rt: &R, begun: Instant) -> bool {
-    match Instant::now(rt) {
-        Ok(now) => now.duration_since(begun) >= Duration::from_secs(PATIENCE),
-        Err(_) => false,
-    }
+    bindings >= MANY
+        || Instant::now(rt).is_ok_and(|now| now.duration_since(begun)
+            >= Duration::from_secs(PATIENCE))
 }

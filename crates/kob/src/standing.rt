@@ -5,7 +5,7 @@ ghost use Rattle.std.specs.List.{fold};
 ghost use Rattle.kob_broker.specs.Step.{state_of};
 ghost use Rattle.kob_broker.specs.State.{open_state};
 ghost use Rattle.kob.specs.Standing.{after_event, after_step, end_of, is_other, seen};
-ghost use Rattle.kob.specs.Standing.{topics_after, topics_done};
+ghost use Rattle.kob.specs.Standing.{topics_done};
 ghost use Rattle.kob_rights.specs.declared.request.Request.TheVariants as requests;
 
 use kob_broker::{Broker, OpenFault};
@@ -62,28 +62,16 @@ fn take_steps(alloc: Global, end: &mut End, steps: &[Step]) -> Result<(), AllocE
     Ok(())
 }
 
+/// Serves a request, and notes what it did to the topics that exist.
 fn serve(alloc: Global, end: &mut End, event: &Event) -> Result<(), AllocError>
     ensures { OnOk result (seen end.new ≡ after_event (seen end.old) event.now) }
 {
     let reply = end.broker.serve(alloc, event)?;
-    note_topics(alloc, &mut end.topics, &event.request, &reply)
-}
-
-/// Notes what a request did to the topics that exist.
-fn note_topics(
-    alloc: Global,
-    topics: &mut Vec<Topic>,
-    request: &Request,
-    reply: &Reply,
-) -> Result<(), AllocError>
-    ensures { OnOk result (topics.new.items
-        ≡ topics_after request.now reply.now topics.old.items) }
-{
-    match reply {
-        Reply::Done(_) => match request {
-            Request::CreateTopics(asked) => push_topic(alloc, topics, asked),
+    match &reply {
+        Reply::Done(_) => match &event.request {
+            Request::CreateTopics(asked) => push_topic(alloc, &mut end.topics, asked),
             Request::DeleteTopics(asked) => {
-                remove_topic(topics, &asked.name);
+                remove_topic(&mut end.topics, &asked.name);
                 Ok(())
             }
             _ => Ok(()),

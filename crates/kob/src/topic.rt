@@ -39,7 +39,17 @@ fn compared<R: AllocGlobal + Files + Input + Print + Eprint>(
     ensures { IfErr result IsFailure }
 {
     let rows = rows_of(rt, rows)?;
-    print_with(rt, &rows, records)
+    let name = records;
+    let records = records_of(rt, name)?;
+    let mut out = Vec::new(rt.alloc());
+    let ending = match push_report(rt.alloc(), &mut out, &rows, &records) {
+        Ok(ending) => ending,
+        Err(refused) => return Err(tell(rt, Report::OutOfMemory(name, refused))),
+    };
+    match io::writer(rt).write_all(&out) {
+        Ok(()) => Ok(ending),
+        Err(error) => Err(report::refused(rt, "standard output", &error)),
+    }
 }
 
 fn rows_of<R: AllocGlobal + Files + Input + Eprint>(rt: &R, name: &str) -> Result<Vec<Row>, Ending>
@@ -103,26 +113,6 @@ fn fault_of(rt: &impl Eprint, name: &str, error: ReadError, form: &str) -> Endin
     match error {
         ReadError::Memory(refused) => tell(rt, Report::OutOfMemory(name, refused)),
         ReadError::Line(line) => tell_file(rt, FileReport::Unlike { name, line, form }),
-    }
-}
-
-fn print_with<R: AllocGlobal + Files + Input + Print + Eprint>(
-    rt: &R,
-    rows: &[Row],
-    records: &str,
-) -> Result<Ending, Ending>
-    ensures { IfErr result IsFailure }
-{
-    let name = records;
-    let records = records_of(rt, name)?;
-    let mut out = Vec::new(rt.alloc());
-    let ending = match push_report(rt.alloc(), &mut out, rows, &records) {
-        Ok(ending) => ending,
-        Err(refused) => return Err(tell(rt, Report::OutOfMemory(name, refused))),
-    };
-    match io::writer(rt).write_all(&out) {
-        Ok(()) => Ok(ending),
-        Err(error) => Err(report::refused(rt, "standard output", &error)),
     }
 }
 

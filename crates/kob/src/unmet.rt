@@ -2,7 +2,7 @@
 
 ghost use Rattle.std.specs.Prelude.{◌≡◌, IfOk, filter, find, length, map};
 ghost use Rattle.std.specs.Option.{option_copied};
-ghost use Rattle.kob.specs.Unmet.{has_question, is_unmet, line_among, question_line};
+ghost use Rattle.kob.specs.Unmet.{is_unmet, line_among, question_line};
 
 use crate::report::{FileReport, tell_file};
 use bstr::ByteSlice;
@@ -94,23 +94,16 @@ fn question_line(alloc: Global, text: &[u8], question: &[u8]) -> Result<u64, All
     Ok(line_among(&lines, question))
 }
 
-#[tactic(auto, using(kob_mistakes::proofs::Walking::goes_on, kob_mistakes::proofs::Walking::stops, kob_mistakes::proofs::Walking::ends))]
+#[tactic(auto, using(kob_mistakes::proofs::Walking::goes_on, kob_mistakes::proofs::Walking::stops, kob_mistakes::proofs::Walking::ends), unfolding(kob_policy_text::specs::Listing::trimmed))]
 fn line_among(lines: &[&[u8]], question: &[u8]) -> u64
     ensures { result ≡ line_among (map (λ line. line.now) lines.now) question.now }
 {
     let mut number: u64 = 1;
     for line in lines {
-        if has_question(line, question) {
+        if line.trim() == question {
             return number;
         }
         number += 1;
     }
     0
-}
-
-#[tactic(auto, unfolding(kob_policy_text::specs::Listing::trimmed))]
-fn has_question(line: &[u8], question: &[u8]) -> bool
-    ensures { result ≡ has_question question.now line.now }
-{
-    line.trim() == question
 }
