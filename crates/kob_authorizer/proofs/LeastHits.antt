@@ -2,7 +2,10 @@
 -- passes.
 use Rattle.kob_authorizer.proofs.Words.{All, All-head, All-nil, All-tail, All-weaker, AreRising, Binding, Bool, Contains, List, None, Some, [], and_from, ap, append-nil, arith, cond, eq-eqb, false, filter, filter-append, filter_passes, first_serial, fold, fold-append, le-min, least_passing, lesser, min, min-le_left, min-le_right, nat_tests, passes_at, reduce, refl, subst, true, ℕ, ◌&&◌, ◌++◌, ◌==◌, ◌∙◌, ◌∷◌, ◌≡◌, ◌≤◌, Hits, Question, append_assoc, least_hits, lesser_hits, no_hits, sym, then_some, common_steps}
 use Rattle.kob_authorizer.specs.Decide.{is_hit}
-use Rattle.kob_authorizer.specs.Index.{entry_at}
+use Rattle.kob_authorizer.specs.Index.{entry_at, matching_serials, serials_from}
+use Rattle.kob_prefix_tree.specs.Held.{Held, nothing, prefixes, serials_of}
+use Rattle.kob_prefix_tree.specs.declared.kind.PatternKind.TheVariants.{Prefixed}
+use Rattle.std.specs.List.{flat_map}
 use Rattle.kob_names.specs.declared.kinds.Permission.{Permission}
 use Rattle.kob_names.specs.declared.kinds.Permission.TheVariants.{Allow, Deny}
 use Rattle.kob_authorizer.proofs.Entries.{any_passes, kept_by_filter, passing, first_is, least_is, none_is, passes_none, passes_some}
@@ -132,3 +135,15 @@ pub ruleset one_hit = (common_steps, passes_alone, passes_none, passes_some)
 -- none passes where the last of the tests does not
 pub none_reached : (a b c d : Bool) → a && (b && (c && (d && false))) ≡ false
 none_reached a b c d = grind (arith, nat_tests)
+
+-- Where no key stands, there is no hit.
+nothing_along : (names : List (List ℕ)) → flat_map (λ (name : List ℕ). serials_of Prefixed nothing) names ≡ []
+nothing_along [] = refl
+nothing_along (name ∷ names) = nothing_along names
+
+module _ (entries : List (ℕ × Binding)) (question : Question) (held_at : List ℕ → Held) (absent : held_at ≡ (λ key. nothing)) where
+  pub no_hits_at : no_hits ≡ least_hits entries question (matching_serials held_at question.name)
+  no_hits_at = rw (absent, nothing_along (prefixes question.name)) refl
+
+  pub no_hits_from : no_hits ≡ least_hits entries question (serials_from held_at question)
+  no_hits_from = rw (absent, nothing_along (prefixes question.name)) refl

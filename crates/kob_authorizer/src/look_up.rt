@@ -79,6 +79,9 @@ fn hits_of(entries: &[(u64, Binding)], keys: Part<'_>, question: &Question) -> H
     ensures { result ≡ least_hits entries.now (question_view question.now)
         (serials_from (part_of keys.entry) (question_view question.now)) }
 {
+    if keys.is_absent() {
+        return Hits::none();
+    }
     let from_host = keys.behind(question.host.as_str().as_bytes(), SEPARATOR);
     let from_everywhere = keys.behind("*".as_bytes(), SEPARATOR);
     hits_at(entries, from_host, question).or_lesser(hits_at(entries, from_everywhere, question))
@@ -90,6 +93,9 @@ fn hits_at(entries: &[(u64, Binding)], names: Part<'_>, question: &Question) -> 
     ensures { result ≡ least_hits entries.now (question_view question.now)
         (matching_serials (part_of names.entry) question.now.name.now) }
 {
+    if names.is_absent() {
+        return Hits::none();
+    }
     names
         .walk(question.name.as_bytes())
         .chain(names.listed("*".as_bytes(), PatternKind::Literal))

@@ -1,6 +1,6 @@
 //! The part of a tree whose keys have a common prefix.
-ghost use Rattle.std.specs.Prelude.{◌≡◌, ◌∷◌, ◌++◌, List, ℕ};
-ghost use Rattle.kob_prefix_tree.specs.Held.{serials_of, serials_along};
+ghost use Rattle.std.specs.Prelude.{◌≡◌, ◌∷◌, ◌++◌, IsTrue, List, ℕ};
+ghost use Rattle.kob_prefix_tree.specs.Held.{nothing, serials_of, serials_along};
 ghost use Rattle.kob_prefix_tree.specs.Contents.{held_from, part_of, left_of};
 
 use crate::kind::PatternKind;
@@ -20,6 +20,13 @@ impl<'a> Part<'a> {
         ensures { part_of result ≡ held_from (Some place.entry) }
     {
         Part { place: Some(place) }
+    }
+
+    /// Whether the tree ends before the prefix. Then no key of the tree begins with it.
+    pub fn is_absent(&self) -> bool
+        ensures { IsTrue result → part_of self.now ≡ (λ key. nothing) }
+    {
+        self.place.is_none()
     }
 
     /// The part of the keys that begin with a text and the byte after it.

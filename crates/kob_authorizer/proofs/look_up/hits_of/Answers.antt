@@ -1,6 +1,12 @@
 use Rattle.kob_authorizer.proofs.Words.{Binding, Held, Hits, List, Question, ap, behind, codes, least_hits, lesser_hits, matching_serials, part_of, question_view, ℕ, ◌++◌, ◌∙◌, ◌∷◌, ◌≡◌}
-use Rattle.kob_authorizer.proofs.LeastHits.{hits_of_two}
+use Rattle.kob_authorizer.proofs.LeastHits.{hits_of_two, no_hits_from}
 use Rattle.kob_authorizer.proofs.look_up.hits_of.Goals as goal
+
+pub returns-then-is_absent : goal.returns-then-is_absent
+returns-then-is_absent c =
+    c.none.ensures
+    ∙ no_hits_from c.args.entries.now (question_view c.args.question.now) (part_of c.args.keys)
+    (c.is_absent.ensures c.if-is_absent.true)
 
 pub returns : goal.returns
 returns c =
