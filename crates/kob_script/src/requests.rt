@@ -15,6 +15,7 @@ use kob_rights::Event;
 use std::alloc::{AllocError, Global};
 use std::collections::VecDeque;
 use std::marker::Model;
+use std::mem::ManuallyDrop;
 
 /// The requests of a script that are left, in order. Contracts see their events. A request is kept
 /// as its line until it is returned, with `clap`'s answer to an `acl` line, since another call may
@@ -82,8 +83,8 @@ impl Requests {
         ensures same { OnErr result (self.new ≡ self.old) }
     {
         loop {
-            if let Some(event) = self.asked.pop_front() {
-                *next = Some(event);
+            if !self.asked.is_empty() {
+                Requests::take_asked(next, &mut self.asked);
                 break;
             }
             if Requests::read_on(
@@ -98,6 +99,16 @@ impl Requests {
         }
         self.left -= 1;
         Ok(())
+    }
+
+    // Takes the first event that an `acl` line asked for. A frame of its own, since an event takes
+    // much room.
+    #[inline(never)]
+    fn take_asked(next: &mut Option<Event>, asked: &mut VecDeque<Event>)
+        requires { 0 < length asked.old.items }
+        ensures { MatchOption next.new ⊥ (λ event. asked.old.items ≡ event ∷ asked.new.items) }
+    {
+        *next = asked.pop_front();
     }
 
     // Reads a line and the event that it asks for, or moves to the next block.
@@ -124,12 +135,12 @@ impl Requests {
             blocks.enter_next();
             return Ok(false);
         };
-        let mut few = [
+        // The words that are put here own nothing, so that they are not dropped.
+        let mut few = ManuallyDrop::new([
             NO_WORD, NO_WORD, NO_WORD, NO_WORD, NO_WORD, NO_WORD, NO_WORD, NO_WORD, NO_WORD,
             NO_WORD,
-        ];
-        let read = Requests::read_again(alloc, next, &mut few, line, answers, asked)?;
-        drop(few);
+        ]);
+        let read = Requests::read_again(alloc, next, &mut *few, line, answers, asked)?;
         blocks.pass(size);
         Ok(read)
     }

@@ -2,12 +2,12 @@
 use Rattle.kob_script.proofs.Imports.{IsOk, length, lines_ask, requests_left, steps_left, ◌≡◌}
 use Rattle.kob_script.proofs.requests.Requests.next_event.Given as goal
 
-abbrev pub invariant-loop-event : goal.invariant-loop-event
-invariant-loop-event l = record {
+abbrev pub invariant-loop-alloc : goal.invariant-loop-alloc
+invariant-loop-alloc l = record {
   checked : IsOk (lines_ask l.self-inside.blocks l.self-inside.answers.items);
   count : l.self-inside.left ≡ length (requests_left l.self-inside);
   same : requests_left l.self-inside ≡ l.fn.self;
 }
 
-abbrev pub decreases-loop-event : goal.decreases-loop-event
-decreases-loop-event l = steps_left l.self-inside.blocks
+abbrev pub decreases-loop-alloc : goal.decreases-loop-alloc
+decreases-loop-alloc l = steps_left l.self-inside.blocks
