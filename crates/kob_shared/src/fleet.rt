@@ -106,27 +106,6 @@ fn serve_first(
     Ok(told)
 }
 
-/// Serves the first events, as worker 0, into an empty journal, and notes them.
-fn serve_and_note(
-    alloc: Global,
-    recorded: &mut Recorded,
-    first: Vec<Event>,
-) -> Result<Notes, FleetStop>
-    requires { recorded.old.journal ≡ [] }
-    ensures told { IfOk result (λ noted. (noted.events ≡ first.items) × Follows 0 noted.told) }
-    ensures served { IfOk result
-        (λ noted. recorded.new.journal ≡ entries_told 0 noted.events noted.told) }
-    ensures limit { recorded.new.limit ≡ recorded.old.limit }
-    ensures opening { recorded.new.opening ≡ recorded.old.opening }
-    ensures named { IfErr result (IsNamedWithin 0) }
-    ensures full { IfErr result (IsFullOnlyPast recorded.old.limit (vec_len first)) }
-{
-    match serve_first(alloc, recorded, first.as_slice()) {
-        Ok(told) => Ok(Notes::new(first, told)),
-        Err(stop) => Err(stop),
-    }
-}
-
 /// Opens the journal, and serves the first events.
 fn begin(alloc: Global, broker: Broker, first: Vec<Event>) -> Result<(Recorded, Notes), FleetStop>
     requires { IsFresh broker }
@@ -138,8 +117,8 @@ fn begin(alloc: Global, broker: Broker, first: Vec<Event>) -> Result<(Recorded, 
     ensures full { IfErr result (IsFullOnlyPast entry_limit (vec_len first)) }
 {
     let mut recorded = Recorded::open(alloc, broker, ENTRY_LIMIT).map_err(AllocError::from)?;
-    let noted = serve_and_note(alloc, &mut recorded, first)?;
-    Ok((recorded, noted))
+    let told = serve_first(alloc, &mut recorded, first.as_slice())?;
+    Ok((recorded, Notes::new(first, told)))
 }
 
 /// The fault of the fleet for a worker's fault.
@@ -235,38 +214,13 @@ where
     ensures named { IfErr result (NamesOneOf (length works.now)) }
 {
     let shared = SharedBroker::open(recorded);
-    let done = run_and_gather(rt, alloc, &shared, works, room, gate)?;
+    let results = run_workers(rt, alloc, &shared, works, gate)?;
+    let done = gather(room, results)?;
     Ok(Ran {
         found: shared.finish(),
         first: noted,
         done,
     })
-}
-
-/// Runs the workers, and puts what they left into `room`. A worker that a fault names is one of
-/// them, from 1 on.
-fn run_and_gather<R: Threads + Wait + Sync, G: Gate + Sync, W: Work + Sync>(
-    rt: &R,
-    alloc: Global,
-    shared: &W::Shared,
-    works: &[W],
-    room: Vec<Done<W::End>>,
-    gate: &G,
-) -> Result<Vec<Done<W::End>>, FleetStop>
-where
-    W::Shared: Sync,
-    W::End: Send + Drop,
-    requires few { length works.now ≤ worker_limit }
-    requires empty { room.items ≡ [] }
-    requires room { length works.now ≤ vec_capacity room }
-    ensures each { IfOk result
-        (λ done. EachKeeps W.keeps works.now done.items) }
-    ensures named { IfErr result (NamesOneOf (length works.now)) }
-{
-    match run_workers(rt, alloc, shared, works, gate) {
-        Ok(results) => gather(room, results),
-        Err(stop) => Err(stop),
-    }
 }
 
 /// The first place where the journal differs from the workers' notes; place 0 of worker 0 also if

@@ -1,6 +1,6 @@
 //! Fleets of scripts.
 
-ghost use Rattle.std.specs.Prelude.{◌≡◌, ◌≤◌, ◌<◌, ◌↔◌, length, vec_len, IfOk, IfErr, IsTrue};
+ghost use Rattle.std.specs.Prelude.{◌≡◌, ◌≤◌, ◌<◌, ◌↔◌, vec_len, IfOk, IfErr, IsTrue};
 ghost use Rattle.std.specs.Prelude.{IsErrOf};
 ghost use Rattle.std.specs.List.{AllZip};
 ghost use Rattle.kob_broker.specs.Step.{state_of};
@@ -145,7 +145,8 @@ pub fn run_scripts<R: Threads + Wait + Sync, G: Gate + Sync>(
     run_fitting(rt, alloc, broker, first, scripts, gate)
 }
 
-/// Runs scripts whose counts fit. A copy of the broker's settings is kept first.
+/// Runs scripts whose counts fit, and compares the journal with the workers' receipts. A copy of the
+/// broker's settings is kept first.
 fn run_fitting<R: Threads + Wait + Sync, G: Gate + Sync>(
     rt: &R,
     alloc: Global,
@@ -168,30 +169,6 @@ fn run_fitting<R: Threads + Wait + Sync, G: Gate + Sync>(
         Ok(opening) => opening,
         Err(refused) => return Err(FleetFault::Stopped(FleetStop::Memory(refused))),
     };
-    run_from(rt, alloc, &opening, broker, first, scripts.as_slice(), gate)
-}
-
-/// Runs scripts over a broker that was opened with these settings, and compares the journal with
-/// the workers' receipts.
-fn run_from<R: Threads + Wait + Sync, G: Gate + Sync>(
-    rt: &R,
-    alloc: Global,
-    opening: &Settings,
-    broker: Broker,
-    first: Vec<Event>,
-    scripts: &[Script],
-    gate: &G,
-) -> Result<FleetEnd, FleetFault>
-    requires fresh { IsFresh broker }
-    requires few { length scripts.now ≤ worker_limit }
-    requires fits { entries_asked first.items scripts.now ≤ entry_limit }
-    ensures ok { IfOk result (λ end. IsFleet (opened_by opening.now) first.items scripts.now
-        end.journal (state_of end.broker) end.transcripts.items) }
-    ensures torn { IfErr result
-        (IsTornOnlyWhere opening.now (asked_of_all first.items scripts.now)) }
-    ensures later { IfErr result IsLater }
-    ensures named { IfErr result (NamesWorkerWithin (length scripts.now)) }
-{
-    let ran = run_fleet(rt, alloc, broker, first, scripts, gate)?;
-    end_of(alloc, opening, ran, scripts)
+    let ran = run_fleet(rt, alloc, broker, first, scripts.as_slice(), gate)?;
+    end_of(alloc, &opening, ran, scripts.as_slice())
 }
