@@ -1,7 +1,7 @@
 -- Plans: which may be run, how much they ask for, and the rows that their services record.
 use Rattle.std.specs.Prelude.{◌≤◌, length, ℕ, ◌+◌, ◌*◌, vec_len, suc, ◌^◌, List, [], ◌∷◌, ◌++◌, Bool, not, ◌&&◌, if◌then◌else◌, is_none, nat_lt}
 use Rattle.std.specs.List.{All, sum_by}
-use Rattle.kob_pipeline.specs.Types.{Plan, id_text, stored_event, Service, ServiceStep, Record}
+use Rattle.kob_pipeline.specs.Types.{Plan, id_text, stored_event, Service, ServiceStep}
 use Rattle.kob_outbox.specs.Contents.{Event, first_bad, is_recorded}
 use Rattle.kob_outbox.specs.declared.change.Change.{Change}
 use Rattle.kob_outbox.specs.declared.event.OutboxEvent.{OutboxEvent}

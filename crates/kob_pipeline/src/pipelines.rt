@@ -10,7 +10,7 @@ ghost use Rattle.kob_shared.specs.Journals.{IsSound, entry_limit, worker_limit, 
 ghost use Rattle.kob_pipeline.specs.Plans.{entries_planned, workers_planned, IsRunnable};
 ghost use Rattle.kob_pipeline.specs.Pipelines.{IsLater, IsTornOnlyWhere, NamesWorkerWithin, IsEnd};
 ghost use Rattle.kob_pipeline.specs.Pipelines.{IsPipeline};
-ghost use Rattle.kob_pipeline.specs.Steps.{IsKeptByStore, IsLeft, IsWhole, planned_as};
+ghost use Rattle.kob_pipeline.specs.Steps.{IsLeft, IsWhole, planned_as};
 
 use crate::end::{PipelineEnd, WorkerEnd};
 use crate::fault::PipelineFault;
@@ -55,23 +55,6 @@ pub fn pipeline<R: Threads + Wait + Sync, G: Gate + Sync>(
     if !has_room(plan) {
         return Err(PipelineFault::JournalFull);
     }
-    run_plan(rt, alloc, plan, gate)
-}
-
-fn run_plan<R: Threads + Wait + Sync, G: Gate + Sync>(
-    rt: &R,
-    alloc: Global,
-    plan: &Plan,
-    gate: &G,
-) -> Result<PipelineEnd, PipelineFault>
-    requires runnable { IsRunnable plan.now }
-    requires workers { workers_planned plan.now ≤ worker_limit }
-    requires fits { entries_planned plan.now ≤ entry_limit }
-    ensures ok { IfOk result (IsPipeline plan.now) }
-    ensures torn { IfErr result (IsTornOnlyWhere (settings_of (opened_by plan.now.settings))) }
-    ensures later { IfErr result IsLater }
-    ensures named { IfErr result (NamesWorkerWithin (workers_planned plan.now)) }
-{
     let workers = workers_of(alloc, plan)?;
     let (broker, opening, first) = opened(alloc, plan)?;
     let ran = run_fleet(rt, alloc, broker, first, &workers, gate)?;
@@ -87,21 +70,13 @@ fn opened(alloc: Global, plan: &Plan) -> Result<(Broker, Settings, Vec<Event>), 
     ensures first { IfOk result (λ o. o.2.items ≡ plan.now.first) }
 {
     let first = plan.first.copy(alloc)?;
-    let broker = broker_of(alloc, &plan.settings)?;
+    let broker = match Broker::open(alloc, plan.settings.copy(alloc)?) {
+        Ok(broker) => broker,
+        Err(OpenFault::Memory(refused)) => return Err(refused),
+        Err(OpenFault::TooMany) => unreachable!(),
+    };
     let opening = broker.opening(alloc)?;
     Ok((broker, opening, first.into_vec()))
-}
-
-/// A broker with these settings. The error is out of memory.
-fn broker_of(alloc: Global, settings: &Settings) -> Result<Broker, AllocError>
-    requires { length settings.now.opening ≤ 100000 }
-    ensures { IfOk result (λ broker. state_of broker ≡ opened_by settings.now) }
-{
-    match Broker::open(alloc, settings.copy(alloc)?) {
-        Ok(broker) => Ok(broker),
-        Err(OpenFault::Memory(refused)) => Err(refused),
-        Err(OpenFault::TooMany) => unreachable!(),
-    }
 }
 
 /// Compares the journal with the workers' notes, and returns what they left. The error is `Store` if
@@ -136,20 +111,11 @@ fn are_whole(done: &[Done<WorkerEnd>]) -> bool
 {
     for one in done {
         let _answered = one.notes.receipts();
-        if !is_kept_by_store(&one.end) {
+        if let WorkerEnd::StoreRefused = one.end {
             return false;
         }
     }
     true
-}
-
-fn is_kept_by_store(end: &WorkerEnd) -> bool
-    ensures { IsTrue result ↔ IsKeptByStore end.now }
-{
-    match end {
-        WorkerEnd::StoreRefused => false,
-        _ => true,
-    }
 }
 
 /// The result of a pipeline whose journal is what the workers noted. Does not allocate.

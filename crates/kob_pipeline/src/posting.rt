@@ -2,8 +2,7 @@
 
 ghost use Rattle.std.specs.Prelude.{◌≡◌, ◌≤◌, ◌⊎◌, ◌^◌, ◌++◌, [], map, IfErr, IfOk, IsErrOf};
 ghost use Rattle.std.specs.Prelude.{alloc_error, None};
-ghost use Rattle.std.specs.Prelude.{◌-◌, OnErr, OnOk, false, length, option_map, slice_get};
-ghost use Rattle.std.specs.Prelude.{unwrap_or};
+ghost use Rattle.std.specs.Prelude.{OnErr, OnOk, false};
 ghost use Rattle.kob_connections.specs.Relayed.{relayed_state};
 ghost use Rattle.kob_outbox.specs.Contents.{id_text, stored_row, first_bad, later_than};
 ghost use Rattle.kob_outbox.specs.Contents.{is_recorded, next_seq};
@@ -206,17 +205,6 @@ fn page_after(outbox: &mut Outbox, rows: &[Row]) -> Result<Vec<Row>, StepFault>
         → map stored_row rows.now ≡ later_than 0 outbox.old.events) }
     ensures same { outbox.new ≡ outbox.old }
 {
-    let last = last_number(rows);
+    let last = rows.last().map(|row| row.seq).unwrap_or(0);
     Ok(outbox.after(last, PAGE)?)
-}
-
-/// The number of the last row, or 0.
-fn last_number(rows: &[Row]) -> u64
-    ensures { result
-        ≡ unwrap_or (option_map (λ row. row.seq) (slice_get rows.now (length rows.now - 1))) 0 }
-{
-    match rows.last() {
-        Some(row) => row.seq,
-        None => 0,
-    }
 }

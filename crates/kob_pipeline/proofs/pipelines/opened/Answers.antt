@@ -1,6 +1,6 @@
 use Rattle.kob_pipeline.proofs.Words.{Err, ap, length, subst, sym, ◌≤◌}
 use Rattle.kob_pipeline.proofs.Ended.{few_open}
-use Rattle.kob_pipeline.proofs.pipelines.broker_of.Goals as goal
+use Rattle.kob_pipeline.proofs.pipelines.opened.Goals as goal
 
 pub unreachable-requires : goal.unreachable-requires
 unreachable-requires c =

@@ -3,7 +3,7 @@ use Rattle.std.specs.List.{AllZip}
 use Rattle.kob_shared.proofs.Fleets.{unnumbered}
 use Rattle.kob_pipeline.specs.Steps.{IsLeft}
 use Rattle.kob_pipeline.proofs.Ended.{as_planned, workers_counted, named_fleet}
-use Rattle.kob_pipeline.proofs.pipelines.run_plan.Goals as goal
+use Rattle.kob_pipeline.proofs.pipelines.pipeline.Goals as goal
 
 pub returns-in_err-ran-clause-named : goal.returns-in_err-ran-clause-named
 returns-in_err-ran-clause-named g c =
@@ -12,7 +12,7 @@ returns-in_err-ran-clause-named g c =
     let count = workers_counted plan c.in_ok-workers.workers.items c.in_ok-workers.ensures in
     let same = ap length c.deref.ensures.value in
     let first = ap length c.in_ok-broker.ensures.first in
-    let fits : length plan.first ≤ entry_limit = omega (arith, c.requires.fits) in
+    let fits : length plan.first ≤ entry_limit = omega (arith, c.has_room.ensures.0 c.if-not-has_room.false) in
     rw (given.1, given.2) (named_fleet (length c.deref.result.now) (workers_planned plan) entry_limit
     (vec_len c.in_ok-broker.first) _ (omega (arith, count, same)) c.in_err-ran.ensures.named
     c.in_err-ran.ensures.full (omega (arith, first, fits, c.in_ok-broker.first.ok.0)))
