@@ -1,11 +1,11 @@
 //! Why an event is lost to a consumer.
 
-ghost use Rattle.std.specs.Prelude.{◌≡◌, ◌==◌, ◌<◌, ◌++◌, IfOk, OnOk, Some, length, map, slice_get};
+ghost use Rattle.std.specs.Prelude.{◌≡◌, ◌==◌, ◌<◌, IfOk, Some, length, map, slice_get};
 ghost use Rattle.kob_delivery_check.specs.Logs.{is_on};
 ghost use Rattle.std.specs.List.{find, position};
 ghost use Rattle.std.specs.Option.{option_copied};
 ghost use Rattle.kob_delivery_check.specs.Causes.{assigned_to, cause_beside, cause_in};
-ghost use Rattle.kob_delivery_check.specs.Causes.{cause_of, loss_at, losses_by, row_with};
+ghost use Rattle.kob_delivery_check.specs.Causes.{cause_of, losses_by, row_with};
 ghost use Rattle.kob_delivery_check.specs.Logs.{number_of};
 
 use crate::fate::Fate;
@@ -69,46 +69,20 @@ pub fn losses_of(
 {
     let mut losses = Vec::new(alloc);
     for place in 0..fates.len() {
-        push_loss(
-            alloc,
-            &mut losses,
-            reader,
-            rows,
-            journal,
-            events,
-            place,
-            fates[place],
-        )?;
+        if !fates[place].is_lost() {
+            continue;
+        }
+        let Some(event) = event_at(events, place) else {
+            continue;
+        };
+        let id = event.id.as_u128();
+        let cause = cause_beside(alloc, reader, journal, id, row_with(id, rows))?;
+        losses.push(LostEvent {
+            event: place,
+            cause,
+        })?;
     }
     Ok(losses)
-}
-
-fn push_loss(
-    alloc: Global,
-    losses: &mut Vec<LostEvent>,
-    reader: &Subscription,
-    rows: &[InboxRow],
-    journal: &Journal,
-    events: &[&OutboxEvent],
-    place: usize,
-    fate: Fate,
-) -> Result<(), AllocError>
-    ensures { OnOk result (losses.new.items ≡ losses.old.items
-        ++ loss_at reader.now rows.now journal.now (map (λ event. event.now) events.now) (place, fate)) }
-{
-    if !fate.is_lost() {
-        return Ok(());
-    }
-    let Some(event) = event_at(events, place) else {
-        return Ok(());
-    };
-    let id = event.id.as_u128();
-    let cause = cause_beside(alloc, reader, journal, id, row_with(id, rows))?;
-    losses.push(LostEvent {
-        event: place,
-        cause,
-    })?;
-    Ok(())
 }
 
 /// The event at a place.
