@@ -4,7 +4,7 @@ ghost use Rattle.std.specs.Prelude.{◌≡◌, ◌++◌, ℕ, IfOk, OnOk, filter
 ghost use Rattle.std.specs.HashSet.{contains};
 ghost use Rattle.std.specs.List.{list_any};
 ghost use Rattle.kob_authorizer.specs.Decide as authorizer;
-ghost use Rattle.kob_policy_text.specs.LogAnswers.{accesses_text, asked_in, differs};
+ghost use Rattle.kob_policy_text.specs.LogAnswers.{asked_in, differs};
 ghost use Rattle.kob_policy_text.specs.LogAnswers.{idle_in, idle_line, is_decider};
 ghost use Rattle.kob_policy_text.specs.LogAnswers.{is_otherwise, log_text, otherwise_line};
 ghost use Rattle.kob_policy_text.specs.LogAnswers.{otherwise_text, place_text, skipped_lines, verdict_on, was_text};
@@ -198,20 +198,6 @@ fn push_unjudged(out: &mut Vec<u8>, others: usize, skipped: usize) -> Result<(),
     push_count(out, "skipped-lines", skipped)
 }
 
-fn push_accesses(
-    alloc: Global,
-    out: &mut Vec<u8>,
-    judge: &Judge,
-    log: &Log,
-) -> Result<(), AllocError>
-    ensures { OnOk result (out.new.items ≡ out.old.items ++ accesses_text judge.now log.now) }
-{
-    push_judged(out, judge, &log.accesses)?;
-    push_unjudged(out, log.others.len(), skipped_lines(log))?;
-    push_otherwise(out, judge, &log.accesses)?;
-    push_idle_in(alloc, out, judge, &log.accesses)
-}
-
 /// Whether the rules decide some access otherwise than the broker did.
 pub fn any_otherwise(judge: &Judge, accesses: &[Entry]) -> bool
     ensures { result ≡ list_any (is_otherwise judge.now) accesses.now }
@@ -233,6 +219,9 @@ pub fn print_log(
     ensures differs { IfOk result (λ found. found ≡ differs judge.now text.now) }
 {
     let log = read_log(alloc, text)?;
-    push_accesses(alloc, out, judge, &log)?;
+    push_judged(out, judge, &log.accesses)?;
+    push_unjudged(out, log.others.len(), skipped_lines(&log))?;
+    push_otherwise(out, judge, &log.accesses)?;
+    push_idle_in(alloc, out, judge, &log.accesses)?;
     Ok(any_otherwise(judge, &log.accesses))
 }
