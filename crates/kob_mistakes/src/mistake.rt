@@ -5,17 +5,17 @@ ghost use Rattle.kob_scene_text.specs.Misuses.{misuse_at};
 ghost use Rattle.kob_script.specs.Script.{line_words};
 ghost use Rattle.kob_script.specs.Words.{raw_words, words_of};
 ghost use Rattle.kob_mistakes.specs.Places.{count_of, is_half};
-ghost use Rattle.kob_mistakes.specs.Places.{place_by, place_named, place_of};
+ghost use Rattle.kob_mistakes.specs.Places.{place_by, place_of};
 ghost use Rattle.kob_scene_text.specs.Places.{same_kind};
-ghost use Rattle.kob_mistakes.specs.Forms.{form_by};
 ghost use Rattle.kob_mistakes.specs.Lines.{line_of, line_where, lines_before};
-ghost use Rattle.kob_mistakes.specs.Mistakes.{form_at, hint_at, hint_named, nearest_on, place_at};
+ghost use Rattle.kob_mistakes.specs.Mistakes.{form_at, hint_at, nearest_on, place_at};
 ghost use Rattle.kob_mistakes.specs.Names.{name_on, nearest_at, text_of};
 ghost use Rattle.kob_mistakes.specs.Names.{worker_names};
+ghost use Rattle.kob_mistakes.specs.Forms.{form_by};
 
 use crate::forms::{LAW_FORM, form_of, keyword_form};
 use crate::hint::hint_on;
-use crate::left_out::{LeftOut, left_out};
+use crate::left_out::left_out;
 use crate::names::push_names;
 use crate::place::word_place;
 use crate::record::{before_ending, hint_on_record, word_is};
@@ -70,50 +70,25 @@ pub fn mistake_in<'a>(
     let words = raw_words(alloc, line)?;
     let fault_at = place_of(alloc, before, line, &words, fault.kind)?;
     let left_out = left_out(line, &words, fault_at);
-    let place = place_named(&words, left_out, fault_at);
+    let place = match left_out {
+        Some(left_out) => left_out.place(fault_at),
+        None => before_ending(&words, fault_at),
+    };
     let stepping = stepping_at(alloc, before, &words, place)?;
     let nearest = nearest_at(alloc, &lines, &words, place, fault.kind, stepping)?;
     let misuse = misuse_in(alloc, before, line, place, fault.kind)?;
+    let hint = match left_out {
+        Some(left_out) => Some(left_out.hint()),
+        None => hint_on_record(&words, place).or(hint_on(text, line, words.len())),
+    };
     Ok(Mistake {
         form: form_by(fault.kind, &words, stepping),
-        hint: hint_named(left_out, text, line, &words, place).or(rule_at(
-            fault.kind, &words, place,
-        )),
+        hint: hint.or(rule_at(fault.kind, &words, place)),
         misuse,
         words,
         place,
         nearest,
     })
-}
-
-/// The place that is named: of a word that stands where another is left out, if one is.
-fn place_named(words: &[&[u8]], left_out: Option<LeftOut>, place: usize) -> usize
-    ensures { result ≡ place_named (map (λ word. word.now) words.now) left_out place }
-{
-    match left_out {
-        Some(left_out) => left_out.place(place),
-        None => before_ending(words, place),
-    }
-}
-
-#[tactic(auto, using(crate::proofs::Walking::lent_length))]
-fn hint_named(
-    left_out: Option<LeftOut>,
-    text: &[u8],
-    line: &[u8],
-    words: &[&[u8]],
-    place: usize,
-) -> Option<&'static str>
-    ensures { option_map (λ hint. hint.now) result
-        ≡ hint_named left_out text.now line.now (map (λ word. word.now) words.now) place }
-{
-    match left_out {
-        Some(left_out) => Some(left_out.hint()),
-        None => match hint_on_record(words, place) {
-            Some(hint) => Some(hint),
-            None => hint_on(text, line, words.len()),
-        },
-    }
 }
 
 /// What the word at a place is, if its line means it otherwise.
