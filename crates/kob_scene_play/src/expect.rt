@@ -10,8 +10,8 @@ ghost use Rattle.kob_scene_play.specs.Checks.{unrecorded_by};
 ghost use Rattle.kob_delivery_check.specs.Logs.{number_of};
 ghost use Rattle.kob_router.specs.Line.{one_more};
 ghost use Rattle.kob_scene_play.specs.Checks.{AreEarly, AreFates};
-ghost use Rattle.kob_scene_play.specs.Expectations.{IsExpected, IsMet, are_delivered};
-ghost use Rattle.kob_scene_play.specs.Expectations.{expected_text, is_among, is_lost_at};
+ghost use Rattle.kob_scene_play.specs.Expectations.{IsExpected, IsMet};
+ghost use Rattle.kob_scene_play.specs.Expectations.{expected_text, is_lost_at};
 ghost use Rattle.kob_scene_play.specs.Expectations.{is_lost_event};
 ghost use Rattle.kob_scene_play.specs.Steps.{Tells};
 ghost use Rattle.kob_scene_play.specs.Stops.{StopsQuestion};
@@ -85,12 +85,13 @@ fn is_met(
         Expected::Delivered => {
             let fates = fates_at(alloc, journal, sender, taker)?;
             let unrecorded = unrecorded_by(alloc, sender)?;
-            Ok(are_delivered(&fates, &unrecorded))
+            Ok(all_delivered(&fates) && unrecorded.is_empty())
         }
         Expected::Lost(id) => {
             let fates = fates_at(alloc, journal, sender, taker)?;
             let unrecorded = unrecorded_by(alloc, sender)?;
-            Ok(is_lost_event(id, sender.recorded(), &fates) || is_among(id, &unrecorded))
+            let is_lost = is_lost_event(id, sender.recorded(), &fates);
+            Ok(is_lost || place_of(id.as_u128(), &unrecorded).is_some())
         }
         Expected::Order => {
             let early = early_at(alloc, sender, taker)?;
@@ -99,24 +100,10 @@ fn is_met(
     }
 }
 
-/// Whether each event that was recorded is delivered, and none was not recorded.
-fn are_delivered(fates: &[Fate], unrecorded: &[&OutboxEvent]) -> bool
-    ensures { result ≡ are_delivered fates.now (map (λ event. event.now) unrecorded.now) }
-{
-    all_delivered(fates) && unrecorded.is_empty()
-}
-
 fn all_delivered(fates: &[Fate]) -> bool
     ensures { result ≡ list_all is_delivered fates.now }
 {
     fates.iter().all(|fate| fate.is_delivered())
-}
-
-/// Whether one of these events has this id.
-fn is_among(id: Uuid, events: &[&OutboxEvent]) -> bool
-    ensures { result ≡ is_among id (map (λ event. event.now) events.now) }
-{
-    place_of(id.as_u128(), events).is_some()
 }
 
 /// Whether the event with this id is lost.

@@ -7,7 +7,7 @@ ghost use Rattle.std.specs.Option.{option_copied};
 ghost use Rattle.kob_scene_play.specs.Laws.{IsAnswered, IsCoverage, IsLaw};
 ghost use Rattle.kob_scene_play.specs.Laws.{altered_text, breach_text};
 ghost use Rattle.kob_scene_play.specs.Laws.{broken_text};
-ghost use Rattle.kob_scene_play.specs.Laws.{coverage_text, first_at, law_text, misplaced_text};
+ghost use Rattle.kob_scene_play.specs.Laws.{coverage_text, law_text, misplaced_text};
 ghost use Rattle.kob_scene_play.specs.Laws.{name_text, order_text, premise_text, taken_text};
 ghost use Rattle.kob_scene_play.specs.Laws.{topic_text, unread_text};
 ghost use Rattle.kob_scene_play.specs.Steps.{Tells};
@@ -19,7 +19,7 @@ use crate::output::{Output, push_counted};
 use crate::service_worker::ServiceWorker;
 use crate::stage::Stage;
 use kob_delivery::{Breach, Premise, first_breach};
-use kob_delivery_check::{Early, altered_row, count_taken, early_rows, unread_of};
+use kob_delivery_check::{altered_row, count_taken, early_rows, unread_of};
 use kob_names::Text;
 use kob_router::Place;
 use kob_shared::Journal;
@@ -136,7 +136,7 @@ fn coverage_of(
 {
     let rows = taker.rows(alloc)?;
     let early = early_rows(alloc, sender.recorded(), &rows)?;
-    let misplaced = first_at(&early);
+    let misplaced = early.first().map(|first| first.at);
     let taken = count_taken(alloc, sender.recorded(), &rows)?;
     let altered = altered_row(alloc, sender.recorded(), &rows)?;
     let assignment = taker.subscription().assignment.as_slice();
@@ -148,16 +148,6 @@ fn coverage_of(
         altered,
         unread,
     })
-}
-
-/// Where the first of the events came that are out of order.
-fn first_at(early: &[Early]) -> Option<u64>
-    ensures { result ≡ first_at early.now }
-{
-    match early {
-        [] => None,
-        [first, ..] => Some(first.at),
-    }
 }
 
 fn push_breach(
