@@ -177,16 +177,12 @@ fn send_two<R: Wait, L: Line>(
 /// Ticks until an event is acknowledged.
 fn send_one<R: Wait, L: Line>(rt: &R, alloc: Global, service: &SharedService<L>) -> Worked<()> {
     for _ in 0..u32::MAX {
-        if is_acknowledged(service.tick(rt, alloc)) {
+        if matches!(service.tick(rt, alloc), Tick::Moved(_)) {
             return Ok(());
         }
         thread::yield_now();
     }
     Err(ProgramFault::Stopped)
-}
-
-fn is_acknowledged(tick: Tick) -> bool {
-    matches!(&tick, Tick::Moved(_))
 }
 
 /// A service with an empty outbox, whose events go to topics of one partition by the default route.

@@ -67,17 +67,10 @@ pub(crate) fn print<W: Write>(out: &mut W, delivered: &Delivered) -> Worked<()> 
 fn print_order<W: Write>(out: &mut W, order: &str, rows: &[InboxRow]) -> Worked<()> {
     write!(out, "{order}:")?;
     for row in rows {
-        if is_of(order, row) {
+        if matches!(&row.key, Some(key) if key.as_slice() == order.as_bytes()) {
             let state = std::str::from_utf8(row.value.as_slice()).unwrap_or("?");
             write!(out, " {state}")?;
         }
     }
     Ok(writeln!(out)?)
-}
-
-fn is_of(order: &str, row: &InboxRow) -> bool {
-    match &row.key {
-        Some(key) => key.as_slice() == order.as_bytes(),
-        None => false,
-    }
 }
